@@ -1,0 +1,4 @@
+pub mod Determined
+pub mod Range
+pub mod Size
+pub mod Places

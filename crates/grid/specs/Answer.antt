@@ -1,0 +1,19 @@
+-- What a caller is told (document 01, "Numbers a caller gets back"). Definitions only.
+use Prim.Native.Nat.{ℕ, zero, suc}
+use mathlib.Core.Bool.{Bool, true, false}
+use mathlib.Core.List.{List}
+
+-- a number of the table, and the values that stand beside it
+pub record Answer : Type 0 where
+  pub number : ℕ
+  pub values : List ℕ
+
+-- the number n where the test holds, else what comes after it: "The lowest number that applies is given"
+unfoldable pub refuse : Bool → ℕ → ℕ → ℕ
+refuse true n rest = n
+refuse false n rest = rest
+
+-- what is left behind where a call is done, and where it is refused
+unfoldable pub whenDone : {A : Type 0} → ℕ → A → A → A
+whenDone zero done kept = done
+whenDone (suc n) done kept = kept

@@ -1,0 +1,4 @@
+pub mod Answer
+pub mod Range
+pub mod Size
+pub mod Grid

@@ -1,0 +1,169 @@
+// Grids: three sizes, each chosen by cases, the bins of a component and the places of bins.
+ghost use mathlib.Core.Path.{_≡_};
+ghost use Prim.Native.Nat.{_+_, _*_, _≤_, _<_};
+ghost use lib.ListN.{length, getD};
+ghost use Rattle.grid.specs.Range.{listFrom};
+ghost use Rattle.grid.specs.Size.{shiftOf, binOf, spanOf, InSize};
+ghost use Rattle.grid.specs.Grid.{gridOf, binsOf, placeOf, colourAt, stepsOf, Accepted, Inside, Steps};
+
+// What a size is answered with.
+pub enum Shift {
+    By(u8),
+    Refused,
+}
+
+// The shift of a size.
+pub fn shift_of(size: usize) -> Shift
+    ensures { λ r. ⌜ r ≡ shiftOf size ⌝ }
+{
+    match size {
+        2 => Shift::By(7),
+        4 => Shift::By(6),
+        8 => Shift::By(5),
+        16 => Shift::By(4),
+        32 => Shift::By(3),
+        64 => Shift::By(2),
+        128 => Shift::By(1),
+        _ => Shift::Refused,
+    }
+}
+
+// Three sizes with their shifts (`BinnerU8x3`).
+pub struct Grid {
+    pub s1: u8,
+    pub s2: u8,
+    pub s3: u8,
+    pub b1: usize,
+    pub b2: usize,
+    pub b3: usize,
+}
+
+// What three sizes are answered with.
+pub enum Chosen {
+    Of(Grid),
+    Refused,
+}
+
+// The grid of three sizes.
+pub fn grid_of(b1: usize, b2: usize, b3: usize) -> Chosen
+    ensures { λ r. ⌜ r ≡ gridOf b1 b2 b3 ⌝ }
+{
+    let Shift::By(s1) = shift_of(b1) else {
+        return Chosen::Refused;
+    };
+    let Shift::By(s2) = shift_of(b2) else {
+        return Chosen::Refused;
+    };
+    let Shift::By(s3) = shift_of(b3) else {
+        return Chosen::Refused;
+    };
+    Chosen::Of(
+        Grid {
+            s1,
+            s2,
+            s3,
+            b1,
+            b2,
+            b3,
+        },
+    )
+}
+
+// The bin of a component.
+pub fn bin_of(shift: u8, component: u8) -> usize
+    requires { ⌜ shift < 8 ⌝ }
+    ensures { λ r. ⌜ r ≡ binOf shift component ⌝ }
+{
+    (component >> shift) as usize
+}
+
+// The smallest and the largest value of a component that fall in a bin.
+pub struct Span {
+    pub low: u64,
+    pub high: u64,
+}
+
+pub fn span_of(shift: u8, bin: usize) -> Span
+    requires { ⌜ InSize shift bin ⌝ }
+    ensures { λ r. ⌜ r ≡ spanOf shift bin ⌝ }
+{
+    let width = 1u64 << shift;
+    let low = (bin as u64) * width;
+    Span {
+        low,
+        high: low + (width - 1),
+    }
+}
+
+// The number of bins.
+pub fn bins(g: Grid) -> usize
+    requires { ⌜ Accepted g ⌝ }
+    ensures { λ r. ⌜ r ≡ binsOf g ⌝ }
+{
+    g.b1 * g.b2 * g.b3
+}
+
+// The place of a bin.
+pub fn place(g: Grid, r: usize, gr: usize, b: usize) -> usize
+    requires { ⌜ Inside g r gr b ⌝ }
+    ensures { λ p. ⌜ p ≡ placeOf g r gr b ⌝ }
+{
+    (r * g.b2 + gr) * g.b3 + b
+}
+
+// The three components of a colour.
+pub struct Rgb {
+    pub c1: u8,
+    pub c2: u8,
+    pub c3: u8,
+}
+
+// Colour i of a row of bytes.
+pub fn colour(bytes: &[u8], i: usize) -> Rgb
+    requires { ⌜ 3 * i + 2 < length (now bytes) ⌝ }
+    ensures { λ r. ⌜ r ≡ colourAt (now (bytes .entry)) i ⌝ }
+{
+    let at = 3 * i;
+    Rgb {
+        c1: bytes[at],
+        c2: bytes[at + 1],
+        c3: bytes[at + 2],
+    }
+}
+
+// Each value's bin times a stride.
+fn strides(shift: u8, stride: usize) -> [usize; 256]
+    requires { ⌜ (shift < 8) × (stride ≤ 16384) ⌝ }
+    ensures { λ r. ⌜ r ≡ listFrom 0 256 (λ c. binOf shift c * stride) ⌝ }
+{
+    let mut out = [0usize; 256];
+    let mut c = 0;
+    while c < 256 {
+        out[c] = bin_of(shift, c as u8) * stride;
+        c = c + 1;
+    }
+    out
+}
+
+// For each value of a component, what its bin in a dimension adds to the place.
+pub fn steps(g: Grid, dimension: usize) -> [usize; 256]
+    requires { ⌜ Accepted g ⌝ }
+    ensures { λ r. ⌜ r ≡ stepsOf g dimension ⌝ }
+{
+    match dimension {
+        0 => strides(g.s1, g.b2 * g.b3),
+        1 => strides(g.s2, g.b3),
+        _ => strides(g.s3, 1),
+    }
+}
+
+// The place of a colour's bin, by the steps of its three components.
+pub fn place_by_steps(t1: &[usize; 256], t2: &[usize; 256], t3: &[usize; 256], x: Rgb) -> usize
+    requires { ⌜ Steps (now t1) (now t2) (now t3) ⌝ }
+    ensures { λ r. ⌜ r ≡ getD (now (t1 .entry)) (x .c1) 0 + getD (now (t2 .entry)) (x .c2) 0 + getD (now (t3 .entry)) (x .c3) 0 ⌝ }
+{
+    let i1 = x.c1 as usize;
+    let i2 = x.c2 as usize;
+    let i3 = x.c3 as usize;
+    t1[i1] + t2[i2] + t3[i3]
+}

@@ -1,0 +1,6 @@
+pub mod Cells
+pub mod Soundness
+pub mod Loading
+pub mod Scans
+pub mod Merging
+pub mod Calls

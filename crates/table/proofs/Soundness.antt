@@ -1,0 +1,212 @@
+-- Laws of sound tables, so that what stands above needs no inside of `sound`.
+-- Assumes nothing.
+use mathlib.Core.Path.{_≡_, refl, sym, ap, _∙_}
+use mathlib.Core.Bool.{Bool, true, false, cond, _&&_}
+use Prim.Native.Nat.{ℕ, zero, suc, _+_, _-_, _*_, _^_, _≤_, _<_}
+use native.Mathlib.Nat.{add-mul, mul-add, zero-mul, mul-zero, mul-le-mul, mul-le-mul-left, mul-le-mul-right, mul-comm, le-trans}
+use native.Mathlib.Omega.{arith}
+use borrow.Author.Tests.{le-leb, lt-leb, leb-true}
+use lib.Dec.{leb, leb·zero, lit<}
+use Rattle.grid.specs.declared.Grid.{Grid}
+use Rattle.grid.specs.declared.Span.{Span}
+use Rattle.grid.specs.Range.{sumFrom, allFrom}
+use Rattle.grid.specs.Size.{spanOf}
+use Rattle.grid.specs.Grid.{Accepted, binsOf, binAt, shiftAt, choose}
+use Rattle.grid.proofs.Range.{sum-same, sum-plus, sum-zero, term-le, and-left, and-right, all-true, all-at, all-same}
+use Rattle.grid.proofs.Size.{in-size, span-byte}
+use Rattle.grid.proofs.Places.{sized-at, bin-at-below}
+use Rattle.table.specs.declared.Cell.{Cell}
+use Rattle.table.specs.Cell.{View, numberOf}
+use Rattle.table.specs.Merge.{merged}
+use Rattle.table.specs.Sound.{limit, between, inBounds, spanAt, binSound, total, sound}
+
+-- ---- the bounds of one bin, as facts
+pub record Keeps (span : ℕ → Span) (f : ℕ → ℕ) : Type 0 where
+  pub low : (d : ℕ) → d < 3 → f 0 * span d .low ≤ f (d + 1)
+  pub high : (d : ℕ) → d < 3 → f (d + 1) ≤ f 0 * span d .high
+  pub squares : f 4 ≤ 195075 * f 0
+
+pub keeps : (span : ℕ → Span) (f : ℕ → ℕ) → inBounds span f ≡ true → Keeps span f
+unfolding inBounds between
+keeps span f e =
+    let sums = and-left (allFrom 0 3 (λ d. between (span d) (f 0) (f (d + 1)))) (leb (f 4) (195075 * f 0)) e in
+    record {
+      low = λ d h.
+      leb-true (f 0 * span d .low) (f (d + 1))
+      (and-left (leb (f 0 * span d .low) (f (d + 1))) (leb (f (d + 1)) (f 0 * span d .high))
+      (all-at 0 3 (λ k. between (span k) (f 0) (f (k + 1))) sums d (omega arith) (omega arith)));
+      high = λ d h.
+      leb-true (f (d + 1)) (f 0 * span d .high)
+      (and-right (leb (f 0 * span d .low) (f (d + 1))) (leb (f (d + 1)) (f 0 * span d .high))
+      (all-at 0 3 (λ k. between (span k) (f 0) (f (k + 1))) sums d (omega arith) (omega arith)));
+      squares = leb-true (f 4) (195075 * f 0)
+      (and-right (allFrom 0 3 (λ d. between (span d) (f 0) (f (d + 1)))) (leb (f 4) (195075 * f 0)) e) }
+
+pub kept : {span : ℕ → Span} {f : ℕ → ℕ} → Keeps span f → inBounds span f ≡ true
+unfolding inBounds between
+kept {span} {f} k =
+    rw (all-true 0 3 (λ d. between (span d) (f 0) (f (d + 1)))
+    (λ d a b. simp (le-leb _ _ (k .low d (omega arith)), le-leb _ _ (k .high d (omega arith)))))
+    (le-leb (f 4) (195075 * f 0) (k .squares))
+
+pub keeps-zero : (span : ℕ → Span) → Keeps span (λ j. 0)
+keeps-zero span =
+    record {
+      low = λ d h. omega (arith, zero-mul (span d .low));
+      high = λ d h. omega arith;
+      squares = omega arith }
+
+pub keeps-plus : {span : ℕ → Span} {f h : ℕ → ℕ} → Keeps span f → Keeps span h → Keeps span (λ j. f j + h j)
+keeps-plus {span} {f} {h} a b =
+    record {
+      low = λ d l. omega (arith, a .low d l, b .low d l, add-mul (f 0) (h 0) (span d .low));
+      high = λ d l. omega (arith, a .high d l, b .high d l, add-mul (f 0) (h 0) (span d .high));
+      squares = omega (arith, a .squares, b .squares) }
+
+-- ---- the bounds of a cell, as the code tests them one after the other
+flat : (a b c d : Bool) → ((a && (b && (c && true))) && d) ≡ (a && (b && (c && d)))
+flat true true true d = refl
+flat true true false d = refl
+flat true false c d = refl
+flat false b c d = refl
+
+-- the tests before one that held, and it or the rest
+pub and-first : {a : Bool} (b : Bool) → a ≡ true → (a && b) ≡ b
+and-first b p = ap (λ (x : Bool). x && b) p
+
+pub and-stop : {a : Bool} (b : Bool) → a ≡ false → (a && b) ≡ false
+and-stop b p = ap (λ (x : Bool). x && b) p
+
+cell-bounds : (s1 s2 s3 : Span) (c : Cell)
+    → inBounds (λ d. choose d s1 s2 s3) (numberOf c)
+    ≡ (between s1 (c .weight) (c .sum1) && (between s2 (c .weight) (c .sum2) && (between s3 (c .weight) (c .sum3) && leb (c .squares) (195075 * c .weight))))
+unfolding inBounds allFrom choose numberOf
+cell-bounds s1 s2 s3 c =
+    flat (between s1 (c .weight) (c .sum1)) (between s2 (c .weight) (c .sum2)) (between s3 (c .weight) (c .sum3)) (leb (c .squares) (195075 * c .weight))
+
+between-none : (s : Span) (sum : ℕ) → between s 0 sum ≡ leb sum 0
+unfolding between
+between-none s sum = rw (zero-mul (s .low), zero-mul (s .high), leb·zero sum) refl
+
+-- an empty bin has zeros beside its weight
+empty-bounds : (s1 s2 s3 : Span) (c : Cell) → c .weight ≡ 0
+    → inBounds (λ d. choose d s1 s2 s3) (numberOf c) ≡ (leb (c .sum1) 0 && (leb (c .sum2) 0 && (leb (c .sum3) 0 && leb (c .squares) 0)))
+empty-bounds s1 s2 s3 c e =
+    cell-bounds s1 s2 s3 c
+    ∙ (λ i. between s1 (e i) (c .sum1) && (between s2 (e i) (c .sum2) && (between s3 (e i) (c .sum3) && leb (c .squares) (195075 * e i))))
+    ∙ (λ i. between-none s1 (c .sum1) i && (between-none s2 (c .sum2) i && (between-none s3 (c .sum3) i && leb (c .squares) 0)))
+
+module _ (s1 s2 s3 : Span) (c : Cell) where
+  abbrev within : Bool
+  within = leb (c .weight) limit && inBounds (λ d. choose d s1 s2 s3) (numberOf c)
+
+  pub heavy-cell : limit < c .weight → within ≡ false
+  heavy-cell h = rw (lt-leb (c .weight) limit h) refl
+
+  pub empty-cell : c .weight ≡ 0 → within ≡ (leb (c .sum1) 0 && (leb (c .sum2) 0 && (leb (c .sum3) 0 && leb (c .squares) 0)))
+  empty-cell e = ap (λ (b : Bool). b && inBounds (λ d. choose d s1 s2 s3) (numberOf c)) (le-leb (c .weight) limit (omega arith)) ∙ empty-bounds s1 s2 s3 c e
+
+  pub light-cell : c .weight ≤ limit
+      → within
+      ≡ (between s1 (c .weight) (c .sum1) && (between s2 (c .weight) (c .sum2) && (between s3 (c .weight) (c .sum3) && leb (c .squares) (195075 * c .weight))))
+  light-cell h = ap (λ (b : Bool). b && inBounds (λ d. choose d s1 s2 s3) (numberOf c)) (le-leb (c .weight) limit h) ∙ cell-bounds s1 s2 s3 c
+
+-- ---- views that agree
+abbrev pub Agree : ℕ → View → View → Type 0
+Agree n v u = (p j : ℕ) → p < n → j < 5 → v p j ≡ u p j
+
+pub bounds-same : (span : ℕ → Span) (f h : ℕ → ℕ) → ((j : ℕ) → j < 5 → f j ≡ h j) → inBounds span f ≡ inBounds span h
+unfolding inBounds allFrom
+bounds-same span f h e =
+    λ i. (between (span 0) (e 0 (lit< tt) i) (e 1 (lit< tt) i) && (between (span 1) (e 0 (lit< tt) i) (e 2 (lit< tt) i) && (between (span 2) (e 0 (lit< tt) i) (e 3 (lit< tt) i) && true)))
+    && leb (e 4 (lit< tt) i) (195075 * e 0 (lit< tt) i)
+
+module _ (g : Grid) (v u : View) (e : Agree (binsOf g) v u) where
+  pub total-same : total g v ≡ total g u
+  unfolding total
+  total-same = sum-same 0 (binsOf g) (λ p. v p 0) (λ p. u p 0) (λ p a b. e p 0 (omega arith) (omega arith))
+
+  pub sound-same : (most : ℕ) → sound most g v ≡ sound most g u
+  unfolding sound binSound
+  sound-same most =
+      let bins = all-same 0 (binsOf g) (binSound g v) (binSound g u)
+      (λ p a b. bounds-same (spanAt g p) (v p) (u p) (λ j h. e p j (omega arith) h)) in
+      λ i. bins i && leb (total-same i) most
+
+-- ---- a table is sound by its bins and its total
+pub record Sound (most : ℕ) (g : Grid) (v : View) : Type 0 where
+  pub holds : sound most g v ≡ true
+
+pub sound-by : (most : ℕ) (g : Grid) (v : View) → ((p : ℕ) → p < binsOf g → Keeps (spanAt g p) (v p)) → total g v ≤ most → Sound most g v
+unfolding sound binSound
+sound-by most g v k l =
+    record { holds = rw (all-true 0 (binsOf g) (binSound g v) (λ p a b. kept (k p (omega arith)))) (le-leb (total g v) most l) }
+
+-- the zeros of an empty table
+abbrev pub zeros : View
+zeros p j = 0
+
+pub zeros-total : (g : Grid) → total g zeros ≡ 0
+unfolding total
+zeros-total g = sum-zero 0 (binsOf g)
+
+pub zeros-sound : (most : ℕ) (g : Grid) → Sound most g zeros
+zeros-sound most g = sound-by most g zeros (λ p h. keeps-zero (spanAt g p)) (omega (arith, zeros-total g))
+
+-- ---- what a sound table has
+module _ {most : ℕ} {g : Grid} {v : View} (s : Sound most g v) where
+  pub sound-keeps : (p : ℕ) → p < binsOf g → Keeps (spanAt g p) (v p)
+  unfolding sound binSound
+  sound-keeps p h =
+      keeps (spanAt g p) (v p)
+      (all-at 0 (binsOf g) (binSound g v) (and-left (allFrom 0 (binsOf g) (binSound g v)) (leb (total g v) most) (s .holds)) p (omega arith) (omega arith))
+
+  pub sound-total : total g v ≤ most
+  unfolding sound
+  sound-total = leb-true (total g v) most (and-right (allFrom 0 (binsOf g) (binSound g v)) (leb (total g v) most) (s .holds))
+
+  -- "the squares are at most 195,075·n"
+  pub squares-high : (p : ℕ) → p < binsOf g → v p 4 ≤ 195075 * v p 0
+  squares-high p h = sound-keeps p h .squares
+
+-- a weight is at most the total
+pub weight-high : (g : Grid) (v : View) (p : ℕ) → p < binsOf g → v p 0 ≤ total g v
+unfolding total
+weight-high g v p h = term-le 0 (binsOf g) (λ q. v q 0) p (omega arith) (omega arith)
+
+-- the span of a place of an accepted grid is one of bytes
+pub span-at-byte : {g : Grid} → Accepted g → (p d : ℕ) → p < binsOf g → spanAt g p d .high ≤ 255
+unfolding spanAt
+span-at-byte {g} a p d h =
+    span-byte (shiftAt g d) (binAt g d p) (in-size (sized-at a d) (binAt g d p) (bin-at-below a p d h))
+
+module _ {most : ℕ} {g : Grid} {v : View} (a : Accepted g) (s : Sound most g v) (p : ℕ) (h : p < binsOf g) where
+  pub sums-high : (d : ℕ) → d < 3 → v p (d + 1) ≤ 255 * v p 0
+  sums-high d l =
+      omega (arith, sound-keeps s p h .high d l, mul-le-mul-left (v p 0) (span-at-byte a p d h), mul-comm (v p 0) 255)
+
+  pub number-high : (j : ℕ) → j < 5 → v p j ≤ 195075 * v p 0
+  number-high zero l = omega arith
+  number-high (suc zero) l = omega (arith, sums-high 0 (omega arith))
+  number-high (suc (suc zero)) l = omega (arith, sums-high 1 (omega arith))
+  number-high (suc (suc (suc zero))) l = omega (arith, sums-high 2 (omega arith))
+  number-high (suc (suc (suc (suc zero)))) l = squares-high s p h
+  number-high (suc (suc (suc (suc (suc j))))) l = absurd (omega arith)
+
+  -- "n = 0" leaves five zeros
+  pub empty-zeros : v p 0 ≡ 0 → (j : ℕ) → j < 5 → v p j ≡ 0
+  empty-zeros e j l = omega (arith, number-high j l)
+
+  -- "every total stays below 195,075 · 2^32 < 2^50"
+  pub number-below : most ≤ limit → (j : ℕ) → j < 5 → v p j < 2 ^ 50
+  number-below m j l = omega (arith, number-high j l, weight-high g v p h, sound-total s)
+
+-- ---- merging
+pub merge-total : (g : Grid) (v u : View) → total g (merged v u) ≡ total g v + total g u
+unfolding total merged
+merge-total g v u = sum-plus 0 (binsOf g) (λ p. v p 0) (λ p. u p 0)
+
+pub merge-sound : {most : ℕ} {g : Grid} {v u : View} → Sound most g v → Sound most g u → total g v + total g u ≤ most → Sound most g (merged v u)
+unfolding merged
+merge-sound {most} {g} {v} {u} s r l =
+    sound-by most g (merged v u) (λ p h. keeps-plus (sound-keeps s p h) (sound-keeps r p h)) (omega (arith, merge-total g v u))

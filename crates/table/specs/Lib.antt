@@ -1,0 +1,5 @@
+pub mod Cell
+pub mod Sound
+pub mod Load
+pub mod Merge
+pub mod Scan

@@ -1,0 +1,50 @@
+-- Sound tables (document 01, "Grid and table"), over a view and for any limit of the total. Definitions only.
+use Prim.Native.Nat.{ℕ, _+_, _*_}
+use mathlib.Core.Bool.{Bool, _&&_, cond}
+use mathlib.Core.List.{List, [], _∷_}
+use lib.Dec.{leb}
+use Rattle.grid.specs.declared.Grid.{Grid}
+use Rattle.grid.specs.declared.Span.{Span}
+use Rattle.grid.specs.Answer.{Answer}
+use Rattle.grid.specs.Range.{sumFrom, allFrom}
+use Rattle.grid.specs.Size.{spanOf}
+use Rattle.grid.specs.Grid.{shiftAt, binAt, binsOf}
+use Rattle.table.specs.declared.Weighed.{Weighed}
+use Rattle.table.specs.declared.Weighed.the-variants.{Total, Unsound}
+use Rattle.table.specs.Cell.{View}
+
+-- the largest total of a table in the wide layout
+abbrev pub limit : ℕ
+limit = 4294967295
+
+-- the sum of n components of one bin "lies between n·low and n·high"
+unfoldable pub between : Span → ℕ → ℕ → Bool
+between s n sum = leb (n * s .low) sum && leb sum (n * s .high)
+
+-- a bin's own bounds: "every component sum lies between n·low and n·high .. the squares are at most 195,075·n"
+unfoldable pub inBounds : (ℕ → Span) → (ℕ → ℕ) → Bool
+inBounds span numbers =
+    allFrom 0 3 (λ d. between (span d) (numbers 0) (numbers (d + 1))) && leb (numbers 4) (195075 * numbers 0)
+
+-- the span of the bin at a place, in dimension d
+unfoldable pub spanAt : Grid → ℕ → ℕ → Span
+spanAt g p d = spanOf (shiftAt g d) (binAt g d p)
+
+unfoldable pub binSound : Grid → View → ℕ → Bool
+binSound g v p = inBounds (spanAt g p) (v p)
+
+unfoldable pub total : Grid → View → ℕ
+total g v = sumFrom 0 (binsOf g) (λ p. v p 0)
+
+-- "A table is sound if, in each bin, .. and all weights total at most" the limit
+unfoldable pub sound : ℕ → Grid → View → Bool
+sound most g v = allFrom 0 (binsOf g) (binSound g v) && leb (total g v) most
+
+-- the total of a sound table, or that it is not sound
+unfoldable pub weighed : ℕ → Grid → View → Weighed
+weighed most g v = cond (sound most g v) (Total (total g v)) Unsound
+
+-- the number and the values of each case
+unfoldable pub weighedAnswer : Weighed → Answer
+weighedAnswer (Total n) = record { number = 0; values = n ∷ [] }
+weighedAnswer Unsound = record { number = 6; values = [] }
