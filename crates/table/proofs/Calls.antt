@@ -71,6 +71,11 @@ module _ (b1 b2 b3 : ℕ) (t s : List ℕ) where
             merge-done l r = merge-ends (simp (eq-eqb _ _ h, eq-eqb _ _ k, v, w, le-ltb _ _ l)) r
 
 -- ---- load
+-- as many weights as colours where they are given is no 4
+pub pairs : (given : Bool) (n m : ℕ) → (given ≡ true → n ≡ m) → (given && not (eqb n m)) ≡ false
+pairs true n m e = ap not (eq-eqb n m (e refl))
+pairs false n m e = refl
+
 module _ (b1 b2 b3 : ℕ) (t colours : List ℕ) (given : Bool) (weights : List ℕ) where
   abbrev LoadEnds : ℕ → List ℕ → Type 0
   LoadEnds n e = (n ≡ loadNumber b1 b2 b3 t colours given weights) × (e ≡ loadLater b1 b2 b3 t colours given weights)

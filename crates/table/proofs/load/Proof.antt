@@ -1,3 +1,25 @@
+use Rattle.table.proofs.Calls.{pairs, load-no-grid, load-not-threes, load-not-paired, load-length, load-unsound, load-over, load-done}
+use Rattle.table.proofs.Scans.{weighed-unsound, weighed-total}
+use Rattle.table.proofs.Loading.{batch-weight}
+use Rattle.table.proofs.Soundness.{sound-total}
+use Rattle.table.specs.Load.{Weighted, weightOf, batchOf}
+use Rattle.table.specs.Sound.{limit, total, sound}
+use Rattle.table.specs.Cell.{wide, TableOf}
+use Rattle.table.specs.declared.Weighed.the-variants.{Total, Unsound}
+use Rattle.grid.proofs.Places.{chose, bins-high}
+use Rattle.grid.specs.Grid.{gridOf, Accepted}
+use Rattle.grid.specs.declared.Chosen.the-variants.{Of}
+use Rattle.grid.specs.declared.Grid.{Grid}
+use lib.ListN.{length}
+use lib.Dec.{eqb, leb}
+use denote.Ref.{now}
+use borrow.Author.Tests.{leb-true, leb-false, not-true, not-false}
+use native.Mathlib.Omega.{arith}
+use mathlib.Core.List.{List}
+use mathlib.Core.Logic.{⊎-elim}
+use mathlib.Core.Bool.{true, false, true≢false, not, _&&_}
+use mathlib.Core.Path.{_≡_, sym, ap, _∙_}
+use Prim.Native.Nat.{ℕ, _+_, _*_, _/_, _≤_}
 use borrow.Author.Needs.{needs}
 use Rattle.table.proofs.load.Statement.{statement}
 use Rattle.table.proofs.load.Tie as tie
@@ -8,6 +30,54 @@ use Rattle.grid.proofs.grid_of.Reads as grid-of-reads
 use Rattle.table.proofs.add_colours.Reads as add-colours-reads
 use Rattle.table.proofs.batch_fits.Reads as batch-fits-reads
 use Rattle.table.proofs.weigh.Reads as weigh-reads
+
+-- the grid, once it is accepted
+abbrev grid : tie.After-known-told → Grid
+grid k = k .before .g .given .0 .0
+
+on-grid : (k : tie.After-known-told) → gridOf (k .before .before .before .before .before .before .before .args .b1) (k .before .before .before .before .before .before .before .args .b2) (k .before .before .before .before .before .before .before .args .b3) ≡ Of (grid k)
+on-grid k = cc
+
+accepted : (k : tie.After-known-told) → Accepted (grid k)
+accepted k = chose _ _ _ (grid k) (on-grid k) .accepted
+
+-- one weight a colour, where weights are given
+one-each : (k : tie.Joined2) → k .before .before .before .before .before .before .before .before .before .args .weighted ≡ true → length (now (k .before .before .before .before .before .before .before .before .before .args .weights)) ≡ length (now (k .before .before .before .before .before .before .before .before .before .args .colours)) / 3
+one-each k given =
+    ⊎-elim {C = length (now (k .before .before .before .before .before .before .before .before .before .args .weights)) ≡ length (now (k .before .before .before .before .before .before .before .before .before .args .colours)) / 3}
+    (λ w. w .1 .left)
+    (λ w. absurd (true≢false (sym given ∙ w .left)))
+    (k .if2 .came)
+
+paired : (k : tie.Joined2) → (k .before .before .before .before .before .before .before .before .before .args .weighted && not (eqb (length (now (k .before .before .before .before .before .before .before .before .before .args .weights))) (length (now (k .before .before .before .before .before .before .before .before .before .args .colours)) / 3))) ≡ false
+paired k =
+    pairs (k .before .before .before .before .before .before .before .before .before .args .weighted) (length (now (k .before .before .before .before .before .before .before .before .before .args .weights))) (length (now (k .before .before .before .before .before .before .before .before .before .args .colours)) / 3) (one-each k)
+
+-- the table, once its length is right
+abbrev table : tie.Else4 → List ℕ
+table k = now (k .before .before .before .before .before .before .before .before .before .before .before .args .table)
+
+the-table : (k : tie.Else4) → TableOf (grid (k .before .before .before .before)) (table k)
+the-table k = record { accepted = accepted (k .before .before .before .before); lent = k .if4 .left ∙ ap (λ (n : ℕ). 5 * n) (k .before .bins .ensures) }
+
+-- its total, once it is sound
+abbrev had : tie.After-known-told2 → ℕ
+had k = k .before .had .given .0 .0
+
+is-sound : (k : tie.After-known-told2) → (sound limit (grid (k .before .before .before .before .before .before .before .before .before)) (wide (table (k .before .before .before .before .before))) ≡ true) × (had k ≡ total (grid (k .before .before .before .before .before .before .before .before .before)) (wide (table (k .before .before .before .before .before))))
+is-sound k =
+    let is : k .before .before .before .weigh .result ≡ Total (had k) = cc in
+    weighed-total limit _ _ (had k) (sym (k .before .before .before .weigh .ensures) ∙ is)
+
+-- the test of the total is that of the definition
+abbrev batch : tie.After-batch-fits → List Weighted
+batch k = batchOf (now (k .before .before .before .before .before .before .before .before .before .before .before .before .before .before .before .before .before .args .colours)) (k .before .before .before .before .before .before .before .before .before .before .before .before .before .before .before .before .before .args .weighted) (now (k .before .before .before .before .before .before .before .before .before .before .before .before .before .before .before .before .before .args .weights))
+
+tested : (k : tie.After-batch-fits) → k .batch-fits .result ≡ leb (total (grid (k .before .before .before .before .before .before .before .before .before .before)) (wide (table (k .before .before .before .before .before .before))) + weightOf (batch k)) limit
+tested k =
+    let a = k .before .before .before .before .before .before .before .before .before .before .before .before .before .before .before .before .before .args in
+    k .batch-fits .ensures
+    ∙ (λ i. leb (is-sound (k .before) .1 i + sym (batch-weight (now (a .colours)) (a .weighted) (now (a .weights)) (one-each (k .before .before .before .before .before .before .before .before))) i) limit)
 
 -- src/lib.rt:309:25
 grid-of-requires : tie.Need-grid-of-requires
@@ -23,31 +93,40 @@ enum-told c = search needs
 
 -- src/lib.rt:310:9
 returns : tie.Need-returns
-returns c = ?
+returns c =
+    let a = c .before .before .before .before .before .before .args in
+    load-no-grid (a .b1) (a .b2) (a .b3) (now (a .table)) (now (a .colours)) (a .weighted) (now (a .weights)) (cc)
 
 -- src/lib.rt:313:9
 returns-2 : tie.Need-returns-2
-returns-2 c = ?
+returns-2 c =
+    let a = c .before .before .before .before .before .before .before .before .args in
+    load-not-threes (a .b1) (a .b2) (a .b3) (now (a .table)) (now (a .colours)) (a .weighted) (now (a .weights)) (on-grid (c .before)) (c .if1 .taken)
 
 -- src/lib.rt:318:13
 returns-3 : tie.Need-returns-3
-returns-3 c = ?
+returns-3 c =
+    let a = c .before .before .before .before .before .before .before .before .before .before .args in
+    load-not-paired (a .b1) (a .b2) (a .b3) (now (a .table)) (now (a .colours)) (a .weighted) (now (a .weights)) (on-grid (c .before .before .before)) (c .before .before .if1 .left) (c .before .if2 .taken) (c .if3 .taken)
 
 -- src/lib.rt:321:27
 bins-requires : tie.Need-bins-requires
-bins-requires c κs = ?
+bins-requires c κs = accepted (c .before .before)
 
 -- src/lib.rt:321:23
 mul-if4 : tie.Need-mul-if4
-mul-if4 c = ?
+mul-if4 c = omega (arith, c .bins .ensures, bins-high (accepted (c .before .before .before)))
 
 -- src/lib.rt:322:9
 returns-4 : tie.Need-returns-4
-returns-4 c = ?
+returns-4 c =
+    let a = c .before .before .before .before .before .before .before .before .before .before .before .args in
+    load-length (a .b1) (a .b2) (a .b3) (now (a .table)) (now (a .colours)) (a .weighted) (now (a .weights)) (on-grid (c .before .before .before .before)) (c .before .before .before .if1 .left) (paired (c .before .before))
+    (λ e. c .if4 .taken (e ∙ ap (λ (n : ℕ). 5 * n) (sym (c .before .bins .ensures))))
 
 -- src/lib.rt:324:31
 weigh-requires : tie.Need-weigh-requires
-weigh-requires c κs = ?
+weigh-requires c κs = the-table (c .before)
 
 -- src/lib.rt:324:24
 enum-known-had : tie.Need-enum-known-had
@@ -63,11 +142,17 @@ same-length c = search needs
 
 -- src/lib.rt:325:9
 returns-5 : tie.Need-returns-5
-returns-5 c = ?
+returns-5 c =
+    let a = c .before .before .before .before .before .before .before .before .before .before .before .before .before .before .before .args in
+    let is : c .before .before .weigh .result ≡ Unsound = cc in
+    load-unsound (a .b1) (a .b2) (a .b3) (now (a .table)) (now (a .colours)) (a .weighted) (now (a .weights)) (on-grid (c .before .before .before .before .before .before .before .before)) (c .before .before .before .before .before .before .before .if1 .left) (paired (c .before .before .before .before .before .before)) (the-table (c .before .before .before .before) .lent)
+    (weighed-unsound limit _ _ (sym (c .before .before .weigh .ensures) ∙ is))
 
 -- src/lib.rt:327:9
 batch-fits-requires : tie.Need-batch-fits-requires
-batch-fits-requires c κs = ?
+batch-fits-requires c κs =
+    let f = is-sound c in
+    omega (arith, f .1, sound-total {v = wide (table (c .before .before .before .before .before))} (record { holds = f .0 }))
 
 -- src/lib.rt:328:9
 same-length-2 : tie.Need-same-length-2
@@ -75,11 +160,19 @@ same-length-2 c = search needs
 
 -- src/lib.rt:328:9
 returns-6 : tie.Need-returns-6
-returns-6 c = ?
+returns-6 c =
+    let a = c .before .before .before .before .before .before .before .before .before .before .before .before .before .before .before .before .before .before .args in
+    load-over (a .b1) (a .b2) (a .b3) (now (a .table)) (now (a .colours)) (a .weighted) (now (a .weights)) (on-grid (c .before .before .before .before .before .before .before .before .before .before .before)) (c .before .before .before .before .before .before .before .before .before .before .if1 .left) (paired (c .before .before .before .before .before .before .before .before .before)) (the-table (c .before .before .before .before .before .before .before) .lent) (is-sound (c .before .before) .0)
+    (leb-false _ _ (sym (tested (c .before)) ∙ not-true _ (c .if5 .taken)))
 
 -- src/lib.rt:330:5
 add-colours-requires : tie.Need-add-colours-requires
-add-colours-requires c κs = ?
+add-colours-requires c κs =
+    record {
+      table = the-table (c .before .before .before .before .before .before .before .before);
+      is-sound = is-sound (c .before .before .before) .0;
+      one-each = one-each (c .before .before .before .before .before .before .before .before .before .before);
+      under = leb-true _ _ (sym (tested (c .before .before)) ∙ not-false _ (c .before .if5 .left)) }
 
 -- src/lib.rt:305:1
 same-length-3 : tie.Need-same-length-3
@@ -87,7 +180,10 @@ same-length-3 c = search needs
 
 -- src/lib.rt:305:1
 returns-7 : tie.Need-returns-7
-returns-7 c = ?
+returns-7 c =
+    let a = c .before .before .before .before .before .before .before .before .before .before .before .before .before .before .before .before .before .before .before .before .before .before .args in
+    load-done (a .b1) (a .b2) (a .b3) (now (a .table)) (now (a .colours)) (a .weighted) (now (a .weights)) (on-grid (c .before .before .before .before .before .before .before .before .before .before .before .before .before .before .before)) (c .before .before .before .before .before .before .before .before .before .before .before .before .before .before .if1 .left) (paired (c .before .before .before .before .before .before .before .before .before .before .before .before .before)) (the-table (c .before .before .before .before .before .before .before .before .before .before .before) .lent) (is-sound (c .before .before .before .before .before .before) .0)
+    (leb-true _ _ (sym (tested (c .before .before .before .before .before)) ∙ not-false _ (c .before .before .before .before .if5 .left))) (c .before .before .add-colours .ensures)
 
 pub load-spec : {M : Type 1} → statement M
 load-spec =
