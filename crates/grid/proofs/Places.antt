@@ -119,9 +119,10 @@ bins-inside {g} a p h =
     record {
       accepted = a;
       one = div-lt-iff-lt-mul {k = g .b2} {x = p / g .b3} {y = g .b1} (omega (arith, size-low (two a)))
-      .1 (div-lt-iff-lt-mul {k = g .b3} {x = p} {y = g .b1 * g .b2} (omega (arith, size-low (three a))) .1 h);
+          .1 (div-lt-iff-lt-mul {k = g .b3} {x = p} {y = g .b1 * g .b2} (omega (arith, size-low (three a))) .1 h);
       two = mod-lt (p / g .b3) {m = g .b2} (omega (arith, size-low (two a)));
-      three = mod-lt p {m = g .b3} (omega (arith, size-low (three a))) }
+      three = mod-lt p {m = g .b3} (omega (arith, size-low (three a)));
+    }
 
 pub bin-at-below : {g : Grid} → Accepted g → (p d : ℕ) → p < binsOf g → binAt g d p < sizeAt g d
 unfolding binAt sizeAt choose
@@ -167,8 +168,15 @@ unfolding colourPlace placeOf strideAt shiftAt choose
 steps-add g x b =
     let r = binOf (g .s1) (x .c1) in
     let gr = binOf (g .s2) (x .c2) in
-    omega (arith, step-at g 0 (x .c1) (b .one), step-at g 1 (x .c2) (b .two), step-at g 2 (x .c3) (b .three),
-    add-mul (r * g .b2) gr (g .b3), mul-assoc r (g .b2) (g .b3), mul-one (binOf (g .s3) (x .c3)))
+    omega (
+      arith,
+      step-at g 0 (x .c1) (b .one),
+      step-at g 1 (x .c2) (b .two),
+      step-at g 2 (x .c3) (b .three),
+      add-mul (r * g .b2) gr (g .b3),
+      mul-assoc r (g .b2) (g .b3),
+      mul-one (binOf (g .s3) (x .c3)),
+    )
 
 pub steps-place : {g : Grid} {t1 t2 t3 : List ℕ} → StepsOf g t1 t2 t3 → {x : Rgb} → Bytes x → getD t1 (x .c1) 0 + getD t2 (x .c2) 0 + getD t3 (x .c3) 0 ≡ colourPlace g x
 steps-place {g} s {x} b = rw (s .one, s .two, s .three) (steps-add g x b)

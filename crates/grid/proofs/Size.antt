@@ -34,7 +34,8 @@ fair-sized c e =
     record {
       whole = eqb-true (c .0 * 2 ^ c .1) 256 (and-left (eqb (c .0 * 2 ^ c .1) 256) (leb 1 (c .1) && leb (c .1) 7) e);
       some = leb-true 1 (c .1) (and-left (leb 1 (c .1)) (leb (c .1) 7) rest);
-      few = leb-true (c .1) 7 (and-right (leb 1 (c .1)) (leb (c .1) 7) rest) }
+      few = leb-true (c .1) 7 (and-right (leb 1 (c .1)) (leb (c .1) 7) rest);
+    }
 
 sized-in : (cs : List (ℕ × ℕ)) → right cs ≡ true → (size shift : ℕ) → shiftIn cs size ≡ By shift → Sized size shift
 unfolding right shiftIn
@@ -81,7 +82,8 @@ module _ {size shift : ℕ} (s : Sized size shift) where
   in-size bin h =
       record {
         shift-below = omega arith;
-        bin-below = omega (arith, mul-le-mul-right {m = suc bin} {n = size} (2 ^ shift) h, suc-mul bin (2 ^ shift), s .whole, width-low) }
+        bin-below = omega (arith, mul-le-mul-right {m = suc bin} {n = size} (2 ^ shift) h, suc-mul bin (2 ^ shift), s .whole, width-low);
+      }
 
 -- no value of a byte's bin is above 255
 pub span-byte : (shift bin : ℕ) → InSize shift bin → spanOf shift bin .high ≤ 255

@@ -57,16 +57,14 @@ pub fn grid_of(b1: usize, b2: usize, b3: usize) -> Chosen
     let Shift::By(s3) = shift_of(b3) else {
         return Chosen::Refused;
     };
-    Chosen::Of(
-        Grid {
-            s1,
-            s2,
-            s3,
-            b1,
-            b2,
-            b3,
-        },
-    )
+    Chosen::Of(Grid {
+        s1,
+        s2,
+        s3,
+        b1,
+        b2,
+        b3,
+    })
 }
 
 // The bin of a component.

@@ -41,8 +41,9 @@ list-holds n v =
     record {
       lent = length-list 0 (5 * n) (λ i. v (i / 5) (i % 5));
       at = λ p j h k.
-      list-at 0 (5 * n) (λ i. v (i / 5) (i % 5)) (5 * p + j) 0 (omega arith)
-      ∙ (λ i. v (quotient p j k i) (rest p j k i)) }
+          list-at 0 (5 * n) (λ i. v (i / 5) (i % 5)) (5 * p + j) 0 (omega arith)
+          ∙ (λ i. v (quotient p j k i) (rest p j k i));
+    }
   where
     quotient : (p j : ℕ) → j < 5 → (0 + (5 * p + j)) / 5 ≡ p
     quotient p j k = omega arith

@@ -92,8 +92,9 @@ module _ {g : Grid} (a : Accepted g) (c : Weighted) (b : Bytes (c .colour)) wher
         low = λ d h. rw (share-sum c d h, own d) (mul-le-mul-left (c .weight) (span-low (shiftAt g d) (componentAt (c .colour) d)));
         high = λ d h. rw (share-sum c d h, own d) (mul-le-mul-left (c .weight) (span-high (shiftAt g d) (componentAt (c .colour) d)));
         squares = rw (mul-comm 195075 (c .weight))
-        (mul-le-mul-left (c .weight)
-        (omega (arith, square-byte (c .colour .c1) (b .one), square-byte (c .colour .c2) (b .two), square-byte (c .colour .c3) (b .three)))) }
+            (mul-le-mul-left (c .weight)
+            (omega (arith, square-byte (c .colour .c1) (b .one), square-byte (c .colour .c2) (b .two), square-byte (c .colour .c3) (b .three))));
+      }
 
   adds-keeps : (p : ℕ) → Keeps (spanAt g p) (adds g c p)
   unfolding adds
@@ -181,11 +182,12 @@ module _ {g : Grid} (a : Accepted g) {v : View} (s : Sound limit g v) (c : ℕ �
         record {
           cell = omega (arith, holds .lent, inside);
           fits = λ j k.
-          let sums : wide t here j + numberOf (cellOf (share (c i))) j ≡ loaded g (listFrom 0 (i + 1) c) v here j =
-          (λ m. holds .at here j inside k m + number-cell (share (c i)) j k m)
-          ∙ ap (λ (x : Bool). loaded g (listFrom 0 i c) v here j + cond x (share (c i) j) 0) (sym (eq-eqb here here refl))
-          ∙ next here j in
-          rw sums (lt-trans (number-below a (first-sound (i + 1) (omega arith)) here inside (omega arith) j k) (lit< tt)) }
+              let sums : wide t here j + numberOf (cellOf (share (c i))) j ≡ loaded g (listFrom 0 (i + 1) c) v here j =
+              (λ m. holds .at here j inside k m + number-cell (share (c i)) j k m)
+              ∙ ap (λ (x : Bool). loaded g (listFrom 0 i c) v here j + cond x (share (c i) j) 0) (sym (eq-eqb here here refl))
+              ∙ next here j in
+              rw sums (lt-trans (number-below a (first-sound (i + 1) (omega arith)) here inside (omega arith) j k) (lit< tt));
+        }
 
 -- ---- the colours of a batch
 colour-weight : (n : ℕ) (c : ℕ → Weighted) (i : ℕ) → i < n → c i .weight ≤ weightOf (listFrom 0 n c)

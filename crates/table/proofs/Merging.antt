@@ -55,7 +55,8 @@ module _ {n : ℕ} {t : List ℕ} (v u : View) (p : ℕ) (h : Holds n t (partly 
       record {
         cell = omega (arith, h .lent);
         fits = λ j k.
-        rw (h .at p j l k, number j k, le-ltb p p (omega arith)) (omega (arith, f j k)) }
+            rw (h .at p j l k, number j k, le-ltb p p (omega arith)) (omega (arith, f j k));
+      }
 
 pub all-added : {n : ℕ} {t : List ℕ} (v u : View) → Holds n t (partly n v u) → t ≡ wideList n (merged v u)
 unfolding merged

@@ -57,7 +57,8 @@ module _ (most : ℕ) (g : Grid) (v : View) where
       record {
         bounds = and-left (allFrom p n (binSound g v)) (leb (had + weights p n) most) (b .0);
         is = b .1;
-        under = leb-true (had + weights p n) most (and-right (allFrom p n (binSound g v)) (leb (had + weights p n) most) (b .0)) }
+        under = leb-true (had + weights p n) most (and-right (allFrom p n (binSound g v)) (leb (had + weights p n) most) (b .0));
+      }
 
   pub scan-total : (p n had : ℕ) → allFrom p n (binSound g v) ≡ true → had + weights p n ≤ most → scanned most g v p n had ≡ Total (had + weights p n)
   unfolding scanned

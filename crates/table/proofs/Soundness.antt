@@ -32,15 +32,16 @@ keeps span f e =
     let sums = and-left (allFrom 0 3 (λ d. between (span d) (f 0) (f (d + 1)))) (leb (f 4) (195075 * f 0)) e in
     record {
       low = λ d h.
-      leb-true (f 0 * span d .low) (f (d + 1))
-      (and-left (leb (f 0 * span d .low) (f (d + 1))) (leb (f (d + 1)) (f 0 * span d .high))
-      (all-at 0 3 (λ k. between (span k) (f 0) (f (k + 1))) sums d (omega arith) (omega arith)));
+          leb-true (f 0 * span d .low) (f (d + 1))
+          (and-left (leb (f 0 * span d .low) (f (d + 1))) (leb (f (d + 1)) (f 0 * span d .high))
+          (all-at 0 3 (λ k. between (span k) (f 0) (f (k + 1))) sums d (omega arith) (omega arith)));
       high = λ d h.
-      leb-true (f (d + 1)) (f 0 * span d .high)
-      (and-right (leb (f 0 * span d .low) (f (d + 1))) (leb (f (d + 1)) (f 0 * span d .high))
-      (all-at 0 3 (λ k. between (span k) (f 0) (f (k + 1))) sums d (omega arith) (omega arith)));
+          leb-true (f (d + 1)) (f 0 * span d .high)
+          (and-right (leb (f 0 * span d .low) (f (d + 1))) (leb (f (d + 1)) (f 0 * span d .high))
+          (all-at 0 3 (λ k. between (span k) (f 0) (f (k + 1))) sums d (omega arith) (omega arith)));
       squares = leb-true (f 4) (195075 * f 0)
-      (and-right (allFrom 0 3 (λ d. between (span d) (f 0) (f (d + 1)))) (leb (f 4) (195075 * f 0)) e) }
+          (and-right (allFrom 0 3 (λ d. between (span d) (f 0) (f (d + 1)))) (leb (f 4) (195075 * f 0)) e);
+    }
 
 pub kept : {span : ℕ → Span} {f : ℕ → ℕ} → Keeps span f → inBounds span f ≡ true
 unfolding inBounds between
@@ -54,14 +55,16 @@ keeps-zero span =
     record {
       low = λ d h. omega (arith, zero-mul (span d .low));
       high = λ d h. omega arith;
-      squares = omega arith }
+      squares = omega arith;
+    }
 
 pub keeps-plus : {span : ℕ → Span} {f h : ℕ → ℕ} → Keeps span f → Keeps span h → Keeps span (λ j. f j + h j)
 keeps-plus {span} {f} {h} a b =
     record {
       low = λ d l. omega (arith, a .low d l, b .low d l, add-mul (f 0) (h 0) (span d .low));
       high = λ d l. omega (arith, a .high d l, b .high d l, add-mul (f 0) (h 0) (span d .high));
-      squares = omega (arith, a .squares, b .squares) }
+      squares = omega (arith, a .squares, b .squares);
+    }
 
 -- ---- the bounds of a cell, as the code tests them one after the other
 flat : (a b c d : Bool) → ((a && (b && (c && true))) && d) ≡ (a && (b && (c && d)))

@@ -1,8 +1,18 @@
 // Tables: five numbers per bin; soundness, loading and merging.
-use grid::{Grid, Chosen, Rgb, Span, grid_of, span_of, bins, place, colour, steps, place_by_steps};
+use grid::Chosen;
+use grid::Grid;
+use grid::Rgb;
+use grid::Span;
+use grid::bins;
+use grid::colour;
+use grid::grid_of;
+use grid::place;
+use grid::place_by_steps;
+use grid::span_of;
+use grid::steps;
 ghost use mathlib.Core.Path.{_≡_};
 ghost use mathlib.Core.Bool.{true, _&&_, cond};
-ghost use Prim.Native.Nat.{ℕ, _+_, _-_, _*_, _≤_, _<_};
+ghost use Prim.Native.Nat.{ℕ, _+_, _-_, _*_, _^_, _≤_, _<_};
 ghost use lib.Dec.{leb};
 ghost use lib.ListN.{length, getD};
 ghost use Rattle.grid.specs.Range.{sumFrom};
@@ -56,7 +66,7 @@ pub fn put_at(table: &mut [u64], place: usize, c: Cell)
 }
 
 fn plus(c: Cell, d: Cell) -> Cell
-    requires { ⌜ ((j : ℕ) → j < 5 → numberOf c j + numberOf d j < 18446744073709551616) ⌝ }
+    requires { ⌜ ((j : ℕ) → j < 5 → numberOf c j + numberOf d j < 2 ^ 64) ⌝ }
     ensures { λ r. ⌜ r ≡ plusCell c d ⌝ }
 {
     Cell {
@@ -73,7 +83,9 @@ fn add_at(table: &mut [u64], place: usize, c: Cell)
     requires { ⌜ Adds (now table) place c ⌝ }
     ensures { λ r. ⌜ now (table .exit) ≡ putAt (now (table .entry)) place (plusCell (cellOf (wide (now (table .entry)) place)) c) ⌝ }
 {
-    put_at(table, place, plus(cell_at(table, place), c));
+    let old = cell_at(table, place);
+    let sum = plus(old, c);
+    put_at(table, place, sum);
 }
 
 // ---- Soundness
@@ -256,7 +268,15 @@ fn weight_at(weighted: bool, weights: &[u32], i: usize) -> u64
 }
 
 // Adds one colour to a table by the steps of its grid, which the contract alone names.
-fn add_colour(g: Grid, table: &mut [u64], t1: &[usize; 256], t2: &[usize; 256], t3: &[usize; 256], x: Rgb, w: u64)
+fn add_colour(
+    g: Grid,
+    table: &mut [u64],
+    t1: &[usize; 256],
+    t2: &[usize; 256],
+    t3: &[usize; 256],
+    x: Rgb,
+    w: u64,
+)
     requires { ⌜ StepsOf g (now t1) (now t2) (now t3) × (w ≤ limit) ⌝ }
     requires { ⌜ Adds (now table) (colourPlace g x) (cellOf (share (record { colour = x; weight = w }))) ⌝ }
     ensures { λ r. ⌜ now (table .exit) ≡ withColour g (now (table .entry)) (record { colour = x; weight = w }) ⌝ }
@@ -266,7 +286,16 @@ fn add_colour(g: Grid, table: &mut [u64], t1: &[usize; 256], t2: &[usize; 256], 
 }
 
 // Adds a batch of colours to a table by the steps of its grid.
-fn add_by_steps(g: Grid, table: &mut [u64], t1: &[usize; 256], t2: &[usize; 256], t3: &[usize; 256], colours: &[u8], weighted: bool, weights: &[u32])
+fn add_by_steps(
+    g: Grid,
+    table: &mut [u64],
+    t1: &[usize; 256],
+    t2: &[usize; 256],
+    t3: &[usize; 256],
+    colours: &[u8],
+    weighted: bool,
+    weights: &[u32],
+)
     requires { ⌜ Fits g (now table) (now colours) weighted (now weights) ⌝ }
     requires { ⌜ StepsOf g (now t1) (now t2) (now t3) ⌝ }
     ensures { λ r. ⌜ now (table .exit) ≡ wideList (binsOf g) (loaded g (batchOf (now (colours .entry)) weighted (now (weights .entry))) (wide (now (table .entry)))) ⌝ }
@@ -274,7 +303,15 @@ fn add_by_steps(g: Grid, table: &mut [u64], t1: &[usize; 256], t2: &[usize; 256]
     let n = colours.len() / 3;
     let mut i = 0;
     while i < n {
-        add_colour(g, table, t1, t2, t3, colour(colours, i), weight_at(weighted, weights, i));
+        add_colour(
+            g,
+            table,
+            t1,
+            t2,
+            t3,
+            colour(colours, i),
+            weight_at(weighted, weights, i),
+        );
         i = i + 1;
     }
 }
@@ -302,7 +339,15 @@ fn batch_fits(had: u64, n: usize, weighted: bool, weights: &[u32]) -> bool
 }
 
 // Adds a batch of colours to a table.
-pub fn load(b1: usize, b2: usize, b3: usize, table: &mut [u64], colours: &[u8], weighted: bool, weights: &[u32]) -> u8
+pub fn load(
+    b1: usize,
+    b2: usize,
+    b3: usize,
+    table: &mut [u64],
+    colours: &[u8],
+    weighted: bool,
+    weights: &[u32],
+) -> u8
     ensures { λ r. ⌜ r ≡ loadNumber b1 b2 b3 (now (table .entry)) (now (colours .entry)) weighted (now (weights .entry)) ⌝ }
     ensures { λ r. ⌜ now (table .exit) ≡ loadLater b1 b2 b3 (now (table .entry)) (now (colours .entry)) weighted (now (weights .entry)) ⌝ }
 {
@@ -336,7 +381,7 @@ pub fn load(b1: usize, b2: usize, b3: usize, table: &mut [u64], colours: &[u8], 
 // Adds the cells of a second table to those of a first.
 fn add_cells(g: Grid, table: &mut [u64], second: &[u64])
     requires { ⌜ TableOf g (now table) × TableOf g (now second) ⌝ }
-    requires { ⌜ ((p j : ℕ) → p < binsOf g → j < 5 → wide (now table) p j + wide (now second) p j < 18446744073709551616) ⌝ }
+    requires { ⌜ ((p j : ℕ) → p < binsOf g → j < 5 → wide (now table) p j + wide (now second) p j < 2 ^ 64) ⌝ }
     ensures { λ r. ⌜ now (table .exit) ≡ wideList (binsOf g) (merged (wide (now (table .entry))) (wide (now (second .entry)))) ⌝ }
 {
     let n = bins(g);

@@ -5,18 +5,13 @@ use native.Mathlib.Omega.{arith}
 use borrow.Author.Needs.{needs}
 use Rattle.grid.proofs.bin_of.Statement.{statement}
 use Rattle.grid.proofs.bin_of.Tie as tie
-use Rattle.grid.proofs.bin_of.Reads as reads
-use Rattle.grid.proofs.bin_of.Lts as lts
 
--- src/lib.rt:77:6
 shr-result : tie.Need-shr-result
 shr-result c = search needs
 
--- src/lib.rt:77:5
 cast-result : tie.Need-cast-result
 cast-result c = omega (arith, shr-le (c .args .component) (c .args .shift))
 
--- src/lib.rt:73:1
 returns : tie.Need-returns
 unfolding binOf
 returns c = refl

@@ -4,19 +4,14 @@ use mathlib.Core.Path.{refl}
 use native.Mathlib.Omega.{arith}
 use Rattle.grid.proofs.bins.Statement.{statement}
 use Rattle.grid.proofs.bins.Tie as tie
-use Rattle.grid.proofs.bins.Reads as reads
-use Rattle.grid.proofs.bins.Lts as lts
 
--- src/lib.rt:103:5
 mul-result : tie.Need-mul-result
 mul-result c = omega (arith, rows-high (c .before .pre))
 
--- src/lib.rt:103:5
 mul-result-2 : tie.Need-mul-result-2
 unfolding binsOf
 mul-result-2 c = omega (arith, bins-high (c .before .before .pre))
 
--- src/lib.rt:99:1
 returns : tie.Need-returns
 unfolding binsOf
 returns c = refl

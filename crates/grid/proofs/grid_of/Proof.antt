@@ -5,42 +5,31 @@ use mathlib.Core.Path.{_≡_, refl}
 use borrow.Author.Needs.{needs}
 use Rattle.grid.proofs.grid_of.Statement.{statement}
 use Rattle.grid.proofs.grid_of.Tie as tie
-use Rattle.grid.proofs.grid_of.Reads as reads
-use Rattle.grid.proofs.grid_of.Lts as lts
-use Rattle.grid.proofs.shift_of.Reads as shift-of-reads
 
--- src/lib.rt:51:25
 shift-of-requires : tie.Need-shift-of-requires
 shift-of-requires c κs = search needs
 
--- src/lib.rt:51:19
 enum-known-s1 : tie.Need-enum-known-s1
 enum-known-s1 c = search needs
 
--- src/lib.rt:52:9
 enum-told : tie.Need-enum-told
 enum-told c = search needs
 
--- src/lib.rt:52:9
 returns : tie.Need-returns
 unfolding gridOf gridWith
 returns c =
     let e : shiftOf (c .before .before .before .args .b1) ≡ Refused = cc in
     rw e refl
 
--- src/lib.rt:54:25
 shift-of-requires-2 : tie.Need-shift-of-requires-2
 shift-of-requires-2 c κs = search needs
 
--- src/lib.rt:54:19
 enum-known-s2 : tie.Need-enum-known-s2
 enum-known-s2 c = search needs
 
--- src/lib.rt:55:9
 enum-told-2 : tie.Need-enum-told-2
 enum-told-2 c = search needs
 
--- src/lib.rt:55:9
 returns-2 : tie.Need-returns-2
 unfolding gridOf gridWith
 returns-2 c =
@@ -49,19 +38,15 @@ returns-2 c =
     let q : shiftOf (a .b2) ≡ Refused = cc in
     rw (p, q) refl
 
--- src/lib.rt:57:25
 shift-of-requires-3 : tie.Need-shift-of-requires-3
 shift-of-requires-3 c κs = search needs
 
--- src/lib.rt:57:19
 enum-known-s3 : tie.Need-enum-known-s3
 enum-known-s3 c = search needs
 
--- src/lib.rt:58:9
 enum-told-3 : tie.Need-enum-told-3
 enum-told-3 c = search needs
 
--- src/lib.rt:58:9
 returns-3 : tie.Need-returns-3
 unfolding gridOf gridWith
 returns-3 c =
@@ -71,7 +56,6 @@ returns-3 c =
     let r : shiftOf (a .b3) ≡ Refused = cc in
     rw (p, q, r) refl
 
--- src/lib.rt:48:1
 returns-4 : tie.Need-returns-4
 unfolding gridOf gridWith
 returns-4 c =

@@ -3,58 +3,44 @@ use native.Mathlib.Omega.{arith}
 use borrow.Author.Needs.{needs}
 use Rattle.grid.proofs.place_by_steps.Statement.{statement}
 use Rattle.grid.proofs.place_by_steps.Tie as tie
-use Rattle.grid.proofs.place_by_steps.Reads as reads
-use Rattle.grid.proofs.place_by_steps.Lts as lts
 
--- src/lib.rt:165:14
 cast-i1 : tie.Need-cast-i1
 cast-i1 c = search needs
 
--- src/lib.rt:166:14
 cast-i2 : tie.Need-cast-i2
 cast-i2 c = search needs
 
--- src/lib.rt:167:14
 cast-i3 : tie.Need-cast-i3
 cast-i3 c = search needs
 
--- src/lib.rt:168:5
 mul-result : tie.Need-mul-result
 mul-result c = search needs
 
--- src/lib.rt:168:5
 element-copy-out-result : tie.Need-element-copy-out-result
 element-copy-out-result c = search needs
 
--- src/lib.rt:168:14
 mul-result-2 : tie.Need-mul-result-2
 mul-result-2 c = search needs
 
--- src/lib.rt:168:14
 element-copy-out-result-2 : tie.Need-element-copy-out-result-2
 element-copy-out-result-2 c = search needs
 
--- src/lib.rt:168:5
 add-result : tie.Need-add-result
 add-result c =
     let s = c .before .before .before .before .before in
     omega (arith, steps-high (s .pre) {x = s .args .x} (record { one = omega arith; two = omega arith; three = omega arith }))
 
--- src/lib.rt:168:23
 mul-result-3 : tie.Need-mul-result-3
 mul-result-3 c = search needs
 
--- src/lib.rt:168:23
 element-copy-out-result-3 : tie.Need-element-copy-out-result-3
 element-copy-out-result-3 c = search needs
 
--- src/lib.rt:168:5
 add-result-2 : tie.Need-add-result-2
 add-result-2 c =
     let s = c .before .before .before .before .before .before in
     omega (arith, steps-high (s .pre) {x = s .args .x} (record { one = omega arith; two = omega arith; three = omega arith }))
 
--- src/lib.rt:161:1
 returns : tie.Need-returns
 returns c = search needs
 

@@ -3,50 +3,47 @@ use Rattle.grid.specs.Size.{shiftOf, shiftIn, choices}
 use mathlib.Core.Path.{refl}
 use Rattle.grid.proofs.shift_of.Statement.{statement}
 use Rattle.grid.proofs.shift_of.Tie as tie
-use Rattle.grid.proofs.shift_of.Reads as reads
-use Rattle.grid.proofs.shift_of.Lts as lts
 
--- src/lib.rt:16:1
 returns : tie.Need-returns
 unfolding shiftOf shiftIn choices
 returns c = rw (c .match .keys1) refl
 
--- src/lib.rt:16:1
 returns-2 : tie.Need-returns-2
 unfolding shiftOf shiftIn choices
 returns-2 c = rw (c .match .keys2) refl
 
--- src/lib.rt:16:1
 returns-3 : tie.Need-returns-3
 unfolding shiftOf shiftIn choices
 returns-3 c = rw (c .match .keys3) refl
 
--- src/lib.rt:16:1
 returns-4 : tie.Need-returns-4
 unfolding shiftOf shiftIn choices
 returns-4 c = rw (c .match .keys4) refl
 
--- src/lib.rt:16:1
 returns-5 : tie.Need-returns-5
 unfolding shiftOf shiftIn choices
 returns-5 c = rw (c .match .keys5) refl
 
--- src/lib.rt:16:1
 returns-6 : tie.Need-returns-6
 unfolding shiftOf shiftIn choices
 returns-6 c = rw (c .match .keys6) refl
 
--- src/lib.rt:16:1
 returns-7 : tie.Need-returns-7
 unfolding shiftOf shiftIn choices
 returns-7 c = rw (c .match .keys7) refl
 
--- src/lib.rt:16:1
 returns-8 : tie.Need-returns-8
 unfolding shiftOf shiftIn choices
 returns-8 c =
-    simp (ne-eqb _ 2 (c .match .rest .0 .0 .0 .0 .0 .0 .1), ne-eqb _ 4 (c .match .rest .0 .0 .0 .0 .0 .1), ne-eqb _ 8 (c .match .rest .0 .0 .0 .0 .1), ne-eqb _ 16 (c .match .rest .0 .0 .0 .1),
-    ne-eqb _ 32 (c .match .rest .0 .0 .1), ne-eqb _ 64 (c .match .rest .0 .1), ne-eqb _ 128 (c .match .rest .1))
+    simp (
+      ne-eqb _ 2 (c .match .rest .0 .0 .0 .0 .0 .0 .1),
+      ne-eqb _ 4 (c .match .rest .0 .0 .0 .0 .0 .1),
+      ne-eqb _ 8 (c .match .rest .0 .0 .0 .0 .1),
+      ne-eqb _ 16 (c .match .rest .0 .0 .0 .1),
+      ne-eqb _ 32 (c .match .rest .0 .0 .1),
+      ne-eqb _ 64 (c .match .rest .0 .1),
+      ne-eqb _ 128 (c .match .rest .1),
+    )
 
 pub shift-of-spec : {M : Type 1} → statement M
 shift-of-spec =

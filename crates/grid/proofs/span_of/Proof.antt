@@ -6,29 +6,22 @@ use native.Mathlib.Omega.{arith}
 use borrow.Author.Needs.{needs}
 use Rattle.grid.proofs.span_of.Statement.{statement}
 use Rattle.grid.proofs.span_of.Tie as tie
-use Rattle.grid.proofs.span_of.Reads as reads
-use Rattle.grid.proofs.span_of.Lts as lts
 
--- src/lib.rt:90:17
 shl-width : tie.Need-shl-width
 shl-width c = search needs
 
--- src/lib.rt:91:15
 mul-low : tie.Need-mul-low
-mul-low c =     rw (width-is (c .args .shift) (c .pre .shift-below)) (omega (arith, c .pre .bin-below))
+mul-low c = rw (width-is (c .args .shift) (c .pre .shift-below)) (omega (arith, c .pre .bin-below))
 
--- src/lib.rt:94:22
 sub-t5 : tie.Need-sub-t5
 sub-t5 c = rw (width-is (c .args .shift) (c .pre .shift-below)) (pow-pos (c .args .shift))
 
--- src/lib.rt:94:15
 add-t6 : tie.Need-add-t6
 unfolding spanOf
 add-t6 c =
     rw (width-is (c .args .shift) (c .pre .shift-below))
     (omega (arith, span-byte (c .args .shift) (c .args .bin) (c .pre)))
 
--- src/lib.rt:86:1
 returns : tie.Need-returns
 unfolding spanOf
 returns c = rw (width-is (c .args .shift) (c .pre .shift-below)) refl

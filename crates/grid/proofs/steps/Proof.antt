@@ -5,37 +5,27 @@ use Rattle.grid.specs.Grid.{stepsOf, shiftAt, strideAt, choose}
 use native.Mathlib.Omega.{arith}
 use Rattle.grid.proofs.steps.Statement.{statement}
 use Rattle.grid.proofs.steps.Tie as tie
-use Rattle.grid.proofs.steps.Reads as reads
-use Rattle.grid.proofs.steps.Lts as lts
-use Rattle.grid.proofs.strides.Reads as strides-reads
 
--- src/lib.rt:154:28
 mul-strides : tie.Need-mul-strides
 mul-strides c = omega (arith, plane-high (c .before .before .pre))
 
--- src/lib.rt:154:14
 strides-requires : tie.Need-strides-requires
 strides-requires c κs = (omega (arith, one (c .before .before .pre) .few), plane-high (c .before .before .pre))
 
--- src/lib.rt:155:14
 strides-requires-2 : tie.Need-strides-requires-2
 strides-requires-2 c κs = (omega (arith, two (c .before .pre) .few), omega (arith, size-high (three (c .before .pre))))
 
--- src/lib.rt:156:14
 strides-requires-3 : tie.Need-strides-requires-3
 strides-requires-3 c κs = (omega (arith, three (c .before .pre) .few), omega arith)
 
--- src/lib.rt:149:1
 returns : tie.Need-returns
 unfolding stepsOf shiftAt strideAt choose
 returns c = rw (c .before .before .match .keys1) (c .strides .ensures)
 
--- src/lib.rt:149:1
 returns-2 : tie.Need-returns-2
 unfolding stepsOf shiftAt strideAt choose
 returns-2 c = rw (c .before .match .keys2) (c .strides2 .ensures)
 
--- src/lib.rt:149:1
 returns-3 : tie.Need-returns-3
 unfolding stepsOf shiftAt strideAt
 returns-3 c =

@@ -8,9 +8,6 @@ use mathlib.Core.Path.{_≡_, refl, ap}
 use Prim.Native.Nat.{_≤_, _-_, _*_, ℕ}
 use Rattle.grid.proofs.strides.Statement.{statement}
 use Rattle.grid.proofs.strides.Tie as tie
-use Rattle.grid.proofs.strides.Reads as reads
-use Rattle.grid.proofs.strides.Lts as lts
-use Rattle.grid.proofs.bin_of.Reads as bin-of-reads
 
 abbrev Inv-loop : tie.InvT-loop
 Inv-loop shift stride out₀ c₀ out c =
@@ -19,19 +16,15 @@ Inv-loop shift stride out₀ c₀ out c =
 abbrev μ-loop : tie.MeasureT-loop
 μ-loop shift stride out₀ c₀ out c = 256 - c
 
--- src/lib.rt:141:5
 loop-holds : tie.Need-loop-holds Inv-loop μ-loop
 loop-holds c = (omega arith, refl, λ k h. absurd (omega arith))
 
--- src/lib.rt:142:32
 cast-bin-of : tie.Need-cast-bin-of Inv-loop μ-loop
 cast-bin-of c = omega arith
 
--- src/lib.rt:142:18
 bin-of-requires : tie.Need-bin-of-requires Inv-loop μ-loop
 bin-of-requires c κs = omega arith
 
--- src/lib.rt:142:18
 mul-out : tie.Need-mul-out Inv-loop μ-loop
 unfolding binOf
 mul-out c =
@@ -40,31 +33,26 @@ mul-out c =
     let b : c .bin-of .result ≤ 255 = omega (arith, c .bin-of .ensures, shr-le l (a .shift)) in
     omega (arith, mul-le-mul {n₂ = 255} {m₂ = 16384} b (c .before .before .before .pre .1))
 
--- src/lib.rt:142:9
 mul-out-2 : tie.Need-mul-out-2 Inv-loop μ-loop
 mul-out-2 c = omega arith
 
--- src/lib.rt:142:9
 array-write-out : tie.Need-array-write-out Inv-loop μ-loop
 array-write-out c = omega arith
 
--- src/lib.rt:143:13
 add-c : tie.Need-add-c Inv-loop μ-loop
 add-c c = omega arith
 
--- src/lib.rt:141:5
 loop-less : tie.Need-loop-less Inv-loop μ-loop
 loop-less c = omega arith
 
--- src/lib.rt:141:5
 loop-again : tie.Need-loop-again Inv-loop μ-loop
 loop-again c =
-    let l = c .before .before .loop in
-    (omega arith,
-    simp length-set (l .inv .1),
-    filled-more (l .out) _ (l .c) _ (omega arith) (ap (λ (n : ℕ). n * c .before .before .before .args .stride) (c .bin-of .ensures)) (l .inv .2))
+    let l = c .before .before .loop in (
+      omega arith,
+      simp length-set (l .inv .1),
+      filled-more (l .out) _ (l .c) _ (omega arith) (ap (λ (n : ℕ). n * c .before .before .before .args .stride) (c .bin-of .ensures)) (l .inv .2),
+    )
 
--- src/lib.rt:135:1
 returns : tie.Need-returns Inv-loop μ-loop
 returns c =
     let l = c .before .loop in

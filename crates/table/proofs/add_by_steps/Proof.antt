@@ -12,11 +12,6 @@ use mathlib.Core.Path.{_≡_, refl, sym, ap, _∙_}
 use Prim.Native.Nat.{ℕ, _+_, _≤_, _-_, _*_, _<_, _/_}
 use Rattle.table.proofs.add_by_steps.Statement.{statement}
 use Rattle.table.proofs.add_by_steps.Tie as tie
-use Rattle.table.proofs.add_by_steps.Reads as reads
-use Rattle.table.proofs.add_by_steps.Lts as lts
-use Rattle.grid.proofs.colour.Reads as colour-reads
-use Rattle.table.proofs.add_colour.Reads as add-colour-reads
-use Rattle.table.proofs.weight_at.Reads as weight-at-reads
 
 abbrev Inv-loop : tie.InvT-loop
 Inv-loop g table₀ t1 t2 t3 colours weighted weights n i₀ table i =
@@ -25,53 +20,47 @@ Inv-loop g table₀ t1 t2 t3 colours weighted weights n i₀ table i =
 abbrev μ-loop : tie.MeasureT-loop
 μ-loop g table₀ t1 t2 t3 colours weighted weights n i₀ table i = n - i
 
--- src/lib.rt:276:5
 loop-holds : tie.Need-loop-holds Inv-loop μ-loop
 unfolding loaded listFrom sumOver
 loop-holds c =
-    let s = c .before .before .before in
-    (omega arith,
-    holds-same (holds-itself (binsOf (s .args .g)) (now (s .args .table)) (s .pre .0 .table .lent)) (λ p j h k. sym (add-zero _)))
+    let s = c .before .before .before in (
+      omega arith,
+      holds-same (holds-itself (binsOf (s .args .g)) (now (s .args .table)) (s .pre .0 .table .lent)) (λ p j h k. sym (add-zero _)),
+    )
 
--- src/lib.rt:277:42
 colour-requires : tie.Need-colour-requires Inv-loop μ-loop
 colour-requires c κs = omega arith
 
--- src/lib.rt:277:62
 weight-at-requires : tie.Need-weight-at-requires Inv-loop μ-loop
 weight-at-requires c κs = λ given. omega (arith, c .before .before .before .before .before .before .before .pre .0 .one-each given)
 
--- src/lib.rt:277:9
 add-colour-requires : tie.Need-add-colour-requires Inv-loop μ-loop
 add-colour-requires c κs =
     let s = c .before .before .before .before .before .before .before .before in
     let bytes : (k : ℕ) → getD (now (s .args .colours)) k 0 < 256 = λ k. omega (arith, c .before .before .before .before .before .before .shared-slice-known .given k) in
-    let here : c .before .before .before .before .loop .i < length (now (s .args .colours)) / 3 = omega arith in
-    ((s .pre .1, light (s .pre .0) bytes here (c .before .colour .ensures) (c .weight-at .ensures)),
-    has-room (s .pre .0) bytes here (c .before .colour .ensures) (c .weight-at .ensures) (c .before .before .before .before .loop .inv .1))
+    let here : c .before .before .before .before .loop .i < length (now (s .args .colours)) / 3 = omega arith in (
+      (s .pre .1, light (s .pre .0) bytes here (c .before .colour .ensures) (c .weight-at .ensures)),
+      has-room (s .pre .0) bytes here (c .before .colour .ensures) (c .weight-at .ensures) (c .before .before .before .before .loop .inv .1),
+    )
 
--- src/lib.rt:278:13
 add-i : tie.Need-add-i Inv-loop μ-loop
 add-i c = omega arith
 
--- src/lib.rt:276:5
 loop-less : tie.Need-loop-less Inv-loop μ-loop
 loop-less c = omega arith
 
--- src/lib.rt:276:5
 loop-again : tie.Need-loop-again Inv-loop μ-loop
 loop-again c =
     let s = c .before .before .before .before .before .before .before .before .before .before .before in
     let bytes : (k : ℕ) → getD (now (s .args .colours)) k 0 < 256 = λ k. omega (arith, c .before .before .before .before .before .before .before .before .before .shared-slice-known .given k) in
-    let here : c .before .before .before .before .before .before .before .loop .i < length (now (s .args .colours)) / 3 = omega arith in
-    (omega arith,
-    next-holds (s .pre .0) bytes here (c .before .before .before .before .colour .ensures) (c .before .before .before .weight-at .ensures) (c .before .before .before .before .before .before .before .loop .inv .1) (c .before .before .add-colour .ensures))
+    let here : c .before .before .before .before .before .before .before .loop .i < length (now (s .args .colours)) / 3 = omega arith in (
+      omega arith,
+      next-holds (s .pre .0) bytes here (c .before .before .before .before .colour .ensures) (c .before .before .before .weight-at .ensures) (c .before .before .before .before .before .before .before .loop .inv .1) (c .before .before .add-colour .ensures),
+    )
 
--- src/lib.rt:269:1
 same-length : tie.Need-same-length Inv-loop μ-loop
 same-length c = c .before .loop .inv .1 .lent ∙ sym (c .before .before .before .before .before .pre .0 .table .lent)
 
--- src/lib.rt:269:1
 returns : tie.Need-returns Inv-loop μ-loop
 unfolding batchOf
 returns c =

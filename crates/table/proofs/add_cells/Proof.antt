@@ -9,11 +9,6 @@ use mathlib.Core.Path.{_≡_, refl, sym, ap, _∙_}
 use Prim.Native.Nat.{ℕ, _+_, _≤_, _-_, _*_}
 use Rattle.table.proofs.add_cells.Statement.{statement}
 use Rattle.table.proofs.add_cells.Tie as tie
-use Rattle.table.proofs.add_cells.Reads as reads
-use Rattle.table.proofs.add_cells.Lts as lts
-use Rattle.grid.proofs.bins.Reads as bins-reads
-use Rattle.table.proofs.add_at.Reads as add-at-reads
-use Rattle.table.proofs.cell_at.Reads as cell-at-reads
 
 abbrev Inv-loop : tie.InvT-loop
 Inv-loop table₀ second n p₀ table p =
@@ -22,21 +17,17 @@ Inv-loop table₀ second n p₀ table p =
 abbrev μ-loop : tie.MeasureT-loop
 μ-loop table₀ second n p₀ table p = n - p
 
--- src/lib.rt:334:9
 bins-requires : tie.Need-bins-requires Inv-loop μ-loop
 bins-requires c κs = c .before .before .pre .0 .0 .accepted
 
--- src/lib.rt:336:5
 loop-holds : tie.Need-loop-holds Inv-loop μ-loop
 loop-holds c = (omega arith, none-added _ _ _ (c .before .before .before .pre .0 .0 .lent ∙ ap (λ (n : ℕ). 5 * n) (sym (c .bins .ensures))))
 
--- src/lib.rt:337:26
 cell-at-requires : tie.Need-cell-at-requires Inv-loop μ-loop
 cell-at-requires c κs =
     let s = c .before .before .before .before .before .before in
     record { fits = omega (arith, s .pre .0 .1 .lent, c .before .before .before .bins .ensures) }
 
--- src/lib.rt:337:9
 add-at-requires : tie.Need-add-at-requires Inv-loop μ-loop
 add-at-requires c κs =
     let s = c .before .before .before .before .before .before .before in
@@ -44,28 +35,24 @@ add-at-requires c κs =
     can-add (wide (now (s .args .table))) (wide (now (s .args .second))) (l .p) (l .inv .1) (omega arith) (c .cell-at .ensures)
     (λ j k. s .pre .1 (l .p) j (omega (arith, c .before .before .before .before .bins .ensures)) k)
 
--- src/lib.rt:338:13
 add-p : tie.Need-add-p Inv-loop μ-loop
 add-p c = omega (arith, c .before .before .before .before .before .before .before .bins .ensures, bins-high (c .before .before .before .before .before .before .before .before .before .before .pre .0 .0 .accepted))
 
--- src/lib.rt:336:5
 loop-less : tie.Need-loop-less Inv-loop μ-loop
 loop-less c = omega arith
 
--- src/lib.rt:336:5
 loop-again : tie.Need-loop-again Inv-loop μ-loop
 loop-again c =
     let s = c .before .before .before .before .before .before .before .before .before .before in
-    let l = c .before .before .before .before .before .before .loop in
-    (omega arith,
-    rw (c .before .before .add-at .ensures)
-    (one-added (wide (now (s .args .table))) (wide (now (s .args .second))) (l .p) (l .inv .1) (omega arith) (c .before .before .before .cell-at .ensures)))
+    let l = c .before .before .before .before .before .before .loop in (
+      omega arith,
+      rw (c .before .before .add-at .ensures)
+          (one-added (wide (now (s .args .table))) (wide (now (s .args .second))) (l .p) (l .inv .1) (omega arith) (c .before .before .before .cell-at .ensures)),
+    )
 
--- src/lib.rt:329:1
 same-length : tie.Need-same-length Inv-loop μ-loop
 same-length c = c .before .loop .inv .1 .lent ∙ ap (λ (n : ℕ). 5 * n) (c .before .before .bins .ensures) ∙ sym (c .before .before .before .before .before .pre .0 .0 .lent)
 
--- src/lib.rt:329:1
 returns : tie.Need-returns Inv-loop μ-loop
 returns c =
     let s = c .before .before .before .before .before in

@@ -9,11 +9,6 @@ use mathlib.Core.Path.{_≡_, refl, _∙_}
 use borrow.Author.Needs.{needs}
 use Rattle.table.proofs.add_colour.Statement.{statement}
 use Rattle.table.proofs.add_colour.Tie as tie
-use Rattle.table.proofs.add_colour.Reads as reads
-use Rattle.table.proofs.add_colour.Lts as lts
-use Rattle.grid.proofs.place_by_steps.Reads as place-by-steps-reads
-use Rattle.table.proofs.add_at.Reads as add-at-reads
-use Rattle.table.proofs.share_of.Reads as share-of-reads
 
 -- the three steps lead to the place of the colour
 place-is : (s : tie.Start) {p : ℕ} → p ≡ getD (now (s .args .t1)) (s .args .x .c1) 0 + getD (now (s .args .t2)) (s .args .x .c2) 0 + getD (now (s .args .t3)) (s .args .x .c3) 0 → p ≡ colourPlace (s .args .g) (s .args .x)
@@ -21,26 +16,21 @@ place-is s e =
     let known = s .good .1 .1 .1 .1 .1 .0 in
     e ∙ steps-place (s .pre .0 .0) {x = s .args .x} (record { one = omega (arith, known); two = omega (arith, known); three = omega (arith, known) })
 
--- src/lib.rt:264:9
 place-by-steps-requires : tie.Need-place-by-steps-requires
 place-by-steps-requires c κs = search needs
 
--- src/lib.rt:265:22
 share-of-requires : tie.Need-share-of-requires
 share-of-requires c κs = search needs
 
--- src/lib.rt:265:5
 add-at-requires : tie.Need-add-at-requires
-add-at-requires c κs =     rw (place-is (c .before .before .before .before) (c .before .before .place-by-steps .ensures), c .share-of .ensures) (c .before .before .before .before .pre .1)
+add-at-requires c κs = rw (place-is (c .before .before .before .before) (c .before .before .place-by-steps .ensures), c .share-of .ensures) (c .before .before .before .before .pre .1)
 
--- src/lib.rt:259:1
 same-length : tie.Need-same-length
 same-length c = search needs
 
--- src/lib.rt:259:1
 returns : tie.Need-returns
 unfolding withColour
-returns c =     rw (c .before .before .add-at .ensures, place-is (c .before .before .before .before .before .before .before) (c .before .before .before .before .before .place-by-steps .ensures), c .before .before .before .share-of .ensures) refl
+returns c = rw (c .before .before .add-at .ensures, place-is (c .before .before .before .before .before .before .before) (c .before .before .before .before .before .place-by-steps .ensures), c .before .before .before .share-of .ensures) refl
 
 pub add-colour-spec : {M : Type 1} → statement M
 add-colour-spec =

@@ -7,8 +7,6 @@ use mathlib.Core.Path.{_≡_, sym, ap, _∙_}
 use Prim.Native.Nat.{_≤_, _-_, _*_, ℕ, _+_}
 use Rattle.table.proofs.block_sum.Statement.{statement}
 use Rattle.table.proofs.block_sum.Tie as tie
-use Rattle.table.proofs.block_sum.Reads as reads
-use Rattle.table.proofs.block_sum.Lts as lts
 
 abbrev Inv-loop : tie.InvT-loop
 Inv-loop weights at end sum₀ i₀ sum i =
@@ -17,45 +15,38 @@ Inv-loop weights at end sum₀ i₀ sum i =
 abbrev μ-loop : tie.MeasureT-loop
 μ-loop weights at end sum₀ i₀ sum i = end - i
 
--- src/lib.rt:205:5
 loop-holds : tie.Need-loop-holds Inv-loop μ-loop
 loop-holds c = (omega arith, omega arith, sym (run-none _ _), omega arith)
 
--- src/lib.rt:206:21
 mul-sum : tie.Need-mul-sum Inv-loop μ-loop
 mul-sum c = omega arith
 
--- src/lib.rt:206:21
 shared-slice-read-sum : tie.Need-shared-slice-read-sum Inv-loop μ-loop
 shared-slice-read-sum c = omega arith
 
--- src/lib.rt:206:21
 cast-sum : tie.Need-cast-sum Inv-loop μ-loop
 cast-sum c = omega (arith, c .shared-slice-known .given (c .before .before .loop .i))
 
--- src/lib.rt:206:15
 add-sum : tie.Need-add-sum Inv-loop μ-loop
 add-sum c = omega (arith, c .shared-slice-known .given (c .before .before .loop .i))
 
--- src/lib.rt:207:13
 add-i : tie.Need-add-i Inv-loop μ-loop
 add-i c = omega arith
 
--- src/lib.rt:205:5
 loop-less : tie.Need-loop-less Inv-loop μ-loop
 loop-less c = omega arith
 
--- src/lib.rt:205:5
 loop-again : tie.Need-loop-again Inv-loop μ-loop
 loop-again c =
     let l = c .before .before .loop in
-    let w = c .shared-slice-known .given (l .i) in
-    (omega arith, omega arith,
-    ap (λ (n : ℕ). n + getD (now (c .before .before .before .args .weights)) (l .i) 0) (l .inv .2)
-    ∙ sym (run-more _ (l .i) _ (l .inv .0)),
-    omega (arith, w))
+    let w = c .shared-slice-known .given (l .i) in (
+      omega arith,
+      omega arith,
+      ap (λ (n : ℕ). n + getD (now (c .before .before .before .args .weights)) (l .i) 0) (l .inv .2)
+          ∙ sym (run-more _ (l .i) _ (l .inv .0)),
+      omega (arith, w),
+    )
 
--- src/lib.rt:199:1
 returns : tie.Need-returns Inv-loop μ-loop
 returns c =
     let l = c .before .loop in

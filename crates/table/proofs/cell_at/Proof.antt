@@ -4,70 +4,52 @@ use mathlib.Core.Path.{refl}
 use borrow.Author.Needs.{needs}
 use Rattle.table.proofs.cell_at.Statement.{statement}
 use Rattle.table.proofs.cell_at.Tie as tie
-use Rattle.table.proofs.cell_at.Reads as reads
-use Rattle.table.proofs.cell_at.Lts as lts
 
--- src/lib.rt:35:14
 mul-at : tie.Need-mul-at
 mul-at c = search needs
 
--- src/lib.rt:37:17
 mul-t4 : tie.Need-mul-t4
 mul-t4 c = search needs
 
--- src/lib.rt:37:17
 shared-slice-read-t6 : tie.Need-shared-slice-read-t6
 shared-slice-read-t6 c = search needs
 
--- src/lib.rt:38:21
 add-t7 : tie.Need-add-t7
 add-t7 c = search needs
 
--- src/lib.rt:38:15
 mul-t8 : tie.Need-mul-t8
 mul-t8 c = search needs
 
--- src/lib.rt:38:15
 shared-slice-read-t10 : tie.Need-shared-slice-read-t10
 shared-slice-read-t10 c = search needs
 
--- src/lib.rt:39:21
 add-t11 : tie.Need-add-t11
 add-t11 c = search needs
 
--- src/lib.rt:39:15
 mul-t12 : tie.Need-mul-t12
 mul-t12 c = search needs
 
--- src/lib.rt:39:15
 shared-slice-read-t14 : tie.Need-shared-slice-read-t14
 shared-slice-read-t14 c = search needs
 
--- src/lib.rt:40:21
 add-t15 : tie.Need-add-t15
 add-t15 c = search needs
 
--- src/lib.rt:40:15
 mul-t16 : tie.Need-mul-t16
 mul-t16 c = search needs
 
--- src/lib.rt:40:15
 shared-slice-read-t18 : tie.Need-shared-slice-read-t18
 shared-slice-read-t18 c = search needs
 
--- src/lib.rt:41:24
 add-t19 : tie.Need-add-t19
 add-t19 c = search needs
 
--- src/lib.rt:41:18
 mul-t20 : tie.Need-mul-t20
 mul-t20 c = search needs
 
--- src/lib.rt:41:18
 shared-slice-read-t22 : tie.Need-shared-slice-read-t22
 shared-slice-read-t22 c = search needs
 
--- src/lib.rt:31:1
 returns : tie.Need-returns
 unfolding cellOf wide
 returns c = rw add-zero refl

@@ -3,18 +3,13 @@ use Rattle.table.proofs.Soundness.{and-first, and-stop}
 use borrow.Author.Tests.{le-leb, lt-leb}
 use Rattle.table.proofs.is_bare.Statement.{statement}
 use Rattle.table.proofs.is_bare.Tie as tie
-use Rattle.table.proofs.is_bare.Reads as reads
-use Rattle.table.proofs.is_bare.Lts as lts
 
--- src/lib.rt:103:9
 returns : tie.Need-returns
 returns c = sym (and-stop _ (lt-leb _ _ (c .if1 .taken)))
 
--- src/lib.rt:106:9
 returns-2 : tie.Need-returns-2
 returns-2 c = sym (and-first _ (le-leb _ _ (c .before .before .if1 .left)) ∙ and-stop _ (lt-leb _ _ (c .if2 .taken)))
 
--- src/lib.rt:109:9
 returns-3 : tie.Need-returns-3
 returns-3 c =
     sym
@@ -22,7 +17,6 @@ returns-3 c =
     ∙ and-first _ (le-leb _ _ (c .before .before .if2 .left))
     ∙ and-stop _ (lt-leb _ _ (c .if3 .taken)))
 
--- src/lib.rt:99:1
 returns-4 : tie.Need-returns-4
 returns-4 c =
     sym

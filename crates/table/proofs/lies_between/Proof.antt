@@ -4,25 +4,19 @@ use native.Mathlib.Omega.{arith}
 use borrow.Author.Tests.{le-leb, lt-leb}
 use Rattle.table.proofs.lies_between.Statement.{statement}
 use Rattle.table.proofs.lies_between.Tie as tie
-use Rattle.table.proofs.lies_between.Reads as reads
-use Rattle.table.proofs.lies_between.Lts as lts
 
--- src/lib.rt:92:14
 mul-if1 : tie.Need-mul-if1
 mul-if1 c = omega (arith, mul-le-mul {n₂ = 4294967295} {m₂ = 255} (c .before .pre .1) (c .before .pre .0 .low))
 
--- src/lib.rt:93:9
 returns : tie.Need-returns
 unfolding between
 returns c = simp (lt-leb _ _ (c .if1 .taken))
 
--- src/lib.rt:95:12
 mul-result : tie.Need-mul-result
 mul-result c =
     let s = c .before .before .before in
     omega (arith, mul-le-mul {n₂ = 4294967295} {m₂ = 255} (s .pre .1) (s .pre .0 .high))
 
--- src/lib.rt:88:1
 returns-2 : tie.Need-returns-2
 unfolding between
 returns-2 c = simp (le-leb _ _ (c .before .if1 .left))

@@ -23,13 +23,6 @@ use Prim.Native.Nat.{ℕ, _+_, _*_, _/_, _≤_}
 use borrow.Author.Needs.{needs}
 use Rattle.table.proofs.load.Statement.{statement}
 use Rattle.table.proofs.load.Tie as tie
-use Rattle.table.proofs.load.Reads as reads
-use Rattle.table.proofs.load.Lts as lts
-use Rattle.grid.proofs.bins.Reads as bins-reads
-use Rattle.grid.proofs.grid_of.Reads as grid-of-reads
-use Rattle.table.proofs.add_colours.Reads as add-colours-reads
-use Rattle.table.proofs.batch_fits.Reads as batch-fits-reads
-use Rattle.table.proofs.weigh.Reads as weigh-reads
 
 -- the grid, once it is accepted
 abbrev grid : tie.After-known-told → Grid
@@ -79,68 +72,54 @@ tested k =
     k .batch-fits .ensures
     ∙ (λ i. leb (is-sound (k .before) .1 i + sym (batch-weight (now (a .colours)) (a .weighted) (now (a .weights)) (one-each (k .before .before .before .before .before .before .before .before))) i) limit)
 
--- src/lib.rt:309:25
 grid-of-requires : tie.Need-grid-of-requires
 grid-of-requires c κs = search needs
 
--- src/lib.rt:309:20
 enum-known-g : tie.Need-enum-known-g
 enum-known-g c = search needs
 
--- src/lib.rt:310:9
 enum-told : tie.Need-enum-told
 enum-told c = search needs
 
--- src/lib.rt:310:9
 returns : tie.Need-returns
 returns c =
     let a = c .before .before .before .before .before .before .args in
     load-no-grid (a .b1) (a .b2) (a .b3) (now (a .table)) (now (a .colours)) (a .weighted) (now (a .weights)) (cc)
 
--- src/lib.rt:313:9
 returns-2 : tie.Need-returns-2
 returns-2 c =
     let a = c .before .before .before .before .before .before .before .before .args in
     load-not-threes (a .b1) (a .b2) (a .b3) (now (a .table)) (now (a .colours)) (a .weighted) (now (a .weights)) (on-grid (c .before)) (c .if1 .taken)
 
--- src/lib.rt:318:13
 returns-3 : tie.Need-returns-3
 returns-3 c =
     let a = c .before .before .before .before .before .before .before .before .before .before .args in
     load-not-paired (a .b1) (a .b2) (a .b3) (now (a .table)) (now (a .colours)) (a .weighted) (now (a .weights)) (on-grid (c .before .before .before)) (c .before .before .if1 .left) (c .before .if2 .taken) (c .if3 .taken)
 
--- src/lib.rt:321:27
 bins-requires : tie.Need-bins-requires
 bins-requires c κs = accepted (c .before .before)
 
--- src/lib.rt:321:23
 mul-if4 : tie.Need-mul-if4
 mul-if4 c = omega (arith, c .bins .ensures, bins-high (accepted (c .before .before .before)))
 
--- src/lib.rt:322:9
 returns-4 : tie.Need-returns-4
 returns-4 c =
     let a = c .before .before .before .before .before .before .before .before .before .before .before .args in
     load-length (a .b1) (a .b2) (a .b3) (now (a .table)) (now (a .colours)) (a .weighted) (now (a .weights)) (on-grid (c .before .before .before .before)) (c .before .before .before .if1 .left) (paired (c .before .before))
     (λ e. c .if4 .taken (e ∙ ap (λ (n : ℕ). 5 * n) (sym (c .before .bins .ensures))))
 
--- src/lib.rt:324:31
 weigh-requires : tie.Need-weigh-requires
 weigh-requires c κs = the-table (c .before)
 
--- src/lib.rt:324:24
 enum-known-had : tie.Need-enum-known-had
 enum-known-had c = search needs
 
--- src/lib.rt:325:9
 enum-told-2 : tie.Need-enum-told-2
 enum-told-2 c = search needs
 
--- src/lib.rt:325:9
 same-length : tie.Need-same-length
 same-length c = search needs
 
--- src/lib.rt:325:9
 returns-5 : tie.Need-returns-5
 returns-5 c =
     let a = c .before .before .before .before .before .before .before .before .before .before .before .before .before .before .before .args in
@@ -148,37 +127,32 @@ returns-5 c =
     load-unsound (a .b1) (a .b2) (a .b3) (now (a .table)) (now (a .colours)) (a .weighted) (now (a .weights)) (on-grid (c .before .before .before .before .before .before .before .before)) (c .before .before .before .before .before .before .before .if1 .left) (paired (c .before .before .before .before .before .before)) (the-table (c .before .before .before .before) .lent)
     (weighed-unsound limit _ _ (sym (c .before .before .weigh .ensures) ∙ is))
 
--- src/lib.rt:327:9
 batch-fits-requires : tie.Need-batch-fits-requires
 batch-fits-requires c κs =
     let f = is-sound c in
     omega (arith, f .1, sound-total {v = wide (table (c .before .before .before .before .before))} (record { holds = f .0 }))
 
--- src/lib.rt:328:9
 same-length-2 : tie.Need-same-length-2
 same-length-2 c = search needs
 
--- src/lib.rt:328:9
 returns-6 : tie.Need-returns-6
 returns-6 c =
     let a = c .before .before .before .before .before .before .before .before .before .before .before .before .before .before .before .before .before .before .args in
     load-over (a .b1) (a .b2) (a .b3) (now (a .table)) (now (a .colours)) (a .weighted) (now (a .weights)) (on-grid (c .before .before .before .before .before .before .before .before .before .before .before)) (c .before .before .before .before .before .before .before .before .before .before .if1 .left) (paired (c .before .before .before .before .before .before .before .before .before)) (the-table (c .before .before .before .before .before .before .before) .lent) (is-sound (c .before .before) .0)
     (leb-false _ _ (sym (tested (c .before)) ∙ not-true _ (c .if5 .taken)))
 
--- src/lib.rt:330:5
 add-colours-requires : tie.Need-add-colours-requires
 add-colours-requires c κs =
     record {
       table = the-table (c .before .before .before .before .before .before .before .before);
       is-sound = is-sound (c .before .before .before) .0;
       one-each = one-each (c .before .before .before .before .before .before .before .before .before .before);
-      under = leb-true _ _ (sym (tested (c .before .before)) ∙ not-false _ (c .before .if5 .left)) }
+      under = leb-true _ _ (sym (tested (c .before .before)) ∙ not-false _ (c .before .if5 .left));
+    }
 
--- src/lib.rt:305:1
 same-length-3 : tie.Need-same-length-3
 same-length-3 c = search needs
 
--- src/lib.rt:305:1
 returns-7 : tie.Need-returns-7
 returns-7 c =
     let a = c .before .before .before .before .before .before .before .before .before .before .before .before .before .before .before .before .before .before .before .before .before .before .args in

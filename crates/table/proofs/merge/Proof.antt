@@ -20,12 +20,6 @@ use Prim.Native.Nat.{ℕ, _*_, _+_, _^_, _≤_, _<_}
 use borrow.Author.Needs.{needs}
 use Rattle.table.proofs.merge.Statement.{statement}
 use Rattle.table.proofs.merge.Tie as tie
-use Rattle.table.proofs.merge.Reads as reads
-use Rattle.table.proofs.merge.Lts as lts
-use Rattle.grid.proofs.bins.Reads as bins-reads
-use Rattle.grid.proofs.grid_of.Reads as grid-of-reads
-use Rattle.table.proofs.add_cells.Reads as add-cells-reads
-use Rattle.table.proofs.weigh.Reads as weigh-reads
 
 -- the grid, once it is accepted
 abbrev grid : tie.After-known-told → Grid
@@ -81,38 +75,30 @@ unfolding merged
 room g t s a u v l p j h k =
     lt-trans (number-below a (merge-sound (record { holds = u }) (record { holds = v }) l) p h (omega arith) j k) (lit< tt)
 
--- src/lib.rt:355:25
 grid-of-requires : tie.Need-grid-of-requires
 grid-of-requires c κs = search needs
 
--- src/lib.rt:355:20
 enum-known-g : tie.Need-enum-known-g
 enum-known-g c = search needs
 
--- src/lib.rt:356:9
 enum-told : tie.Need-enum-told
 enum-told c = search needs
 
--- src/lib.rt:356:9
 returns : tie.Need-returns
 returns c = let a = c .before .before .before .before .before .args in merge-no-grid (a .b1) (a .b2) (a .b3) (now (a .table)) (now (a .second)) (cc)
 
--- src/lib.rt:358:23
 bins-requires : tie.Need-bins-requires
 bins-requires c κs = accepted c
 
--- src/lib.rt:358:19
 mul-numbers : tie.Need-mul-numbers
 mul-numbers c = omega (arith, c .bins .ensures, bins-high (accepted (c .before)))
 
--- src/lib.rt:360:9
 returns-2 : tie.Need-returns-2
 returns-2 c =
     let a = c .before .before .before .before .before .before .before .before .args in
     merge-first-length (a .b1) (a .b2) (a .b3) (now (a .table)) (now (a .second)) (on-grid (c .before .before))
     (λ e. c .if1 .taken (e ∙ ap (λ (n : ℕ). 5 * n) (sym (c .before .bins .ensures))))
 
--- src/lib.rt:363:9
 returns-3 : tie.Need-returns-3
 returns-3 c =
     let a = c .before .before .before .before .before .before .before .before .before .args in
@@ -120,23 +106,18 @@ returns-3 c =
     merge-second-length (a .b1) (a .b2) (a .b3) (now (a .table)) (now (a .second)) (on-grid (c .before .before .before)) (c .before .if1 .left ∙ size)
     (λ e. c .if2 .taken (e ∙ sym size))
 
--- src/lib.rt:365:31
 weigh-requires : tie.Need-weigh-requires
 weigh-requires c κs = first-table (c .before)
 
--- src/lib.rt:365:24
 enum-known-had : tie.Need-enum-known-had
 enum-known-had c = search needs
 
--- src/lib.rt:366:9
 enum-told-2 : tie.Need-enum-told-2
 enum-told-2 c = search needs
 
--- src/lib.rt:366:9
 same-length : tie.Need-same-length
 same-length c = search needs
 
--- src/lib.rt:366:9
 returns-4 : tie.Need-returns-4
 returns-4 c =
     let a = c .before .before .before .before .before .before .before .before .before .before .before .before .before .args in
@@ -145,23 +126,18 @@ returns-4 c =
     merge-first-unsound (a .b1) (a .b2) (a .b3) (now (a .table)) (now (a .second)) (on-grid (k .before .before .before)) (first-table k .lent) (second-table k .lent)
     (weighed-unsound limit _ _ (sym (c .before .before .weigh .ensures) ∙ is))
 
--- src/lib.rt:368:32
 weigh-requires-2 : tie.Need-weigh-requires-2
 weigh-requires-2 c κs = second-table (c .before .before .before .before .before)
 
--- src/lib.rt:368:24
 enum-known-more : tie.Need-enum-known-more
 enum-known-more c = search needs
 
--- src/lib.rt:369:9
 enum-told-3 : tie.Need-enum-told-3
 enum-told-3 c = search needs
 
--- src/lib.rt:369:9
 same-length-2 : tie.Need-same-length-2
 same-length-2 c = search needs
 
--- src/lib.rt:369:9
 returns-5 : tie.Need-returns-5
 returns-5 c =
     let a = c .before .before .before .before .before .before .before .before .before .before .before .before .before .before .before .before .before .args in
@@ -171,15 +147,12 @@ returns-5 c =
     (first-sound (c .before .before .before) .0)
     (weighed-unsound limit _ _ (sym (c .before .before .weigh2 .ensures) ∙ is))
 
--- src/lib.rt:371:8
 sub-if3 : tie.Need-sub-if3
 sub-if3 c = under (c .before .before .before .before)
 
--- src/lib.rt:372:9
 same-length-3 : tie.Need-same-length-3
 same-length-3 c = search needs
 
--- src/lib.rt:372:9
 returns-6 : tie.Need-returns-6
 returns-6 c =
     let a = c .before .before .before .before .before .before .before .before .before .before .before .before .before .before .before .before .before .before .before .args in
@@ -189,20 +162,18 @@ returns-6 c =
     merge-over (a .b1) (a .b2) (a .b3) (now (a .table)) (now (a .second)) (on-grid (k .before .before .before)) (first-table k .lent) (second-table k .lent)
     (f .0) (s .0) (omega (arith, f .1, s .1, c .if3 .taken))
 
--- src/lib.rt:374:5
 add-cells-requires : tie.Need-add-cells-requires
 add-cells-requires c κs =
     let k = c .before .before .before .before .before .before .before .before .before .before .before in
     let f = first-sound (c .before .before .before .before .before .before) in
-    let s = second-sound (c .before .before) in
-    ((first-table k, second-table k),
-    room (grid (k .before .before .before)) (first k) (second k) (accepted (k .before .before .before)) (f .0) (s .0) (omega (arith, f .1, s .1, c .before .if3 .left, under (c .before .before .before .before .before .before))))
+    let s = second-sound (c .before .before) in (
+      (first-table k, second-table k),
+      room (grid (k .before .before .before)) (first k) (second k) (accepted (k .before .before .before)) (f .0) (s .0) (omega (arith, f .1, s .1, c .before .if3 .left, under (c .before .before .before .before .before .before))),
+    )
 
--- src/lib.rt:351:1
 same-length-4 : tie.Need-same-length-4
 same-length-4 c = search needs
 
--- src/lib.rt:351:1
 returns-7 : tie.Need-returns-7
 returns-7 c =
     let a = c .before .before .before .before .before .before .before .before .before .before .before .before .before .before .before .before .before .before .before .before .before .before .before .args in

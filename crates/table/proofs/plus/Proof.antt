@@ -4,35 +4,27 @@ use Rattle.table.specs.Cell.{numberOf, cellOf}
 use mathlib.Core.Path.{refl}
 use Rattle.table.proofs.plus.Statement.{statement}
 use Rattle.table.proofs.plus.Tie as tie
-use Rattle.table.proofs.plus.Reads as reads
-use Rattle.table.proofs.plus.Lts as lts
 
--- src/lib.rt:63:17
 add-t3 : tie.Need-add-t3
 unfolding numberOf
 add-t3 c = record { fits = c .before .before .pre 0 (lit< tt) }
 
--- src/lib.rt:64:15
 add-t4 : tie.Need-add-t4
 unfolding numberOf
 add-t4 c = record { fits = c .before .before .before .before .pre 1 (lit< tt) }
 
--- src/lib.rt:65:15
 add-t5 : tie.Need-add-t5
 unfolding numberOf
 add-t5 c = record { fits = c .before .before .before .before .before .before .pre 2 (lit< tt) }
 
--- src/lib.rt:66:15
 add-t6 : tie.Need-add-t6
 unfolding numberOf
 add-t6 c = record { fits = c .before .before .before .before .before .before .before .before .pre 3 (lit< tt) }
 
--- src/lib.rt:67:18
 add-t7 : tie.Need-add-t7
 unfolding numberOf
 add-t7 c = record { fits = c .before .before .before .before .before .before .before .before .before .before .pre 4 (lit< tt) }
 
--- src/lib.rt:58:1
 returns : tie.Need-returns
 unfolding plusCell cellOf numberOf
 returns c = refl

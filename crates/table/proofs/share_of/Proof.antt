@@ -7,78 +7,66 @@ use native.Mathlib.Omega.{arith}
 use borrow.Author.Needs.{needs}
 use Rattle.table.proofs.share_of.Statement.{statement}
 use Rattle.table.proofs.share_of.Tie as tie
-use Rattle.table.proofs.share_of.Reads as reads
-use Rattle.table.proofs.share_of.Lts as lts
 
--- src/lib.rt:235:14
 cast-y1 : tie.Need-cast-y1
 cast-y1 c = search needs
 
--- src/lib.rt:236:14
 cast-y2 : tie.Need-cast-y2
 cast-y2 c = search needs
 
--- src/lib.rt:237:14
 cast-y3 : tie.Need-cast-y3
 cast-y3 c = search needs
 
--- src/lib.rt:240:15
 mul-t6 : tie.Need-mul-t6
 mul-t6 c =
     let s = c .before .before .before in
     omega (arith, times-high 4294967295 255 (s .args .w) (s .args .x .c1) (s .pre) (omega arith))
 
--- src/lib.rt:241:15
 mul-t7 : tie.Need-mul-t7
 mul-t7 c =
     let s = c .before .before .before in
     omega (arith, times-high 4294967295 255 (s .args .w) (s .args .x .c2) (s .pre) (omega arith))
 
--- src/lib.rt:242:15
 mul-t8 : tie.Need-mul-t8
 mul-t8 c =
     let s = c .before .before .before in
     omega (arith, times-high 4294967295 255 (s .args .w) (s .args .x .c3) (s .pre) (omega arith))
 
--- src/lib.rt:243:23
 mul-t9 : tie.Need-mul-t9
 mul-t9 c =
     let s = c .before .before .before in
     omega (arith, square-byte (s .args .x .c1) (omega arith))
 
--- src/lib.rt:243:33
 mul-t10 : tie.Need-mul-t10
 mul-t10 c =
     let s = c .before .before .before in
     omega (arith, square-byte (s .args .x .c2) (omega arith))
 
--- src/lib.rt:243:23
 add-t11 : tie.Need-add-t11
 add-t11 c =
     let s = c .before .before .before in
     omega (arith, square-byte (s .args .x .c1) (omega arith), square-byte (s .args .x .c2) (omega arith))
 
--- src/lib.rt:243:43
 mul-t12 : tie.Need-mul-t12
 mul-t12 c =
     let s = c .before .before .before in
     omega (arith, square-byte (s .args .x .c3) (omega arith))
 
--- src/lib.rt:243:23
 add-t13 : tie.Need-add-t13
 add-t13 c =
     let s = c .before .before .before in
     omega (arith, square-byte (s .args .x .c1) (omega arith), square-byte (s .args .x .c2) (omega arith), square-byte (s .args .x .c3) (omega arith))
 
--- src/lib.rt:243:18
 mul-t14 : tie.Need-mul-t14
 mul-t14 c =
     let s = c .before .before .before in
-    omega (arith, times-high 4294967295 195075 (s .args .w)
-    (s .args .x .c1 * s .args .x .c1 + s .args .x .c2 * s .args .x .c2 + s .args .x .c3 * s .args .x .c3) (s .pre)
-    (omega (arith, square-byte (s .args .x .c1) (omega arith), square-byte (s .args .x .c2) (omega arith), square-byte (s .args .x .c3) (omega arith))))
+    omega (
+      arith,
+      times-high 4294967295 195075 (s .args .w)
+          (s .args .x .c1 * s .args .x .c1 + s .args .x .c2 * s .args .x .c2 + s .args .x .c3 * s .args .x .c3) (s .pre)
+          (omega (arith, square-byte (s .args .x .c1) (omega arith), square-byte (s .args .x .c2) (omega arith), square-byte (s .args .x .c3) (omega arith))),
+    )
 
--- src/lib.rt:231:1
 returns : tie.Need-returns
 unfolding cellOf share
 returns c = refl

@@ -15,9 +15,6 @@ use mathlib.Core.Path.{_≡_, refl, sym, ap, _∙_}
 use Prim.Native.Nat.{ℕ, _≤_, _-_, _*_}
 use Rattle.table.proofs.weigh.Statement.{statement}
 use Rattle.table.proofs.weigh.Tie as tie
-use Rattle.table.proofs.weigh.Reads as reads
-use Rattle.table.proofs.weigh.Lts as lts
-use Rattle.table.proofs.weigh_plane.Reads as weigh-plane-reads
 
 -- all bins are the planes' bins
 whole : (g : Grid) (v : View) → weighed limit g v ≡ scanned limit g v 0 (g .b1 * (g .b2 * g .b3)) 0
@@ -31,15 +28,14 @@ Inv-loop table g total₀ r₀ total r =
 abbrev μ-loop : tie.MeasureT-loop
 μ-loop table g total₀ r₀ total r = g .b1 - r
 
--- src/lib.rt:186:5
 loop-holds : tie.Need-loop-holds Inv-loop μ-loop
 loop-holds c =
-    let s = c .before in
-    (omega arith,
-    ap (λ (n : ℕ). scanned limit (s .args .g) (wide (now (s .args .table))) 0 n 0) (zero-mul (s .args .g .b2 * s .args .g .b3))
-    ∙ scan-none limit (s .args .g) (wide (now (s .args .table))) 0 0 (omega arith))
+    let s = c .before in (
+      omega arith,
+      ap (λ (n : ℕ). scanned limit (s .args .g) (wide (now (s .args .table))) 0 n 0) (zero-mul (s .args .g .b2 * s .args .g .b3))
+          ∙ scan-none limit (s .args .g) (wide (now (s .args .table))) 0 0 (omega arith),
+    )
 
--- src/lib.rt:187:15
 weigh-plane-requires : tie.Need-weigh-plane-requires Inv-loop μ-loop
 weigh-plane-requires c κs =
     let s = c .before .before .before .before in
@@ -48,17 +44,15 @@ weigh-plane-requires c κs =
     record {
       table = s .pre;
       inside = record { accepted = a; one = c .if1 .taken; two = omega (arith, size-low (two a)); three = omega (arith, size-low (three a)) };
-      under = scan-under limit (s .args .g) (wide (now (s .args .table))) _ _ _ (l .total) (l .inv .1) }
+      under = scan-under limit (s .args .g) (wide (now (s .args .table))) _ _ _ (l .total) (l .inv .1);
+    }
 
--- src/lib.rt:188:28
 enum-known-x : tie.Need-enum-known-x Inv-loop μ-loop
 enum-known-x c = search needs
 
--- src/lib.rt:189:33
 enum-told : tie.Need-enum-told Inv-loop μ-loop
 enum-told c = search needs
 
--- src/lib.rt:189:33
 returns : tie.Need-returns Inv-loop μ-loop
 returns c =
     let s = c .before .before .before .before .before .before .before in
@@ -72,29 +66,26 @@ returns c =
     (block-more limit g v 0 (g .b2 * g .b3) (l .r) 0 (l .total) Unsound (l .inv .1) (plane-start g (l .r))
     (sym bad ∙ c .before .before .weigh-plane .ensures)))
 
--- src/lib.rt:191:13
 add-r : tie.Need-add-r Inv-loop μ-loop
 add-r c =
     let s = c .before .before .before .before .before .before .before .before in
     omega (arith, c .before .before .before .before .if1 .taken, size-high (one (s .pre .accepted)))
 
--- src/lib.rt:186:5
 loop-less : tie.Need-loop-less Inv-loop μ-loop
 loop-less c = omega arith
 
--- src/lib.rt:186:5
 loop-again : tie.Need-loop-again Inv-loop μ-loop
 loop-again c =
     let s = c .before .before .before .before .before .before .before .before in
     let l = c .before .before .before .before .before .before .loop in
     let g = s .args .g in
     let v = wide (now (s .args .table)) in
-    let good : c .before .before .before .weigh-plane .result ≡ Total (c .before .x .given .0 .0) = cc in
-    (omega (arith, c .before .before .before .before .if1 .taken),
-    block-more limit g v 0 (g .b2 * g .b3) (l .r) 0 (l .total) (Total (c .before .x .given .0 .0)) (l .inv .1) (plane-start g (l .r))
-    (sym good ∙ c .before .before .before .weigh-plane .ensures))
+    let good : c .before .before .before .weigh-plane .result ≡ Total (c .before .x .given .0 .0) = cc in (
+      omega (arith, c .before .before .before .before .if1 .taken),
+      block-more limit g v 0 (g .b2 * g .b3) (l .r) 0 (l .total) (Total (c .before .x .given .0 .0)) (l .inv .1) (plane-start g (l .r))
+          (sym good ∙ c .before .before .before .weigh-plane .ensures),
+    )
 
--- src/lib.rt:180:1
 returns-2 : tie.Need-returns-2 Inv-loop μ-loop
 returns-2 c =
     let s = c .before .before .before .before in

@@ -14,9 +14,6 @@ use mathlib.Core.Path.{_≡_, refl, sym, ap, _∙_}
 use Prim.Native.Nat.{ℕ, _≤_, _-_, _*_}
 use Rattle.table.proofs.weigh_plane.Statement.{statement}
 use Rattle.table.proofs.weigh_plane.Tie as tie
-use Rattle.table.proofs.weigh_plane.Reads as reads
-use Rattle.table.proofs.weigh_plane.Lts as lts
-use Rattle.table.proofs.weigh_row.Reads as weigh-row-reads
 
 abbrev Inv-loop : tie.InvT-loop
 Inv-loop table g r had total₀ gr₀ total gr =
@@ -25,15 +22,14 @@ Inv-loop table g r had total₀ gr₀ total gr =
 abbrev μ-loop : tie.MeasureT-loop
 μ-loop table g r had total₀ gr₀ total gr = g .b2 - gr
 
--- src/lib.rt:169:5
 loop-holds : tie.Need-loop-holds Inv-loop μ-loop
 loop-holds c =
-    let s = c .before in
-    (omega arith,
-    ap (λ (n : ℕ). scanned limit (s .args .g) (wide (now (s .args .table))) (placeOf (s .args .g) (s .args .r) 0 0) n (s .args .had)) (zero-mul (s .args .g .b3))
-    ∙ scan-none limit (s .args .g) (wide (now (s .args .table))) _ (s .args .had) (s .pre .under))
+    let s = c .before in (
+      omega arith,
+      ap (λ (n : ℕ). scanned limit (s .args .g) (wide (now (s .args .table))) (placeOf (s .args .g) (s .args .r) 0 0) n (s .args .had)) (zero-mul (s .args .g .b3))
+          ∙ scan-none limit (s .args .g) (wide (now (s .args .table))) _ (s .args .had) (s .pre .under),
+    )
 
--- src/lib.rt:170:15
 weigh-row-requires : tie.Need-weigh-row-requires Inv-loop μ-loop
 weigh-row-requires c κs =
     let s = c .before .before .before .before in
@@ -41,17 +37,15 @@ weigh-row-requires c κs =
     record {
       table = s .pre .table;
       inside = record { accepted = s .pre .table .accepted; one = s .pre .inside .one; two = c .if1 .taken; three = s .pre .inside .three };
-      under = scan-under limit (s .args .g) (wide (now (s .args .table))) _ _ _ (l .total) (l .inv .1) }
+      under = scan-under limit (s .args .g) (wide (now (s .args .table))) _ _ _ (l .total) (l .inv .1);
+    }
 
--- src/lib.rt:171:28
 enum-known-x : tie.Need-enum-known-x Inv-loop μ-loop
 enum-known-x c = search needs
 
--- src/lib.rt:172:33
 enum-told : tie.Need-enum-told Inv-loop μ-loop
 enum-told c = search needs
 
--- src/lib.rt:172:33
 returns : tie.Need-returns Inv-loop μ-loop
 returns c =
     let s = c .before .before .before .before .before .before .before in
@@ -64,29 +58,26 @@ returns c =
     (block-more limit g v (placeOf g (s .args .r) 0 0) (g .b3) (l .gr) (s .args .had) (l .total) Unsound (l .inv .1) (row-start g (s .args .r) (l .gr))
     (sym bad ∙ c .before .before .weigh-row .ensures)))
 
--- src/lib.rt:174:14
 add-gr : tie.Need-add-gr Inv-loop μ-loop
 add-gr c =
     let s = c .before .before .before .before .before .before .before .before in
     omega (arith, c .before .before .before .before .if1 .taken, size-high (two (s .pre .table .accepted)))
 
--- src/lib.rt:169:5
 loop-less : tie.Need-loop-less Inv-loop μ-loop
 loop-less c = omega arith
 
--- src/lib.rt:169:5
 loop-again : tie.Need-loop-again Inv-loop μ-loop
 loop-again c =
     let s = c .before .before .before .before .before .before .before .before in
     let l = c .before .before .before .before .before .before .loop in
     let g = s .args .g in
     let v = wide (now (s .args .table)) in
-    let good : c .before .before .before .weigh-row .result ≡ Total (c .before .x .given .0 .0) = cc in
-    (omega (arith, c .before .before .before .before .if1 .taken),
-    block-more limit g v (placeOf g (s .args .r) 0 0) (g .b3) (l .gr) (s .args .had) (l .total) (Total (c .before .x .given .0 .0)) (l .inv .1) (row-start g (s .args .r) (l .gr))
-    (sym good ∙ c .before .before .before .weigh-row .ensures))
+    let good : c .before .before .before .weigh-row .result ≡ Total (c .before .x .given .0 .0) = cc in (
+      omega (arith, c .before .before .before .before .if1 .taken),
+      block-more limit g v (placeOf g (s .args .r) 0 0) (g .b3) (l .gr) (s .args .had) (l .total) (Total (c .before .x .given .0 .0)) (l .inv .1) (row-start g (s .args .r) (l .gr))
+          (sym good ∙ c .before .before .before .weigh-row .ensures),
+    )
 
--- src/lib.rt:163:1
 returns-2 : tie.Need-returns-2 Inv-loop μ-loop
 returns-2 c =
     let s = c .before .before .before .before in

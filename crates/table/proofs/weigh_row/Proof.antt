@@ -19,12 +19,6 @@ use mathlib.Core.Path.{_≡_, refl, sym, ap, _∙_}
 use Prim.Native.Nat.{ℕ, _+_, _≤_, _-_, _*_, _<_}
 use Rattle.table.proofs.weigh_row.Statement.{statement}
 use Rattle.table.proofs.weigh_row.Tie as tie
-use Rattle.table.proofs.weigh_row.Reads as reads
-use Rattle.table.proofs.weigh_row.Lts as lts
-use Rattle.grid.proofs.place.Reads as place-reads
-use Rattle.grid.proofs.span_of.Reads as span-of-reads
-use Rattle.table.proofs.cell_at.Reads as cell-at-reads
-use Rattle.table.proofs.keeps_bounds.Reads as keeps-bounds-reads
 
 abbrev Inv-loop : tie.InvT-loop
 Inv-loop table g r gr had s1 s2 start total₀ b₀ total b =
@@ -36,44 +30,37 @@ Inv-loop table g r gr had s1 s2 start total₀ b₀ total b =
 abbrev μ-loop : tie.MeasureT-loop
 μ-loop table g r gr had s1 s2 start total₀ b₀ total b = g .b3 - b
 
--- src/lib.rt:143:9
 span-of-requires : tie.Need-span-of-requires Inv-loop μ-loop
 span-of-requires c κs = row-one (c .before .pre)
 
--- src/lib.rt:144:9
 span-of-requires-2 : tie.Need-span-of-requires-2 Inv-loop μ-loop
 span-of-requires-2 c κs = row-two (c .before .before .pre)
 
--- src/lib.rt:145:9
 place-requires : tie.Need-place-requires Inv-loop μ-loop
 place-requires c κs = c .before .before .before .pre .inside
 
--- src/lib.rt:148:5
 loop-holds : tie.Need-loop-holds Inv-loop μ-loop
 unfolding sumFrom allFrom
 loop-holds c = (omega arith, sym (add-zero _), refl, c .before .before .before .before .pre .under)
 
--- src/lib.rt:149:32
 add-cell-at : tie.Need-add-cell-at Inv-loop μ-loop
 add-cell-at c =
     let s = c .before .before .before .before .before .before .before in
     omega (arith, row-place (s .pre) (c .before .before .loop .b) (c .if1 .taken) (c .before .before .before .place .ensures), bins-high (s .pre .table .accepted))
 
--- src/lib.rt:149:13
 cell-at-requires : tie.Need-cell-at-requires Inv-loop μ-loop
 cell-at-requires c κs = row-cell (c .before .before .before .before .before .before .before .pre) (c .before .before .loop .b) (c .if1 .taken) (c .before .before .before .place .ensures)
 
--- src/lib.rt:150:34
 span-of-requires-3 : tie.Need-span-of-requires-3 Inv-loop μ-loop
 span-of-requires-3 c κs = row-three (c .before .before .before .before .before .before .before .before .pre) (c .before .before .before .loop .b) (c .before .if1 .taken)
 
--- src/lib.rt:150:13
 keeps-bounds-requires : tie.Need-keeps-bounds-requires Inv-loop μ-loop
 keeps-bounds-requires c κs =
-    let s = c .before .before .before .before .before .before .before .before .before in
-    (rw (c .before .before .before .before .before .before .before .span-of .ensures) (byte-span _ _ (row-one (s .pre))),
-    rw (c .before .before .before .before .before .before .span-of2 .ensures) (byte-span _ _ (row-two (s .pre))),
-    rw (c .span-of3 .ensures) (byte-span _ _ (row-three (s .pre) (c .before .before .before .before .loop .b) (c .before .before .if1 .taken))))
+    let s = c .before .before .before .before .before .before .before .before .before in (
+      rw (c .before .before .before .before .before .before .before .span-of .ensures) (byte-span _ _ (row-one (s .pre))),
+      rw (c .before .before .before .before .before .before .span-of2 .ensures) (byte-span _ _ (row-two (s .pre))),
+      rw (c .span-of3 .ensures) (byte-span _ _ (row-three (s .pre) (c .before .before .before .before .loop .b) (c .before .before .if1 .taken))),
+    )
 
 -- the bin at hand
 abbrev grid : tie.After-keeps-bounds Inv-loop μ-loop → Grid
@@ -107,9 +94,9 @@ passed k e =
     record {
       bounds = and-right within kept (tested k ∙ e);
       light = rw (weighs k) (leb-true (view k (here k) 0) limit (and-left within kept (tested k ∙ e)));
-      room = lt-of-lt-of-le (k .before .before .before .if1 .taken) (size-high (three (k .before .before .before .before .before .before .before .before .before .before .pre .table .accepted))) }
+      room = lt-of-lt-of-le (k .before .before .before .if1 .taken) (size-high (three (k .before .before .before .before .before .before .before .before .before .before .pre .table .accepted)));
+    }
 
--- src/lib.rt:151:13
 returns : tie.Need-returns Inv-loop μ-loop
 returns c =
     let k = c .before in
@@ -119,34 +106,30 @@ returns c =
     (here k) (omega arith) (omega (arith, k .before .before .before .if1 .taken))
     (tested k ∙ not-true _ (c .if2 .taken))))
 
--- src/lib.rt:153:17
 add-total : tie.Need-add-total Inv-loop μ-loop
 add-total c =
     let f = passed (c .before .before) (not-false _ (c .before .if2 .left)) in
     omega (arith, f .light, f .room, c .before .before .before .before .before .before .before .loop .inv .3)
 
--- src/lib.rt:154:13
 add-b : tie.Need-add-b Inv-loop μ-loop
 add-b c =
     let f = passed (c .before .before) (not-false _ (c .before .if2 .left)) in
     omega (arith, f .room)
 
--- src/lib.rt:148:5
 loop-less : tie.Need-loop-less Inv-loop μ-loop
 loop-less c = omega arith
 
--- src/lib.rt:148:5
 loop-again : tie.Need-loop-again Inv-loop μ-loop
 loop-again c =
     let k = c .before .before in
     let l = k .before .before .before .before .before .loop in
-    let f = passed k (not-false _ (c .before .if2 .left)) in
-    (omega (arith, k .before .before .before .if1 .taken),
-    (λ i. l .inv .1 i + weighs k i) ∙ add-assoc _ _ _ ∙ ap (λ (n : ℕ). k .before .before .before .before .before .before .before .before .before .before .args .had + n) (sym (sum-last _ (l .b) _)),
-    all-last _ (l .b) _ ∙ (λ i. l .inv .2 i && f .bounds i),
-    omega (arith, f .light, l .inv .3))
+    let f = passed k (not-false _ (c .before .if2 .left)) in (
+      omega (arith, k .before .before .before .if1 .taken),
+      (λ i. l .inv .1 i + weighs k i) ∙ add-assoc _ _ _ ∙ ap (λ (n : ℕ). k .before .before .before .before .before .before .before .before .before .before .args .had + n) (sym (sum-last _ (l .b) _)),
+      all-last _ (l .b) _ ∙ (λ i. l .inv .2 i && f .bounds i),
+      omega (arith, f .light, l .inv .3),
+    )
 
--- src/lib.rt:157:9
 returns-2 : tie.Need-returns-2 Inv-loop μ-loop
 returns-2 c =
     let s = c .before .before .before .before .before .before .before .before in
@@ -158,7 +141,6 @@ returns-2 c =
     (sym (scan-over limit (s .args .g) v from (l .b) (s .args .had) (omega (arith, l .inv .1)))
     ∙ ap (λ (n : ℕ). scanned limit (s .args .g) v from n (s .args .had)) all)
 
--- src/lib.rt:139:1
 returns-3 : tie.Need-returns-3 Inv-loop μ-loop
 returns-3 c =
     let s = c .before .before .before .before .before .before .before .before in

@@ -11,9 +11,6 @@ use mathlib.Core.Path.{_≡_, refl, sym, ap, _∙_}
 use Prim.Native.Nat.{ℕ, _+_, _≤_, _-_, _*_}
 use Rattle.table.proofs.weights_fit.Statement.{statement}
 use Rattle.table.proofs.weights_fit.Tie as tie
-use Rattle.table.proofs.weights_fit.Reads as reads
-use Rattle.table.proofs.weights_fit.Lts as lts
-use Rattle.table.proofs.block_sum.Reads as block-sum-reads
 
 abbrev Inv-loop : tie.InvT-loop
 Inv-loop weights had total₀ i₀ total i =
@@ -22,24 +19,19 @@ Inv-loop weights had total₀ i₀ total i =
 abbrev μ-loop : tie.MeasureT-loop
 μ-loop weights had total₀ i₀ total i = length weights - i
 
--- src/lib.rt:220:5
 loop-holds : tie.Need-loop-holds Inv-loop μ-loop
 unfolding sumFrom
 loop-holds c = (omega arith, sym (add-zero _), c .before .pre)
 
--- src/lib.rt:220:18
 sub-loop : tie.Need-sub-loop Inv-loop μ-loop
 sub-loop c = omega arith
 
--- src/lib.rt:221:47
 add-block-sum : tie.Need-add-block-sum Inv-loop μ-loop
 add-block-sum c = omega arith
 
--- src/lib.rt:221:25
 block-sum-requires : tie.Need-block-sum-requires Inv-loop μ-loop
 block-sum-requires c κs = (omega arith, omega arith, omega arith)
 
--- src/lib.rt:221:17
 add-total : tie.Need-add-total Inv-loop μ-loop
 add-total c =
     let l = c .before .before .loop in
@@ -47,7 +39,6 @@ add-total c =
     let each : (k : ℕ) → f k ≤ 4294967295 = λ k. omega (arith, c .before .before .before .shared-slice-known .given k) in
     omega (arith, c .block-sum .ensures, sum-bounded (l .i) ((l .i + 4096) - l .i) 4294967295 f each)
 
--- src/lib.rt:223:13
 returns : tie.Need-returns Inv-loop μ-loop
 returns c =
     let l = c .before .before .before .loop in
@@ -57,26 +48,21 @@ returns c =
     (lt-leb (c .before .before .before .before .before .args .had + sumFrom 0 n f) limit
     (omega (arith, c .before .block-sum .ensures, sum-split (l .i) (l .i + 4096) f (omega arith), sum-split (l .i + 4096) n f (omega arith))))
 
--- src/lib.rt:225:13
 add-i : tie.Need-add-i Inv-loop μ-loop
 add-i c = omega arith
 
--- src/lib.rt:220:5
 loop-less : tie.Need-loop-less Inv-loop μ-loop
 loop-less c = omega arith
 
--- src/lib.rt:220:5
 loop-again : tie.Need-loop-again Inv-loop μ-loop
 loop-again c =
     let l = c .before .before .before .loop in
     let f : ℕ → ℕ = λ k. getD (now (c .before .before .before .before .before .args .weights)) k 0 in
     (omega arith, omega (arith, c .before .block-sum .ensures, sum-split (l .i) (l .i + 4096) f (omega arith)), omega arith)
 
--- src/lib.rt:227:13
 block-sum-requires-2 : tie.Need-block-sum-requires-2 Inv-loop μ-loop
 block-sum-requires-2 c κs = (omega arith, omega arith, omega arith)
 
--- src/lib.rt:227:5
 add-result : tie.Need-add-result Inv-loop μ-loop
 add-result c =
     let l = c .before .before .loop in
@@ -85,7 +71,6 @@ add-result c =
     let each : (k : ℕ) → f k ≤ 4294967295 = λ k. omega (arith, c .before .before .before .shared-slice-known .given k) in
     omega (arith, c .block-sum2 .ensures, sum-bounded (l .i) (n - l .i) 4294967295 f each)
 
--- src/lib.rt:214:1
 returns-2 : tie.Need-returns-2 Inv-loop μ-loop
 returns-2 c =
     let l = c .before .before .loop in
