@@ -4,3 +4,5 @@ pub mod Loading
 pub mod Scans
 pub mod Merging
 pub mod Calls
+pub mod Order
+pub mod Worked

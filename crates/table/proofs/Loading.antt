@@ -246,3 +246,10 @@ module _ {g : Grid} {t colours : List ℕ} {given : Bool} {weights : List ℕ} (
     next-holds r =
         rw (r ∙ ap (withColour g s) same)
         (colour-added (fits .table .accepted) sound-before batch all-bytes under h holds)
+
+-- the colours of any batch of bytes
+pub all-bytes-of : (colours : List ℕ) (given : Bool) (weights : List ℕ) → ((k : ℕ) → getD colours k 0 < 256) → AllBytes (batchOf colours given weights)
+unfolding batchOf weightedAt colourAt
+all-bytes-of colours given weights h =
+    prefix-bytes 0 (length colours / 3) (weightedAt colours given weights)
+    (λ k. record { one = h (3 * k); two = h (3 * k + 1); three = h (3 * k + 2) })

@@ -3,3 +3,4 @@ pub mod Sound
 pub mod Load
 pub mod Merge
 pub mod Scan
+pub mod Plan
