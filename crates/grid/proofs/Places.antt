@@ -1,20 +1,19 @@
 -- Places and their bins, in an accepted grid.
 -- Assumes nothing.
 use mathlib.Core.Path.{_≡_, refl, sym, ap, subst, _∙_}
-use Prim.Native.Nat.{ℕ, zero, suc, _+_, _*_, _/_, _%_, _^_, _≤_, _<_}
+use mathlib.Core.List.{List}
+use Prim.Native.Nat.{ℕ, zero, suc, _+_, _*_, _/_, _%_, _≤_, _<_}
 use native.Mathlib.Nat.{mul-le-mul, div-lt-iff-lt-mul, mod-lt, div-add-mod', add-mul, mul-assoc, mul-one, zero-add, lt-of-lt-of-le}
 use native.Mathlib.Omega.{arith}
 use lib.Arith.{digits-lt, digits-div, digits-mod}
-use mathlib.Core.List.{List}
 use lib.ListN.{getD}
 use Rattle.grid.specs.declared.Grid.{Grid}
 use Rattle.grid.specs.declared.Rgb.{Rgb}
 use Rattle.grid.specs.declared.Shift.{Shift}
-use Rattle.grid.specs.declared.Shift.the-variants as shift
-use Rattle.grid.specs.declared.Chosen.{Chosen}
-use Rattle.grid.specs.declared.Chosen.the-variants as chosen
 use Rattle.grid.specs.Size.{shiftOf, binOf}
 use Rattle.grid.specs.Grid.{choose, sizeAt, shiftAt, componentAt, gridWith, gridOf, Accepted, binsOf, placeOf, binAt, Inside, colourPlace, strideAt, stepsOf, StepsOf, Steps}
+use Rattle.grid.specs.declared.Shift.the-variants as shift
+use Rattle.grid.specs.declared.Chosen.the-variants as chosen
 use Rattle.grid.proofs.Range.{list-at}
 use Rattle.grid.proofs.Size.{Sized, sized, size-low, size-high, bin-lt}
 

@@ -3,13 +3,12 @@
 use mathlib.Core.Path.{_≡_, refl, sym, ap, _∙_}
 use mathlib.Core.Bool.{Bool, true, false, cond, _&&_}
 use mathlib.Core.List.{List, [], _∷_}
-use Prim.Native.Nat.{ℕ, suc, _+_, _-_, _*_, _/_, _%_, _^_, _≤_, _<_}
+use Prim.Native.Nat.{ℕ, suc, _+_, _-_, _*_, _%_, _^_, _≤_, _<_}
 use native.Mathlib.Nat.{mul-le-mul-left, mul-le-mul-right, div-lt-iff-lt-mul, div-mul-le-self, lt-div-mul-add, div-eq-of-lt-le, suc-mul, add-mul, one-mul, mod-eq-of-lt, lt-of-mul-lt-mul-right}
 use native.Mathlib.Omega.{arith}
 use borrow.Author.Tests.{eqb-true, leb-true}
 use lib.Dec.{eqb, leb}
 use lib.Pow.{pow-pos, pow-mono, pow-add, pow-lt}
-use Rattle.grid.specs.declared.Shift.{Shift}
 use Rattle.grid.specs.declared.Shift.the-variants.{By, Refused}
 use Rattle.grid.specs.Size.{choices, shiftIn, shiftOf, binOf, spanOf, InSize}
 use Rattle.grid.proofs.Range.{and-left, and-right}

@@ -1,7 +1,7 @@
 -- What a caller is told (document 01, "Numbers a caller gets back"). Definitions only.
-use Prim.Native.Nat.{ℕ, zero, suc}
 use mathlib.Core.Bool.{Bool, true, false}
 use mathlib.Core.List.{List}
+use Prim.Native.Nat.{ℕ, zero, suc}
 
 -- a number of the table, and the values that stand beside it
 pub record Answer : Type 0 where

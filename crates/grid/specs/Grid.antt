@@ -1,17 +1,17 @@
 -- Grids, bins and their places (document 01, "Grid and table"). Definitions only.
-use Prim.Native.Nat.{ℕ, zero, suc, _+_, _*_, _/_, _%_, _<_}
 use mathlib.Core.Path.{_≡_}
 use mathlib.Core.List.{List, [], _∷_}
+use Prim.Native.Nat.{ℕ, zero, suc, _+_, _*_, _/_, _%_, _<_}
 use lib.ListN.{getD}
 use Rattle.grid.specs.declared.Grid.{Grid}
 use Rattle.grid.specs.declared.Rgb.{Rgb}
 use Rattle.grid.specs.declared.Shift.{Shift}
-use Rattle.grid.specs.declared.Shift.the-variants as shift
 use Rattle.grid.specs.declared.Chosen.{Chosen}
-use Rattle.grid.specs.declared.Chosen.the-variants as chosen
 use Rattle.grid.specs.Range.{listFrom}
 use Rattle.grid.specs.Answer.{Answer}
 use Rattle.grid.specs.Size.{shiftOf, binOf}
+use Rattle.grid.specs.declared.Shift.the-variants as shift
+use Rattle.grid.specs.declared.Chosen.the-variants as chosen
 
 -- of three, the one of dimension 0, 1 or 2
 unfoldable pub choose : {A : Type 0} → ℕ → A → A → A → A

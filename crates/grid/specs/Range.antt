@@ -1,7 +1,7 @@
 -- What is said of n numbers from i on, one after the other. Definitions only.
-use Prim.Native.Nat.{ℕ, zero, suc, _+_}
 use mathlib.Core.Bool.{Bool, true, _&&_}
 use mathlib.Core.List.{List, [], _∷_}
+use Prim.Native.Nat.{ℕ, zero, suc, _+_}
 
 -- the list of f at each
 unfoldable pub listFrom : {A : Type 0} → ℕ → ℕ → (ℕ → A) → List A

@@ -1,7 +1,7 @@
 -- The seven sizes of a dimension and their shifts (document 01, "Grid and table"). Definitions only.
-use Prim.Native.Nat.{ℕ, _+_, _-_, _*_, _/_, _^_, _<_}
-use mathlib.Core.Bool.{Bool, cond}
+use mathlib.Core.Bool.{cond}
 use mathlib.Core.List.{List, [], _∷_}
+use Prim.Native.Nat.{ℕ, _+_, _-_, _*_, _/_, _^_, _<_}
 use lib.Dec.{eqb}
 use Rattle.grid.specs.declared.Shift.{Shift}
 use Rattle.grid.specs.declared.Shift.the-variants.{By, Refused}

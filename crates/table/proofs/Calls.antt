@@ -1,19 +1,18 @@
 -- How the calls end: which number they give and what they leave, case by case.
 -- Assumes nothing.
-use mathlib.Core.Path.{_≡_, refl, sym, ap, _∙_}
-use mathlib.Core.Bool.{Bool, true, false, cond, not, _&&_}
+use mathlib.Core.Path.{_≡_, refl, ap}
+use mathlib.Core.Bool.{Bool, true, false, not, _&&_}
 use mathlib.Core.List.{List}
 use Prim.Native.Nat.{ℕ, _+_, _*_, _/_, _%_, _≤_, _<_}
-use native.Mathlib.Omega.{arith}
 use borrow.Author.Tests.{eq-eqb, ne-eqb, lt-ltb, le-ltb}
-use lib.Dec.{eqb, ltb}
+use lib.Dec.{eqb}
 use lib.ListN.{length}
 use Rattle.grid.specs.declared.Grid.{Grid}
 use Rattle.grid.specs.declared.Chosen.{Chosen}
 use Rattle.grid.specs.declared.Chosen.the-variants as chosen
 use Rattle.grid.specs.Answer.{refuse, whenDone}
 use Rattle.grid.specs.Grid.{gridOf, gridAnswer, onGrid, numberOn, binsOf}
-use Rattle.table.specs.Cell.{View, wide, wideList}
+use Rattle.table.specs.Cell.{wide, wideList}
 use Rattle.table.specs.Sound.{limit, total, sound}
 use Rattle.table.specs.Load.{weightOf, batchOf, loaded, loadNumberOn, loadNumber, loadLater}
 use Rattle.table.specs.Merge.{merged, mergeNumberOn, mergeNumber, mergeLater}

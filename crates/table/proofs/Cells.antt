@@ -1,20 +1,19 @@
 -- Laws of cells, of the wide layout, and of what is written into it.
 -- Assumes nothing.
 use mathlib.Core.Path.{_≡_, refl, sym, ap, _∙_}
-use mathlib.Core.Bool.{Bool, cond}
+use mathlib.Core.Bool.{cond}
 use mathlib.Core.List.{List}
 use Prim.Native.Nat.{ℕ, zero, suc, _+_, _*_, _/_, _%_, _^_, _≤_, _<_}
-use native.Mathlib.Nat.{zero-add, add-zero}
+use native.Mathlib.Nat.{add-zero}
 use native.Mathlib.Decide.{ℕ-discrete}
 use native.Mathlib.Omega.{arith}
 use borrow.Author.Tests.{eq-eqb, ne-eqb}
 use lib.Dec.{eqb}
 use lib.ListN.{length, getD, set, length-set}
 use lib.Seq.{getD-set-same, getD-set-other}
-use Rattle.grid.specs.Range.{listFrom}
 use Rattle.grid.proofs.Range.{length-list, list-at, list-is}
 use Rattle.table.specs.declared.Cell.{Cell}
-use Rattle.table.specs.Cell.{View, numberOf, cellOf, wide, wideList, putAt, HasCell}
+use Rattle.table.specs.Cell.{View, numberOf, cellOf, wide, wideList, putAt}
 use Rattle.table.specs.Scan.{plusCell, Adds}
 
 pub number-cell : (f : ℕ → ℕ) (j : ℕ) → j < 5 → numberOf (cellOf f) j ≡ f j

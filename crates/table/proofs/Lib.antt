@@ -4,5 +4,6 @@ pub mod Loading
 pub mod Scans
 pub mod Merging
 pub mod Calls
+pub mod Laws
 pub mod Order
 pub mod Worked

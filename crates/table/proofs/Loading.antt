@@ -3,10 +3,10 @@
 use mathlib.Core.Path.{_≡_, refl, sym, ap, subst, _∙_}
 use mathlib.Core.Bool.{Bool, true, false, cond}
 use mathlib.Core.List.{List, [], _∷_, _++_, List·Permᴰ, Perm}
-use mathlib.Core.List as L
 use mathlib.Core.HLevel.{hedberg}
+use mathlib.Core.List as L
 use Prim.Native.Nat.{ℕ, zero, suc, _+_, _-_, _*_, _/_, _≤_, _<_}
-use native.Mathlib.Nat.{add-zero, zero-add, add-assoc, add-left-comm, mul-assoc, mul-le-mul, mul-le-mul-left, mul-comm, zero-mul, mul-one, lt-of-not-le, lt-trans}
+use native.Mathlib.Nat.{zero-add, add-assoc, add-left-comm, mul-le-mul, mul-le-mul-left, mul-comm, mul-one, lt-of-not-le, lt-trans}
 use native.Mathlib.Decide.{ℕ-discrete, decLe}
 use native.Mathlib.Omega.{arith}
 use borrow.Author.Tests.{eq-eqb, ne-eqb, le-leb, lt-leb}
@@ -14,10 +14,9 @@ use lib.Dec.{eqb, leb, lit<}
 use lib.ListN.{length, getD}
 use Rattle.grid.specs.declared.Grid.{Grid}
 use Rattle.grid.specs.declared.Rgb.{Rgb}
-use Rattle.grid.specs.declared.Span.{Span}
 use Rattle.grid.specs.Range.{listFrom, sumFrom}
 use Rattle.grid.specs.Size.{spanOf, binOf}
-use Rattle.grid.specs.Grid.{Accepted, binsOf, binAt, shiftAt, componentAt, colourPlace, colourAt, choose}
+use Rattle.grid.specs.Grid.{Accepted, binsOf, shiftAt, componentAt, colourPlace, colourAt, choose}
 use Rattle.grid.proofs.Range.{sum-last, sum-split, sum-plus, sum-zero, sum-hit, sum-equal, term-le, hit}
 use Rattle.grid.proofs.Size.{span-low, span-high}
 use Rattle.grid.proofs.Places.{Bytes, colour-bin, colour-place-lt}
@@ -253,3 +252,12 @@ unfolding batchOf weightedAt colourAt
 all-bytes-of colours given weights h =
     prefix-bytes 0 (length colours / 3) (weightedAt colours given weights)
     (λ k. record { one = h (3 * k); two = h (3 * k + 1); three = h (3 * k + 2) })
+
+-- number j of place p, after a load and by what one colour adds to it
+pub loaded-at : (g : Grid) (cs : List Weighted) (v : View) (p j : ℕ) → loaded g cs v p j ≡ v p j + sumOver cs (λ c. adds g c p j)
+unfolding loaded
+loaded-at g cs v p j = refl
+
+pub adds-at : (g : Grid) (c : Weighted) (p j : ℕ) → adds g c p j ≡ hit (colourPlace g (c .colour)) p (share c j)
+unfolding adds
+adds-at g c p j = refl

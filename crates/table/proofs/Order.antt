@@ -1,28 +1,26 @@
 -- Demand 3, the table's half: loaded in any order, in any batches, into one table or several merged in any order, a list of
 -- weighted colours gives the same table.
 -- Assumes nothing.
-use mathlib.Core.Path.{_≡_, refl, sym, ap, subst, _∙_}
-use mathlib.Core.Bool.{Bool, true, false, not, _&&_}
+use mathlib.Core.Path.{_≡_, refl, sym, ap, _∙_}
+use mathlib.Core.Bool.{true}
 use mathlib.Core.List.{List, [], _∷_, _++_, Perm}
-use Prim.Native.Nat.{ℕ, zero, suc, _+_, _*_, _/_, _%_, _≤_, _<_}
-use native.Mathlib.Nat.{add-assoc, zero-add}
+use Prim.Native.Nat.{ℕ, zero, suc, _+_, _*_, _≤_}
+use native.Mathlib.Nat.{zero-add}
 use native.Mathlib.Omega.{arith}
 use borrow.Author.Tests.{eq-eqb, le-ltb}
-use lib.Dec.{eqb}
-use lib.ListN.{length, getD, replicate, length-replicate, getD-replicate}
+use lib.ListN.{replicate, length-replicate, getD-replicate}
 use Rattle.grid.specs.declared.Grid.{Grid}
 use Rattle.grid.specs.declared.Chosen.the-variants as chosen
 use Rattle.grid.specs.Answer.{refuse, whenDone}
-use Rattle.grid.specs.Range.{listFrom}
-use Rattle.grid.specs.Grid.{gridOf, Accepted, binsOf, onGrid, numberOn, colourAt}
-use Rattle.grid.proofs.Places.{Bytes, Chose, chose}
-use Rattle.table.specs.Cell.{View, wide, wideList}
+use Rattle.grid.specs.Grid.{gridOf, Accepted, binsOf, onGrid, numberOn}
+use Rattle.grid.proofs.Places.{chose}
+use Rattle.table.specs.Cell.{wide, wideList}
 use Rattle.table.specs.Sound.{limit, total, sound}
-use Rattle.table.specs.Load.{Weighted, sumOver, adds, weightOf, loaded, weightedAt, batchOf, loadNumberOn, loadNumber, loadLater}
+use Rattle.table.specs.Load.{Weighted, sumOver, adds, weightOf, loaded, batchOf, loadNumberOn, loadNumber, loadLater}
 use Rattle.table.specs.Merge.{merged, mergeNumberOn, mergeNumber, mergeLater}
 use Rattle.table.specs.Plan.{Batch, Plan, empty, load, merge, Ran, Refused, Table, ranOf, thenLoad, thenMerge, run, leaves, malformed, firstOf, firstMalformed, BytesIn}
 use Rattle.table.proofs.Cells.{Holds, list-holds, holds-list, holds-same}
-use Rattle.table.proofs.Soundness.{Sound, Agree, zeros, zeros-sound, zeros-total, sound-same, total-same}
+use Rattle.table.proofs.Soundness.{zeros, zeros-sound, zeros-total, sound-same, total-same}
 use Rattle.table.proofs.Loading.{AllBytes, over-append, over-perm, load-total, load-sound, all-bytes-of}
 
 -- the table of a list of colours

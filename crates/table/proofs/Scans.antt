@@ -8,19 +8,18 @@ use native.Mathlib.Nat.{add-assoc, add-zero, zero-add, add-mul, one-mul, mul-ass
 use native.Mathlib.Omega.{arith}
 use borrow.Author.Tests.{le-leb, lt-leb, leb-true, leb-false}
 use lib.Dec.{leb}
-use lib.ListN.{length}
 use Rattle.grid.specs.declared.Grid.{Grid}
 use Rattle.grid.specs.declared.Span.{Span}
 use Rattle.grid.specs.Range.{sumFrom, allFrom}
 use Rattle.grid.specs.Size.{spanOf, InSize}
 use Rattle.grid.specs.Grid.{Accepted, Inside, choose, shiftAt, binAt, binsOf, placeOf}
-use Rattle.grid.proofs.Range.{sum-append, all-append, all-at, term-le, and-left, and-right, and-false, and-assoc}
+use Rattle.grid.proofs.Range.{sum-append, all-append, all-at, term-le, and-left, and-right, and-false}
 use Rattle.grid.proofs.Size.{in-size, span-byte}
 use Rattle.grid.proofs.Places.{one, two, three, place-lt, bin-of-place}
 use Rattle.table.specs.declared.Cell.{Cell}
 use Rattle.table.specs.declared.Weighed.{Weighed}
 use Rattle.table.specs.declared.Weighed.the-variants.{Total, Unsound}
-use Rattle.table.specs.Cell.{View, wide, cellOf, numberOf, HasCell}
+use Rattle.table.specs.Cell.{View, cellOf, numberOf, HasCell}
 use Rattle.table.specs.Sound.{limit, inBounds, spanAt, binSound, total, sound, weighed}
 use Rattle.table.specs.Scan.{scanned, Row, ByteSpan}
 use Rattle.table.proofs.Cells.{number-cell}

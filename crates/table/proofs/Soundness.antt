@@ -1,16 +1,15 @@
 -- Laws of sound tables, so that what stands above needs no inside of `sound`.
 -- Assumes nothing.
-use mathlib.Core.Path.{_≡_, refl, sym, ap, _∙_}
-use mathlib.Core.Bool.{Bool, true, false, cond, _&&_}
-use Prim.Native.Nat.{ℕ, zero, suc, _+_, _-_, _*_, _^_, _≤_, _<_}
-use native.Mathlib.Nat.{add-mul, mul-add, zero-mul, mul-zero, mul-le-mul, mul-le-mul-left, mul-le-mul-right, mul-comm, le-trans}
+use mathlib.Core.Path.{_≡_, refl, ap, _∙_}
+use mathlib.Core.Bool.{Bool, true, false, _&&_}
+use Prim.Native.Nat.{ℕ, zero, suc, _+_, _*_, _^_, _≤_, _<_}
+use native.Mathlib.Nat.{add-mul, zero-mul, mul-le-mul-left, mul-comm}
 use native.Mathlib.Omega.{arith}
 use borrow.Author.Tests.{le-leb, lt-leb, leb-true}
 use lib.Dec.{leb, leb·zero, lit<}
 use Rattle.grid.specs.declared.Grid.{Grid}
 use Rattle.grid.specs.declared.Span.{Span}
-use Rattle.grid.specs.Range.{sumFrom, allFrom}
-use Rattle.grid.specs.Size.{spanOf}
+use Rattle.grid.specs.Range.{allFrom}
 use Rattle.grid.specs.Grid.{Accepted, binsOf, binAt, shiftAt, choose}
 use Rattle.grid.proofs.Range.{sum-same, sum-plus, sum-zero, term-le, and-left, and-right, all-true, all-at, all-same}
 use Rattle.grid.proofs.Size.{in-size, span-byte}
@@ -213,3 +212,8 @@ pub merge-sound : {most : ℕ} {g : Grid} {v u : View} → Sound most g v → So
 unfolding merged
 merge-sound {most} {g} {v} {u} s r l =
     sound-by most g (merged v u) (λ p h. keeps-plus (sound-keeps s p h) (sound-keeps r p h)) (omega (arith, merge-total g v u))
+
+-- number j of place p, after a merge
+pub merged-at : (v u : View) (p j : ℕ) → merged v u p j ≡ v p j + u p j
+unfolding merged
+merged-at v u p j = refl

@@ -1,8 +1,10 @@
-use Rattle.grid.specs.Size.{binOf}
+-- `grid::bin_of` meets its contract: a shift right is a division by a power of two, and a byte stays a byte.
+-- Assumes nothing.
 use mathlib.Core.Path.{refl}
-use lib.Pow.{shr-le}
 use native.Mathlib.Omega.{arith}
 use borrow.Author.Needs.{needs}
+use lib.Pow.{shr-le}
+use Rattle.grid.specs.Size.{binOf}
 use Rattle.grid.proofs.bin_of.Statement.{statement}
 use Rattle.grid.proofs.bin_of.Tie as tie
 

@@ -1,7 +1,9 @@
-use Rattle.grid.proofs.Places.{rows-high, bins-high}
-use Rattle.grid.specs.Grid.{binsOf}
+-- `grid::bins` meets its contract: the products of three sizes of at most 128 fit.
+-- Assumes nothing.
 use mathlib.Core.Path.{refl}
 use native.Mathlib.Omega.{arith}
+use Rattle.grid.specs.Grid.{binsOf}
+use Rattle.grid.proofs.Places.{rows-high, bins-high}
 use Rattle.grid.proofs.bins.Statement.{statement}
 use Rattle.grid.proofs.bins.Tie as tie
 

@@ -1,6 +1,8 @@
-use Rattle.grid.specs.Grid.{colourAt}
+-- `grid::colour` meets its contract: three bytes, read where they stand.
+-- Assumes nothing.
 use mathlib.Core.Path.{refl}
 use borrow.Author.Needs.{needs}
+use Rattle.grid.specs.Grid.{colourAt}
 use Rattle.grid.proofs.colour.Statement.{statement}
 use Rattle.grid.proofs.colour.Tie as tie
 

@@ -1,8 +1,10 @@
+-- `grid::grid_of` meets its contract: each refused size refuses the grid, and three shifts make it.
+-- Assumes nothing.
+use mathlib.Core.Path.{_≡_, refl}
+use borrow.Author.Needs.{needs}
 use Rattle.grid.specs.Grid.{gridOf, gridWith}
 use Rattle.grid.specs.Size.{shiftOf}
 use Rattle.grid.specs.declared.Shift.the-variants.{By, Refused}
-use mathlib.Core.Path.{_≡_, refl}
-use borrow.Author.Needs.{needs}
 use Rattle.grid.proofs.grid_of.Statement.{statement}
 use Rattle.grid.proofs.grid_of.Tie as tie
 

@@ -1,7 +1,9 @@
-use Rattle.grid.proofs.Places.{row-lt, rows-high, place-lt, bins-high}
+-- `grid::place` meets its contract: a place is below the number of bins, so nothing on the way to it wraps.
+-- Assumes nothing.
+use mathlib.Core.Path.{refl}
 use native.Mathlib.Omega.{arith}
 use Rattle.grid.specs.Grid.{placeOf}
-use mathlib.Core.Path.{_≡_, refl}
+use Rattle.grid.proofs.Places.{row-lt, rows-high, place-lt, bins-high}
 use Rattle.grid.proofs.place.Statement.{statement}
 use Rattle.grid.proofs.place.Tie as tie
 

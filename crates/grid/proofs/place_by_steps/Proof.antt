@@ -1,6 +1,8 @@
-use Rattle.grid.proofs.Places.{steps-high}
+-- `grid::place_by_steps` meets its contract: the three steps of a grid add up to a place, which is small.
+-- Assumes nothing.
 use native.Mathlib.Omega.{arith}
 use borrow.Author.Needs.{needs}
+use Rattle.grid.proofs.Places.{steps-high}
 use Rattle.grid.proofs.place_by_steps.Statement.{statement}
 use Rattle.grid.proofs.place_by_steps.Tie as tie
 

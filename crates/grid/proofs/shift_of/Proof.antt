@@ -1,6 +1,8 @@
+-- `grid::shift_of` meets its contract: each arm is one of the seven choices, and what no arm takes is none of them.
+-- Assumes nothing.
+use mathlib.Core.Path.{refl}
 use borrow.Author.Tests.{ne-eqb}
 use Rattle.grid.specs.Size.{shiftOf, shiftIn, choices}
-use mathlib.Core.Path.{refl}
 use Rattle.grid.proofs.shift_of.Statement.{statement}
 use Rattle.grid.proofs.shift_of.Tie as tie
 

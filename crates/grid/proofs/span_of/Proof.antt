@@ -1,9 +1,11 @@
-use Rattle.grid.proofs.Size.{width-is, span-byte}
-use Rattle.grid.specs.Size.{spanOf}
-use lib.Pow.{pow-pos}
+-- `grid::span_of` meets its contract: the width is the power of two, and the span of a byte's bin ends at 255 at the latest.
+-- Assumes nothing.
 use mathlib.Core.Path.{refl}
 use native.Mathlib.Omega.{arith}
 use borrow.Author.Needs.{needs}
+use lib.Pow.{pow-pos}
+use Rattle.grid.specs.Size.{spanOf}
+use Rattle.grid.proofs.Size.{width-is, span-byte}
 use Rattle.grid.proofs.span_of.Statement.{statement}
 use Rattle.grid.proofs.span_of.Tie as tie
 

@@ -1,8 +1,10 @@
-use Rattle.grid.proofs.Size.{size-high}
+-- `grid::steps` meets its contract: each dimension has its own shift and stride.
+-- Assumes nothing.
 use Prim.Native.Nat.{_*_}
-use Rattle.grid.proofs.Places.{plane-high, one, two, three, choose-third}
-use Rattle.grid.specs.Grid.{stepsOf, shiftAt, strideAt, choose}
 use native.Mathlib.Omega.{arith}
+use Rattle.grid.specs.Grid.{stepsOf, shiftAt, strideAt, choose}
+use Rattle.grid.proofs.Size.{size-high}
+use Rattle.grid.proofs.Places.{plane-high, one, two, three, choose-third}
 use Rattle.grid.proofs.steps.Statement.{statement}
 use Rattle.grid.proofs.steps.Tie as tie
 

@@ -1,11 +1,13 @@
-use lib.Pow.{shr-le}
-use native.Mathlib.Nat.{mul-le-mul}
-use Rattle.grid.proofs.Range.{Filled, filled-more, list-is}
-use Rattle.grid.specs.Size.{binOf}
-use lib.ListN.{length, length-set}
-use native.Mathlib.Omega.{arith}
+-- `grid::strides` meets its contract: the loop fills the table from the front, one value after the other.
+-- Assumes nothing.
 use mathlib.Core.Path.{_≡_, refl, ap}
 use Prim.Native.Nat.{_≤_, _-_, _*_, ℕ}
+use native.Mathlib.Nat.{mul-le-mul}
+use native.Mathlib.Omega.{arith}
+use lib.Pow.{shr-le}
+use lib.ListN.{length, length-set}
+use Rattle.grid.specs.Size.{binOf}
+use Rattle.grid.proofs.Range.{Filled, filled-more, list-is}
 use Rattle.grid.proofs.strides.Statement.{statement}
 use Rattle.grid.proofs.strides.Tie as tie
 

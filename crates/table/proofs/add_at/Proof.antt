@@ -1,5 +1,7 @@
-use Rattle.table.proofs.Cells.{adds-fit}
+-- `table::add_at` meets its contract: the cell that was there, with the other added, is written back.
+-- Assumes nothing.
 use borrow.Author.Needs.{needs}
+use Rattle.table.proofs.Cells.{adds-fit}
 use Rattle.table.proofs.add_at.Statement.{statement}
 use Rattle.table.proofs.add_at.Tie as tie
 

@@ -1,15 +1,17 @@
-use lib.ListN.{length, getD}
-use Rattle.table.proofs.Loading.{light, has-room, next-holds}
+-- `table::add_by_steps` meets its contract: after i colours the table holds what it held with the first i of the batch loaded.
+-- Assumes nothing.
+use mathlib.Core.Path.{_≡_, sym, _∙_}
+use Prim.Native.Nat.{ℕ, _≤_, _-_, _<_, _/_}
 use native.Mathlib.Nat.{add-zero}
-use Rattle.table.proofs.Cells.{Holds, holds-same, holds-itself, holds-list}
-use Rattle.table.specs.Load.{loaded, weightedAt, Weighted, sumOver, batchOf}
-use Rattle.table.specs.Cell.{wide}
+use native.Mathlib.Omega.{arith}
+use denote.Ref.{now}
+use lib.ListN.{length, getD}
 use Rattle.grid.specs.Grid.{binsOf}
 use Rattle.grid.specs.Range.{listFrom}
-use denote.Ref.{now}
-use native.Mathlib.Omega.{arith}
-use mathlib.Core.Path.{_≡_, refl, sym, ap, _∙_}
-use Prim.Native.Nat.{ℕ, _+_, _≤_, _-_, _*_, _<_, _/_}
+use Rattle.table.specs.Load.{loaded, weightedAt, sumOver, batchOf}
+use Rattle.table.specs.Cell.{wide}
+use Rattle.table.proofs.Loading.{light, has-room, next-holds}
+use Rattle.table.proofs.Cells.{Holds, holds-same, holds-itself, holds-list}
 use Rattle.table.proofs.add_by_steps.Statement.{statement}
 use Rattle.table.proofs.add_by_steps.Tie as tie
 

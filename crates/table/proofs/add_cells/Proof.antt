@@ -1,12 +1,13 @@
+-- `table::add_cells` meets its contract: after p places the table holds its first p cells with those of the second added.
+-- Assumes nothing.
+use mathlib.Core.Path.{_≡_, sym, ap, _∙_}
+use Prim.Native.Nat.{ℕ, _≤_, _-_, _*_}
+use native.Mathlib.Omega.{arith}
+use denote.Ref.{now}
 use Rattle.grid.proofs.Places.{bins-high}
+use Rattle.table.specs.Cell.{wide}
 use Rattle.table.proofs.Cells.{Holds}
 use Rattle.table.proofs.Merging.{partly, none-added, one-added, can-add, all-added}
-use Rattle.table.specs.Cell.{wide}
-use Rattle.grid.specs.Grid.{binsOf}
-use denote.Ref.{now}
-use native.Mathlib.Omega.{arith}
-use mathlib.Core.Path.{_≡_, refl, sym, ap, _∙_}
-use Prim.Native.Nat.{ℕ, _+_, _≤_, _-_, _*_}
 use Rattle.table.proofs.add_cells.Statement.{statement}
 use Rattle.table.proofs.add_cells.Tie as tie
 

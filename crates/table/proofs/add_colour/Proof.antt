@@ -1,12 +1,14 @@
+-- `table::add_colour` meets its contract: the steps lead to the place of the colour.
+-- Assumes nothing.
+use mathlib.Core.Path.{_≡_, refl, _∙_}
+use Prim.Native.Nat.{ℕ, _+_}
+use native.Mathlib.Omega.{arith}
+use borrow.Author.Needs.{needs}
 use denote.Ref.{now}
 use lib.ListN.{getD}
-use Prim.Native.Nat.{ℕ, _+_}
-use Rattle.table.specs.Scan.{withColour}
-use Rattle.grid.proofs.Places.{steps-place}
 use Rattle.grid.specs.Grid.{colourPlace}
-use native.Mathlib.Omega.{arith}
-use mathlib.Core.Path.{_≡_, refl, _∙_}
-use borrow.Author.Needs.{needs}
+use Rattle.grid.proofs.Places.{steps-place}
+use Rattle.table.specs.Scan.{withColour}
 use Rattle.table.proofs.add_colour.Statement.{statement}
 use Rattle.table.proofs.add_colour.Tie as tie
 

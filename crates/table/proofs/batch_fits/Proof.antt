@@ -1,5 +1,7 @@
-use Rattle.table.proofs.Loading.{rest-test}
+-- `table::batch_fits` meets its contract: without weights each colour weighs 1.
+-- Assumes nothing.
 use borrow.Author.Needs.{needs}
+use Rattle.table.proofs.Loading.{rest-test}
 use Rattle.table.proofs.batch_fits.Statement.{statement}
 use Rattle.table.proofs.batch_fits.Tie as tie
 

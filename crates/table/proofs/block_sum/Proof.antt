@@ -1,10 +1,12 @@
-use Rattle.grid.proofs.Range.{run-none, run-more}
-use denote.Ref.{now}
-use native.Mathlib.Omega.{arith}
-use Rattle.grid.specs.Range.{sumFrom}
-use lib.ListN.{getD}
+-- `table::block_sum` meets its contract: the sum so far is that of the weights passed, each below 2^32.
+-- Assumes nothing.
 use mathlib.Core.Path.{_≡_, sym, ap, _∙_}
 use Prim.Native.Nat.{_≤_, _-_, _*_, ℕ, _+_}
+use native.Mathlib.Omega.{arith}
+use denote.Ref.{now}
+use lib.ListN.{getD}
+use Rattle.grid.specs.Range.{sumFrom}
+use Rattle.grid.proofs.Range.{run-none, run-more}
 use Rattle.table.proofs.block_sum.Statement.{statement}
 use Rattle.table.proofs.block_sum.Tie as tie
 

@@ -1,7 +1,9 @@
-use Rattle.table.specs.Cell.{cellOf, wide}
-use native.Mathlib.Nat.{add-zero}
+-- `table::cell_at` meets its contract: five numbers, read where they stand.
+-- Assumes nothing.
 use mathlib.Core.Path.{refl}
+use native.Mathlib.Nat.{add-zero}
 use borrow.Author.Needs.{needs}
+use Rattle.table.specs.Cell.{cellOf, wide}
 use Rattle.table.proofs.cell_at.Statement.{statement}
 use Rattle.table.proofs.cell_at.Tie as tie
 

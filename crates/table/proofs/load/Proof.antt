@@ -1,26 +1,28 @@
-use Rattle.table.proofs.Calls.{pairs, load-no-grid, load-not-threes, load-not-paired, load-length, load-unsound, load-over, load-done}
-use Rattle.table.proofs.Scans.{weighed-unsound, weighed-total}
-use Rattle.table.proofs.Loading.{batch-weight}
-use Rattle.table.proofs.Soundness.{sound-total}
-use Rattle.table.specs.Load.{Weighted, weightOf, batchOf}
-use Rattle.table.specs.Sound.{limit, total, sound}
-use Rattle.table.specs.Cell.{wide, TableOf}
-use Rattle.table.specs.declared.Weighed.the-variants.{Total, Unsound}
-use Rattle.grid.proofs.Places.{chose, bins-high}
-use Rattle.grid.specs.Grid.{gridOf, Accepted}
-use Rattle.grid.specs.declared.Chosen.the-variants.{Of}
-use Rattle.grid.specs.declared.Grid.{Grid}
-use lib.ListN.{length}
-use lib.Dec.{eqb, leb}
-use denote.Ref.{now}
-use borrow.Author.Tests.{leb-true, leb-false, not-true, not-false}
-use native.Mathlib.Omega.{arith}
+-- `table::load` meets its contract: the refusals in their order, and then the batch is added.
+-- Assumes nothing.
 use mathlib.Core.List.{List}
 use mathlib.Core.Logic.{⊎-elim}
 use mathlib.Core.Bool.{true, false, true≢false, not, _&&_}
 use mathlib.Core.Path.{_≡_, sym, ap, _∙_}
-use Prim.Native.Nat.{ℕ, _+_, _*_, _/_, _≤_}
+use Prim.Native.Nat.{ℕ, _+_, _*_, _/_}
+use native.Mathlib.Omega.{arith}
+use borrow.Author.Tests.{leb-true, leb-false, not-true, not-false}
 use borrow.Author.Needs.{needs}
+use denote.Ref.{now}
+use lib.ListN.{length}
+use lib.Dec.{eqb, leb}
+use Rattle.grid.specs.declared.Chosen.the-variants.{Of}
+use Rattle.grid.specs.declared.Grid.{Grid}
+use Rattle.grid.specs.Grid.{gridOf, Accepted}
+use Rattle.grid.proofs.Places.{chose, bins-high}
+use Rattle.table.specs.declared.Weighed.the-variants.{Total, Unsound}
+use Rattle.table.specs.Load.{Weighted, weightOf, batchOf}
+use Rattle.table.specs.Sound.{limit, total, sound}
+use Rattle.table.specs.Cell.{wide, TableOf}
+use Rattle.table.proofs.Calls.{pairs, load-no-grid, load-not-threes, load-not-paired, load-length, load-unsound, load-over, load-done}
+use Rattle.table.proofs.Scans.{weighed-unsound, weighed-total}
+use Rattle.table.proofs.Loading.{batch-weight}
+use Rattle.table.proofs.Soundness.{sound-total}
 use Rattle.table.proofs.load.Statement.{statement}
 use Rattle.table.proofs.load.Tie as tie
 

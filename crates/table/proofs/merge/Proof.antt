@@ -1,23 +1,25 @@
-use Rattle.table.proofs.Scans.{weighed-unsound, weighed-total}
-use Rattle.table.proofs.Soundness.{sound-total, number-below, merge-sound}
-use Rattle.table.specs.Merge.{merged}
-use Rattle.table.specs.Sound.{limit, total, sound}
-use Rattle.table.specs.declared.Weighed.the-variants.{Total, Unsound}
-use lib.Dec.{lit<}
-use native.Mathlib.Nat.{lt-trans}
+-- `table::merge` meets its contract: the refusals in their order, and then the cells are added.
+-- Assumes nothing.
 use mathlib.Core.Bool.{true}
-use Rattle.table.proofs.Calls.{merge-no-grid, merge-first-length, merge-second-length, merge-first-unsound, merge-second-unsound, merge-over, merge-done}
-use Rattle.table.specs.Cell.{TableOf, wide}
-use Rattle.grid.proofs.Places.{chose, bins-high}
-use Rattle.grid.specs.Grid.{gridOf, Accepted, binsOf}
-use Rattle.grid.specs.declared.Chosen.the-variants.{Of}
-use Rattle.grid.specs.declared.Grid.{Grid}
-use denote.Ref.{now}
-use native.Mathlib.Omega.{arith}
 use mathlib.Core.List.{List}
 use mathlib.Core.Path.{_≡_, sym, ap, _∙_}
 use Prim.Native.Nat.{ℕ, _*_, _+_, _^_, _≤_, _<_}
+use native.Mathlib.Nat.{lt-trans}
+use native.Mathlib.Omega.{arith}
 use borrow.Author.Needs.{needs}
+use denote.Ref.{now}
+use lib.Dec.{lit<}
+use Rattle.grid.specs.declared.Chosen.the-variants.{Of}
+use Rattle.grid.specs.declared.Grid.{Grid}
+use Rattle.grid.specs.Grid.{gridOf, Accepted, binsOf}
+use Rattle.grid.proofs.Places.{chose, bins-high}
+use Rattle.table.specs.declared.Weighed.the-variants.{Total, Unsound}
+use Rattle.table.specs.Merge.{merged}
+use Rattle.table.specs.Sound.{limit, total, sound}
+use Rattle.table.specs.Cell.{TableOf, wide}
+use Rattle.table.proofs.Scans.{weighed-unsound, weighed-total}
+use Rattle.table.proofs.Soundness.{sound-total, number-below, merge-sound}
+use Rattle.table.proofs.Calls.{merge-no-grid, merge-first-length, merge-second-length, merge-first-unsound, merge-second-unsound, merge-over, merge-done}
 use Rattle.table.proofs.merge.Statement.{statement}
 use Rattle.table.proofs.merge.Tie as tie
 

@@ -1,7 +1,9 @@
+-- `table::plus` meets its contract: what is required has room for each sum.
+-- Assumes nothing.
+use mathlib.Core.Path.{refl}
 use lib.Dec.{lit<}
 use Rattle.table.specs.Scan.{plusCell}
 use Rattle.table.specs.Cell.{numberOf, cellOf}
-use mathlib.Core.Path.{refl}
 use Rattle.table.proofs.plus.Statement.{statement}
 use Rattle.table.proofs.plus.Tie as tie
 

@@ -1,8 +1,10 @@
-use Rattle.table.specs.Cell.{putAt}
-use lib.ListN.{length-set}
-use native.Mathlib.Omega.{arith}
+-- `table::put_at` meets its contract: five numbers, written where they stand.
+-- Assumes nothing.
 use mathlib.Core.Path.{refl}
+use native.Mathlib.Omega.{arith}
 use borrow.Author.Needs.{needs}
+use lib.ListN.{length-set}
+use Rattle.table.specs.Cell.{putAt}
 use Rattle.table.proofs.put_at.Statement.{statement}
 use Rattle.table.proofs.put_at.Tie as tie
 

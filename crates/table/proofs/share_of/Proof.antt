@@ -1,10 +1,12 @@
-use Prim.Native.Nat.{_+_, _*_}
-use Rattle.table.proofs.Loading.{square-byte, times-high}
-use Rattle.table.specs.Load.{share}
-use Rattle.table.specs.Cell.{cellOf}
+-- `table::share_of` meets its contract: products of a weight within the limit and of bytes fit.
+-- Assumes nothing.
 use mathlib.Core.Path.{refl}
+use Prim.Native.Nat.{_+_, _*_}
 use native.Mathlib.Omega.{arith}
 use borrow.Author.Needs.{needs}
+use Rattle.table.specs.Load.{share}
+use Rattle.table.specs.Cell.{cellOf}
+use Rattle.table.proofs.Loading.{square-byte, times-high}
 use Rattle.table.proofs.share_of.Statement.{statement}
 use Rattle.table.proofs.share_of.Tie as tie
 

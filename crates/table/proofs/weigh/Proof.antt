@@ -1,18 +1,20 @@
-use Rattle.table.proofs.Scans.{scan-none, scan-under, scan-all, block-more, block-stop, plane-start}
+-- `table::weigh` meets its contract: after each plane the total is that of the planes so far.
+-- Assumes nothing.
+use mathlib.Core.Path.{_≡_, sym, ap, _∙_}
+use Prim.Native.Nat.{ℕ, _≤_, _-_, _*_}
+use native.Mathlib.Nat.{zero-mul, mul-assoc}
+use native.Mathlib.Omega.{arith}
+use borrow.Author.Needs.{needs}
+use denote.Ref.{now}
+use Rattle.grid.specs.declared.Grid.{Grid}
+use Rattle.grid.specs.Grid.{binsOf}
+use Rattle.grid.proofs.Places.{one, two, three}
+use Rattle.grid.proofs.Size.{size-low, size-high}
+use Rattle.table.specs.declared.Weighed.the-variants.{Total, Unsound}
 use Rattle.table.specs.Scan.{scanned}
 use Rattle.table.specs.Sound.{limit, weighed}
 use Rattle.table.specs.Cell.{View, wide}
-use Rattle.table.specs.declared.Weighed.the-variants.{Total, Unsound}
-use Rattle.grid.proofs.Places.{one, two, three}
-use Rattle.grid.proofs.Size.{size-low, size-high}
-use Rattle.grid.specs.Grid.{binsOf}
-use Rattle.grid.specs.declared.Grid.{Grid}
-use denote.Ref.{now}
-use borrow.Author.Needs.{needs}
-use native.Mathlib.Nat.{zero-mul, mul-assoc}
-use native.Mathlib.Omega.{arith}
-use mathlib.Core.Path.{_≡_, refl, sym, ap, _∙_}
-use Prim.Native.Nat.{ℕ, _≤_, _-_, _*_}
+use Rattle.table.proofs.Scans.{scan-none, scan-under, scan-all, block-more, block-stop, plane-start}
 use Rattle.table.proofs.weigh.Statement.{statement}
 use Rattle.table.proofs.weigh.Tie as tie
 

@@ -1,17 +1,19 @@
+-- `table::weigh_plane` meets its contract: after each row the total is that of the rows so far.
+-- Assumes nothing.
+use mathlib.Core.Path.{_≡_, sym, ap, _∙_}
+use Prim.Native.Nat.{ℕ, _≤_, _-_, _*_}
+use native.Mathlib.Nat.{zero-mul}
+use native.Mathlib.Omega.{arith}
+use borrow.Author.Needs.{needs}
+use denote.Ref.{now}
+use Rattle.grid.specs.Grid.{placeOf}
 use Rattle.grid.proofs.Places.{two}
 use Rattle.grid.proofs.Size.{size-high}
-use denote.Ref.{now}
-use native.Mathlib.Nat.{zero-mul}
-use Rattle.table.proofs.Scans.{scan-none, scan-under, block-more, block-stop, row-start}
+use Rattle.table.specs.declared.Weighed.the-variants.{Total, Unsound}
 use Rattle.table.specs.Scan.{scanned}
 use Rattle.table.specs.Sound.{limit}
 use Rattle.table.specs.Cell.{wide}
-use Rattle.table.specs.declared.Weighed.the-variants.{Total, Unsound}
-use Rattle.grid.specs.Grid.{placeOf}
-use borrow.Author.Needs.{needs}
-use native.Mathlib.Omega.{arith}
-use mathlib.Core.Path.{_≡_, refl, sym, ap, _∙_}
-use Prim.Native.Nat.{ℕ, _≤_, _-_, _*_}
+use Rattle.table.proofs.Scans.{scan-none, scan-under, block-more, block-stop, row-start}
 use Rattle.table.proofs.weigh_plane.Statement.{statement}
 use Rattle.table.proofs.weigh_plane.Tie as tie
 

@@ -1,22 +1,24 @@
-use Rattle.table.specs.Scan.{scanned}
-use Rattle.table.specs.declared.Weighed.the-variants.{Total}
-use Rattle.grid.specs.declared.Grid.{Grid}
-use Rattle.grid.proofs.Size.{size-high}
-use Rattle.grid.proofs.Range.{sum-last, all-last, and-left, and-right}
-use Rattle.table.specs.declared.Cell.{Cell}
-use borrow.Author.Tests.{leb-true, not-true, not-false}
-use lib.Dec.{leb}
-use denote.Ref.{now}
-use Rattle.grid.proofs.Places.{bins-high, three}
-use native.Mathlib.Nat.{add-zero, add-assoc, lt-of-lt-of-le}
-use Rattle.table.proofs.Scans.{row-place, row-cell, row-one, row-two, row-three, row-bin, byte-span, scan-bad, scan-over, scan-total}
-use Rattle.table.specs.Sound.{limit, binSound}
-use Rattle.table.specs.Cell.{wide, cellOf, View}
-use Rattle.grid.specs.Range.{sumFrom, allFrom}
-use native.Mathlib.Omega.{arith}
+-- `table::weigh_row` meets its contract: after b bins all of them are in bounds and the total is that of their weights.
+-- Assumes nothing.
 use mathlib.Core.Bool.{true, _&&_, Bool}
 use mathlib.Core.Path.{_≡_, refl, sym, ap, _∙_}
 use Prim.Native.Nat.{ℕ, _+_, _≤_, _-_, _*_, _<_}
+use native.Mathlib.Nat.{add-zero, add-assoc, lt-of-lt-of-le}
+use native.Mathlib.Omega.{arith}
+use borrow.Author.Tests.{leb-true, not-true, not-false}
+use denote.Ref.{now}
+use lib.Dec.{leb}
+use Rattle.grid.specs.declared.Grid.{Grid}
+use Rattle.grid.specs.Range.{sumFrom, allFrom}
+use Rattle.grid.proofs.Size.{size-high}
+use Rattle.grid.proofs.Range.{sum-last, all-last, and-left, and-right}
+use Rattle.grid.proofs.Places.{bins-high, three}
+use Rattle.table.specs.declared.Weighed.the-variants.{Total}
+use Rattle.table.specs.declared.Cell.{Cell}
+use Rattle.table.specs.Scan.{scanned}
+use Rattle.table.specs.Sound.{limit, binSound}
+use Rattle.table.specs.Cell.{wide, cellOf, View}
+use Rattle.table.proofs.Scans.{row-place, row-cell, row-one, row-two, row-three, row-bin, byte-span, scan-bad, scan-over, scan-total}
 use Rattle.table.proofs.weigh_row.Statement.{statement}
 use Rattle.table.proofs.weigh_row.Tie as tie
 

@@ -1,6 +1,7 @@
-use native.Mathlib.Omega.{arith}
+-- `table::weight_at` meets its contract: a weight where weights are given, else 1.
+-- Assumes nothing.
 use mathlib.Core.Path.{refl}
-use borrow.Author.Needs.{needs}
+use native.Mathlib.Omega.{arith}
 use Rattle.table.proofs.weight_at.Statement.{statement}
 use Rattle.table.proofs.weight_at.Tie as tie
 

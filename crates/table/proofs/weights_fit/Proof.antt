@@ -1,14 +1,16 @@
-use lib.Dec.{leb}
-use borrow.Author.Tests.{lt-leb}
+-- `table::weights_fit` meets its contract: the total so far is within the limit, so a block more still fits a u64.
+-- Assumes nothing.
+use mathlib.Core.Path.{_≡_, sym, ap}
+use Prim.Native.Nat.{ℕ, _+_, _≤_, _-_}
 use native.Mathlib.Nat.{add-zero}
-use Rattle.table.specs.Sound.{limit}
-use Rattle.grid.proofs.Range.{sum-split, sum-bounded}
-use Rattle.grid.specs.Range.{sumFrom}
-use denote.Ref.{now}
-use lib.ListN.{length, getD}
 use native.Mathlib.Omega.{arith}
-use mathlib.Core.Path.{_≡_, refl, sym, ap, _∙_}
-use Prim.Native.Nat.{ℕ, _+_, _≤_, _-_, _*_}
+use borrow.Author.Tests.{lt-leb}
+use denote.Ref.{now}
+use lib.Dec.{leb}
+use lib.ListN.{length, getD}
+use Rattle.grid.specs.Range.{sumFrom}
+use Rattle.grid.proofs.Range.{sum-split, sum-bounded}
+use Rattle.table.specs.Sound.{limit}
 use Rattle.table.proofs.weights_fit.Statement.{statement}
 use Rattle.table.proofs.weights_fit.Tie as tie
 
