@@ -3,7 +3,7 @@
 use mathlib.Core.Path.{_≡_, refl, sym, ap, subst, _∙_}
 use mathlib.Core.List.{List}
 use Prim.Native.Nat.{ℕ, zero, suc, _+_, _*_, _/_, _%_, _≤_, _<_}
-use native.Mathlib.Nat.{mul-le-mul, div-lt-iff-lt-mul, mod-lt, div-add-mod', add-mul, mul-assoc, mul-one, zero-add, lt-of-lt-of-le}
+use native.Mathlib.Nat.{add-zero, mul-le-mul, div-lt-iff-lt-mul, mod-lt, div-add-mod', add-mul, mul-assoc, mul-one, zero-add, lt-of-lt-of-le}
 use native.Mathlib.Omega.{arith}
 use lib.Arith.{digits-lt, digits-div, digits-mod}
 use lib.ListN.{getD}
@@ -184,3 +184,17 @@ pub steps-high : {t1 t2 t3 : List ℕ} → Steps t1 t2 t3 → {x : Rgb} → Byte
 steps-high s b =
     rw (steps-place (s .steps) b)
     (lt-of-lt-of-le (colour-place-lt (s .steps .accepted) b) (bins-high (s .steps .accepted)))
+
+-- the places where rows and planes start
+pub row-start : (g : Grid) (r gr : ℕ) → placeOf g r gr 0 ≡ placeOf g r 0 0 + gr * g .b3
+unfolding placeOf
+row-start g r gr = omega (arith, add-mul (r * g .b2) gr (g .b3), add-zero (r * g .b2))
+
+pub plane-start : (g : Grid) (r : ℕ) → placeOf g r 0 0 ≡ 0 + r * (g .b2 * g .b3)
+unfolding placeOf
+plane-start g r = rw (add-zero (r * g .b2)) (omega (arith, mul-assoc r (g .b2) (g .b3)))
+
+-- and the places along a row
+pub place-along : (g : Grid) (r gr b : ℕ) → placeOf g r gr 0 + b ≡ placeOf g r gr b
+unfolding placeOf
+place-along g r gr b = ap (λ (n : ℕ). n + b) (add-zero ((r * g .b2 + gr) * g .b3))

@@ -4,7 +4,7 @@ use mathlib.Core.Path.{_≡_, refl, sym, ap, _∙_}
 use mathlib.Core.Bool.{Bool, true, false, cond, _&&_}
 use mathlib.Core.List.{List}
 use Prim.Native.Nat.{ℕ, zero, suc, _+_, _-_, _*_, _≤_, _<_}
-use native.Mathlib.Nat.{add-zero, zero-add, add-assoc, add-suc, suc-add, le-of-suc-le-suc, zero-mul, suc-mul, sub-self}
+use native.Mathlib.Nat.{add-zero, zero-add, add-assoc, add-suc, suc-add, le-of-suc-le-suc, zero-mul, suc-mul, sub-self, mul-zero, mul-add, add-comm}
 use native.Mathlib.Omega.{arith}
 use native.Mathlib.Decide.{ℕ-discrete}
 use borrow.Author.Tests.{eq-eqb, ne-eqb}
@@ -106,6 +106,46 @@ pub sum-bounded : (i n x : ℕ) (f : ℕ → ℕ) → ((p : ℕ) → f p ≤ x) 
 unfolding sumFrom
 sum-bounded i zero x f h = omega (arith, zero-mul x)
 sum-bounded i (suc n) x f h = omega (arith, h i, sum-bounded (suc i) n x f h, suc-mul n x)
+
+-- term by term
+pub sum-le : (i n : ℕ) (f g : ℕ → ℕ) → ((p : ℕ) → i ≤ p → p < i + n → f p ≤ g p) → sumFrom i n f ≤ sumFrom i n g
+unfolding sumFrom
+sum-le i zero f g h = omega arith
+sum-le i (suc n) f g h =
+    omega (
+      arith,
+      h i (omega arith) (omega (arith, add-suc i n)),
+      sum-le (suc i) n f g (λ p a b. h p (omega arith) (omega (arith, b, suc-add i n, add-suc i n))),
+    )
+
+pub sum-scale : (k i n : ℕ) (f : ℕ → ℕ) → sumFrom i n (λ p. k * f p) ≡ k * sumFrom i n f
+unfolding sumFrom
+sum-scale k i zero f = sym (mul-zero k)
+sum-scale k i (suc n) f = ap (λ (x : ℕ). k * f i + x) (sum-scale k (suc i) n f) ∙ sym (mul-add k (f i) (sumFrom (suc i) n f))
+
+-- more terms
+pub sum-grow : (i n m : ℕ) (f : ℕ → ℕ) → n ≤ m → sumFrom i n f ≤ sumFrom i m f
+sum-grow i n m f h =
+    rw (parts n m h, sum-append i n (m - n) f) (omega arith)
+  where
+    parts : (n m : ℕ) → n ≤ m → m ≡ n + (m - n)
+    parts n m h = omega arith
+
+-- n runs of m terms, one after the other
+pub sum-blocks : (n m i : ℕ) (f : ℕ → ℕ) → sumFrom (i * m) (n * m) f ≡ sumFrom i n (λ k. sumFrom (k * m) m f)
+unfolding sumFrom
+sum-blocks zero m i f = ap (λ (x : ℕ). sumFrom (i * m) x f) (zero-mul m)
+sum-blocks (suc n) m i f =
+    ap (λ (x : ℕ). sumFrom (i * m) x f) (suc-mul n m ∙ add-comm (n * m) m)
+    ∙ sum-append (i * m) m (n * m) f
+    ∙ ap (λ (x : ℕ). sumFrom (i * m) m f + sumFrom x (n * m) f) (sym (suc-mul i m))
+    ∙ ap (λ (x : ℕ). sumFrom (i * m) m f + x) (sum-blocks n m (suc i) f)
+
+-- the terms counted from another number
+pub sum-shift : (a i n : ℕ) (f : ℕ → ℕ) → sumFrom (a + i) n f ≡ sumFrom i n (λ k. f (a + k))
+unfolding sumFrom
+sum-shift a i zero f = refl
+sum-shift a i (suc n) f = ap (λ (x : ℕ). f (a + i) + x) (ap (λ (x : ℕ). sumFrom x n f) (sym (add-suc a i)) ∙ sum-shift a (suc i) n f)
 
 -- no term is larger than the sum
 pub term-le : (i n : ℕ) (f : ℕ → ℕ) (p : ℕ) → i ≤ p → p < i + n → f p ≤ sumFrom i n f

@@ -3,18 +3,18 @@
 use mathlib.Core.Path.{_≡_, refl, sym, ap, _∙_}
 use mathlib.Core.Bool.{cond}
 use mathlib.Core.List.{List}
-use Prim.Native.Nat.{ℕ, zero, suc, _+_, _*_, _/_, _%_, _^_, _≤_, _<_}
+use Prim.Native.Nat.{ℕ, zero, suc, _+_, _-_, _*_, _/_, _%_, _^_, _≤_, _<_}
 use native.Mathlib.Nat.{add-zero}
 use native.Mathlib.Decide.{ℕ-discrete}
 use native.Mathlib.Omega.{arith}
 use borrow.Author.Tests.{eq-eqb, ne-eqb}
-use lib.Dec.{eqb}
+use lib.Dec.{eqb, lit<}
 use lib.ListN.{length, getD, set, length-set}
 use lib.Seq.{getD-set-same, getD-set-other}
 use Rattle.grid.proofs.Range.{length-list, list-at, list-is}
 use Rattle.table.specs.declared.Cell.{Cell}
-use Rattle.table.specs.Cell.{View, numberOf, cellOf, wide, wideList, putAt}
-use Rattle.table.specs.Scan.{plusCell, Adds}
+use Rattle.table.specs.Cell.{View, numberOf, cellOf, wide, wideList, putAt, plusCell, minusCell, AtLeast}
+use Rattle.table.specs.Scan.{Adds}
 
 pub number-cell : (f : ℕ → ℕ) (j : ℕ) → j < 5 → numberOf (cellOf f) j ≡ f j
 unfolding numberOf cellOf
@@ -28,6 +28,60 @@ number-cell f (suc (suc (suc (suc (suc j))))) h = absurd (omega arith)
 pub number-plus : (c d : Cell) (j : ℕ) → j < 5 → numberOf (plusCell c d) j ≡ numberOf c j + numberOf d j
 unfolding plusCell
 number-plus c d j h = number-cell (λ k. numberOf c k + numberOf d k) j h
+
+pub number-minus : (c d : Cell) (j : ℕ) → j < 5 → numberOf (minusCell c d) j ≡ numberOf c j - numberOf d j
+unfolding minusCell
+number-minus c d j h = number-cell (λ k. numberOf c k - numberOf d k) j h
+
+-- cells with the same numbers
+pub cell-by : (c d : Cell) → ((j : ℕ) → j < 5 → numberOf c j ≡ numberOf d j) → c ≡ d
+unfolding numberOf
+cell-by c d e =
+    λ i.
+    record {
+      weight = e 0 (lit< tt) i;
+      sum1 = e 1 (lit< tt) i;
+      sum2 = e 2 (lit< tt) i;
+      sum3 = e 3 (lit< tt) i;
+      squares = e 4 (lit< tt) i;
+    }
+
+-- the fields of five numbers as a cell
+pub record Fields (f : ℕ → ℕ) (c : Cell) : Type 0 where
+  pub weight : c .weight ≡ f 0
+  pub sum1 : c .sum1 ≡ f 1
+  pub sum2 : c .sum2 ≡ f 2
+  pub sum3 : c .sum3 ≡ f 3
+  pub squares : c .squares ≡ f 4
+
+pub cell-fields : (f : ℕ → ℕ) {c : Cell} → c ≡ cellOf f → Fields f c
+unfolding cellOf
+cell-fields f e =
+    record {
+      weight = ap (λ (c : Cell). c .weight) e;
+      sum1 = ap (λ (c : Cell). c .sum1) e;
+      sum2 = ap (λ (c : Cell). c .sum2) e;
+      sum3 = ap (λ (c : Cell). c .sum3) e;
+      squares = ap (λ (c : Cell). c .squares) e;
+    }
+
+-- cells of numbers, taken from each other
+pub minus-least : (f h k : ℕ → ℕ) → ((j : ℕ) → f j ≡ h j + k j) → {c d : Cell} → c ≡ cellOf f → d ≡ cellOf h → AtLeast c d
+minus-least f h k e {c} {d} p q =
+    record {
+      least = λ j l.
+          omega (arith, ap (λ (x : Cell). numberOf x j) p, ap (λ (x : Cell). numberOf x j) q, number-cell f j l, number-cell h j l, e j);
+    }
+
+pub minus-is : (f h k : ℕ → ℕ) → ((j : ℕ) → f j ≡ h j + k j) → {c d : Cell} → c ≡ cellOf f → d ≡ cellOf h → {x : Cell} → x ≡ minusCell c d → x ≡ cellOf k
+minus-is f h k e {c} {d} p q {x} r =
+    cell-by x (cellOf k)
+    (λ j l.
+    omega (arith, ap (λ (y : Cell). numberOf y j) r, number-minus c d j l, ap (λ (y : Cell). numberOf y j) p, ap (λ (y : Cell). numberOf y j) q, number-cell f j l, number-cell h j l, number-cell k j l, e j))
+
+pub zero-cell : _≡_ {A = Cell} (record { weight = 0; sum1 = 0; sum2 = 0; sum3 = 0; squares = 0 }) (cellOf (λ j. 0))
+unfolding cellOf
+zero-cell = refl
 
 -- ---- a table of n bins holds a view
 pub record Holds (n : ℕ) (t : List ℕ) (v : View) : Type 0 where
@@ -88,7 +142,7 @@ module _ (t : List ℕ) (p : ℕ) (c : Cell) (has : 5 * p + 5 ≤ length t) wher
   past : (l : List ℕ) (i x k : ℕ) → (k ≡ i → ⊥) → getD (set l i x) k 0 ≡ getD l k 0
   past l i x k n = getD-set-other l i k x 0 n
 
-  put-there : (j : ℕ) → j < 5 → wide (putAt t p c) p j ≡ numberOf c j
+  pub put-there : (j : ℕ) → j < 5 → wide (putAt t p c) p j ≡ numberOf c j
   unfolding wide putAt numberOf t1 t2 t3 t4
   put-there zero h =
       ap (λ (k : ℕ). getD (putAt t p c) k 0) (add-zero (5 * p))
@@ -112,7 +166,7 @@ module _ (t : List ℕ) (p : ℕ) (c : Cell) (has : 5 * p + 5 ≤ length t) wher
   put-there (suc (suc (suc (suc zero)))) h = getD-set-same t4 (5 * p + 4) (c .squares) 0 (simp length-set (omega arith))
   put-there (suc (suc (suc (suc (suc j))))) h = absurd (omega arith)
 
-  put-elsewhere : (q j : ℕ) → j < 5 → (p ≡ q → ⊥) → wide (putAt t p c) q j ≡ wide t q j
+  pub put-elsewhere : (q j : ℕ) → j < 5 → (p ≡ q → ⊥) → wide (putAt t p c) q j ≡ wide t q j
   unfolding wide putAt t1 t2 t3 t4
   put-elsewhere q j h n =
       past t4 (5 * p + 4) (c .squares) (5 * q + j) (λ e. n (omega arith))

@@ -11,9 +11,9 @@ use borrow.Author.Tests.{eq-eqb, ne-eqb, lt-ltb, le-ltb}
 use lib.Dec.{eqb, ltb}
 use lib.ListN.{length}
 use Rattle.table.specs.declared.Cell.{Cell}
-use Rattle.table.specs.Cell.{View, numberOf, cellOf, wide, wideList, putAt}
+use Rattle.table.specs.Cell.{View, numberOf, cellOf, wide, wideList, putAt, plusCell}
 use Rattle.table.specs.Merge.{merged}
-use Rattle.table.specs.Scan.{plusCell, Adds}
+use Rattle.table.specs.Scan.{Adds}
 use Rattle.table.proofs.Cells.{Holds, holds-same, holds-list, holds-itself, add-holds, number-cell}
 
 -- the cells before place p are added

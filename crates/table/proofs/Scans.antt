@@ -4,7 +4,7 @@ use mathlib.Core.Path.{_≡_, refl, sym, ap, _∙_}
 use mathlib.Core.List.{List}
 use mathlib.Core.Bool.{Bool, true, false, true≢false, cond, _&&_}
 use Prim.Native.Nat.{ℕ, zero, suc, _+_, _-_, _*_, _≤_, _<_}
-use native.Mathlib.Nat.{add-assoc, add-zero, zero-add, add-mul, one-mul, mul-assoc}
+use native.Mathlib.Nat.{add-assoc, add-zero, zero-add, add-mul, one-mul}
 use native.Mathlib.Omega.{arith}
 use borrow.Author.Tests.{le-leb, lt-leb, leb-true, leb-false}
 use lib.Dec.{leb}
@@ -15,7 +15,7 @@ use Rattle.grid.specs.Size.{spanOf, InSize}
 use Rattle.grid.specs.Grid.{Accepted, Inside, choose, shiftAt, binAt, binsOf, placeOf}
 use Rattle.grid.proofs.Range.{sum-append, all-append, all-at, term-le, and-left, and-right, and-false}
 use Rattle.grid.proofs.Size.{in-size, span-byte}
-use Rattle.grid.proofs.Places.{one, two, three, place-lt, bin-of-place}
+use Rattle.grid.proofs.Places.{one, two, three, place-lt, bin-of-place, place-along}
 use Rattle.table.specs.declared.Cell.{Cell}
 use Rattle.table.specs.declared.Weighed.{Weighed}
 use Rattle.table.specs.declared.Weighed.the-variants.{Total, Unsound}
@@ -149,19 +149,11 @@ module _ {g : Grid} {t : List ℕ} {r gr had : ℕ} (row : Row g t r gr had) whe
   sizes : Accepted g
   sizes = row .table .accepted
 
-  start : ℕ
-  start = placeOf g r gr 0
-
-  along : (b : ℕ) → start + b ≡ placeOf g r gr b
-  unfolding start placeOf
-  along b = ap (λ (n : ℕ). n + b) (add-zero ((r * g .b2 + gr) * g .b3))
-
   inside : (b : ℕ) → b < g .b3 → Inside g r gr b
   inside b h = record { accepted = sizes; one = row .inside .one; two = row .inside .two; three = h }
 
   pub row-place : (b : ℕ) → b < g .b3 → {from : ℕ} → from ≡ placeOf g r gr 0 → from + b < binsOf g
-  unfolding start
-  row-place b h e = rw (e, along b) (place-lt (inside b h))
+  row-place b h e = rw (e, place-along g r gr b) (place-lt (inside b h))
 
   pub row-cell : (b : ℕ) → b < g .b3 → {from : ℕ} → from ≡ placeOf g r gr 0 → HasCell t (from + b)
   row-cell b h e = record { fits = omega (arith, row-place b h e, row .table .lent) }
@@ -175,11 +167,11 @@ module _ {g : Grid} {t : List ℕ} {r gr had : ℕ} (row : Row g t r gr had) whe
   pub row-three : (b : ℕ) → b < g .b3 → InSize (g .s3) b
   row-three b h = in-size (three sizes) b h
 
-  row-span : (b : ℕ) → b < g .b3 → (d : ℕ) → choose d (spanOf (g .s1) r) (spanOf (g .s2) gr) (spanOf (g .s3) b) ≡ spanAt g (start + b) d
+  row-span : (b : ℕ) → b < g .b3 → (d : ℕ) → choose d (spanOf (g .s1) r) (spanOf (g .s2) gr) (spanOf (g .s3) b) ≡ spanAt g (placeOf g r gr 0 + b) d
   unfolding spanAt
   row-span b h d =
       sym
-      (ap (λ (p : ℕ). spanOf (shiftAt g d) (binAt g d p)) (along b)
+      (ap (λ (p : ℕ). spanOf (shiftAt g d) (binAt g d p)) (place-along g r gr b)
       ∙ ap (spanOf (shiftAt g d)) (bin-of-place g d r gr b (row .inside .two) h)
       ∙ chosen-span g r gr b d)
 
@@ -189,7 +181,7 @@ module _ {g : Grid} {t : List ℕ} {r gr had : ℕ} (row : Row g t r gr had) whe
       → {c : Cell} → c ≡ cellOf (v (from + b))
       → {x : Bool} → x ≡ (leb (c .weight) limit && inBounds (λ d. choose d s1 s2 s3) (numberOf c))
       → (leb (v (from + b) 0) limit && binSound g v (from + b)) ≡ x
-  unfolding binSound cellOf start
+  unfolding binSound cellOf
   row-bin v b h {from} e e1 e2 e3 ec ex =
       let p = from + b in
       sym
@@ -198,12 +190,3 @@ module _ {g : Grid} {t : List ℕ} {r gr had : ℕ} (row : Row g t r gr had) whe
       ∙ ap (λ (y : Bool). leb (v p 0) limit && y)
       ((λ i. inBounds (λ d. (row-span b h d ∙ ap (λ (q : ℕ). spanAt g (q + b) d) (sym e)) i) (numberOf (cellOf (v p))))
       ∙ bounds-same (spanAt g p) (numberOf (cellOf (v p))) (v p) (λ j k. number-cell (v p) j k)))
-
--- the places where rows and planes start
-pub row-start : (g : Grid) (r gr : ℕ) → placeOf g r gr 0 ≡ placeOf g r 0 0 + gr * g .b3
-unfolding placeOf
-row-start g r gr = omega (arith, add-mul (r * g .b2) gr (g .b3), add-zero (r * g .b2))
-
-pub plane-start : (g : Grid) (r : ℕ) → placeOf g r 0 0 ≡ 0 + r * (g .b2 * g .b3)
-unfolding placeOf
-plane-start g r = rw (add-zero (r * g .b2)) (omega (arith, mul-assoc r (g .b2) (g .b3)))

@@ -1,7 +1,7 @@
 -- A table as a view of cells, and its wide layout (document 01, "Grid and table"). Definitions only.
 use mathlib.Core.Path.{_≡_}
 use mathlib.Core.List.{List}
-use Prim.Native.Nat.{ℕ, zero, suc, _+_, _*_, _/_, _%_, _≤_}
+use Prim.Native.Nat.{ℕ, zero, suc, _+_, _-_, _*_, _/_, _%_, _^_, _≤_, _<_}
 use lib.ListN.{length, getD, set}
 use Rattle.grid.specs.declared.Grid.{Grid}
 use Rattle.grid.specs.Range.{listFrom}
@@ -23,6 +23,22 @@ numberOf c (suc (suc (suc (suc j)))) = c .squares
 -- five numbers as a cell
 unfoldable pub cellOf : (ℕ → ℕ) → Cell
 cellOf f = record { weight = f 0; sum1 = f 1; sum2 = f 2; sum3 = f 3; squares = f 4 }
+
+-- two cells added, number by number
+unfoldable pub plusCell : Cell → Cell → Cell
+plusCell c d = cellOf (λ j. numberOf c j + numberOf d j)
+
+-- and each sum fits a u64
+pub record Room (c d : Cell) : Type 0 where
+  pub fits : (j : ℕ) → j < 5 → numberOf c j + numberOf d j < 2 ^ 64
+
+-- one cell less another, number by number
+unfoldable pub minusCell : Cell → Cell → Cell
+minusCell c d = cellOf (λ j. numberOf c j - numberOf d j)
+
+-- no number of the second is above the first's
+pub record AtLeast (c d : Cell) : Type 0 where
+  pub least : (j : ℕ) → j < 5 → numberOf d j ≤ numberOf c j
 
 -- the wide layout: "five u64 numbers per bin, together from 5·place on"
 unfoldable pub wide : List ℕ → View

@@ -12,7 +12,7 @@ use Rattle.grid.specs.Grid.{Inside, colourPlace}
 use Rattle.table.specs.declared.Cell.{Cell}
 use Rattle.table.specs.declared.Weighed.{Weighed}
 use Rattle.table.specs.declared.Weighed.the-variants.{Total, Unsound}
-use Rattle.table.specs.Cell.{View, wide, numberOf, cellOf, putAt, TableOf}
+use Rattle.table.specs.Cell.{View, wide, numberOf, cellOf, plusCell, putAt, TableOf}
 use Rattle.table.specs.Sound.{limit, binSound, sound, total}
 use Rattle.table.specs.Load.{Weighted, share, weightOf, batchOf}
 
@@ -22,10 +22,6 @@ scanned most g v p n had =
     cond (allFrom p n (binSound g v) && leb (had + sumFrom p n (λ q. v q 0)) most)
     (Total (had + sumFrom p n (λ q. v q 0)))
     Unsound
-
--- two cells added, number by number
-unfoldable pub plusCell : Cell → Cell → Cell
-plusCell c d = cellOf (λ j. numberOf c j + numberOf d j)
 
 -- a table with one colour added
 unfoldable pub withColour : Grid → List ℕ → Weighted → List ℕ

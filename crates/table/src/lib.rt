@@ -17,11 +17,11 @@ ghost use lib.Dec.{leb};
 ghost use lib.ListN.{length, getD};
 ghost use Rattle.grid.specs.Range.{sumFrom};
 ghost use Rattle.grid.specs.Grid.{choose, placeOf, binsOf, colourPlace, StepsOf};
-ghost use Rattle.table.specs.Cell.{wide, wideList, numberOf, cellOf, putAt, HasCell, TableOf};
+ghost use Rattle.table.specs.Cell.{wide, wideList, numberOf, cellOf, plusCell, minusCell, putAt, HasCell, Room, AtLeast, TableOf};
 ghost use Rattle.table.specs.Sound.{limit, between, inBounds, weighed};
 ghost use Rattle.table.specs.Load.{share, loaded, batchOf, loadNumber, loadLater};
 ghost use Rattle.table.specs.Merge.{merged, mergeNumber, mergeLater};
-ghost use Rattle.table.specs.Scan.{scanned, plusCell, withColour, Row, ByteSpan, Adds, Fits};
+ghost use Rattle.table.specs.Scan.{scanned, withColour, Row, ByteSpan, Adds, Fits};
 
 // The largest total of a table.
 pub const LIMIT: u64 = 4294967295;
@@ -65,8 +65,9 @@ pub fn put_at(table: &mut [u64], place: usize, c: Cell)
     table[at + 4] = c.squares;
 }
 
-fn plus(c: Cell, d: Cell) -> Cell
-    requires { ⌜ ((j : ℕ) → j < 5 → numberOf c j + numberOf d j < 2 ^ 64) ⌝ }
+// Two cells added, number by number.
+pub fn plus(c: Cell, d: Cell) -> Cell
+    requires { ⌜ Room c d ⌝ }
     ensures { λ r. ⌜ r ≡ plusCell c d ⌝ }
 {
     Cell {
@@ -75,6 +76,20 @@ fn plus(c: Cell, d: Cell) -> Cell
         sum2: c.sum2 + d.sum2,
         sum3: c.sum3 + d.sum3,
         squares: c.squares + d.squares,
+    }
+}
+
+// One cell less another, number by number.
+pub fn minus(c: Cell, d: Cell) -> Cell
+    requires { ⌜ AtLeast c d ⌝ }
+    ensures { λ r. ⌜ r ≡ minusCell c d ⌝ }
+{
+    Cell {
+        weight: c.weight - d.weight,
+        sum1: c.sum1 - d.sum1,
+        sum2: c.sum2 - d.sum2,
+        sum3: c.sum3 - d.sum3,
+        squares: c.squares - d.squares,
     }
 }
 

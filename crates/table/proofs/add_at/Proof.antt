@@ -9,7 +9,7 @@ cell-at-requires : tie.Need-cell-at-requires
 cell-at-requires c κs = search needs
 
 plus-requires : tie.Need-plus-requires
-plus-requires c κs = λ j h. adds-fit (c .before .before .before .pre) _ (c .cell-at .ensures) j h
+plus-requires c κs = record { fits = adds-fit (c .before .before .before .pre) _ (c .cell-at .ensures) }
 
 put-at-requires : tie.Need-put-at-requires
 put-at-requires c κs = search needs

@@ -8,13 +8,13 @@ use borrow.Author.Needs.{needs}
 use denote.Ref.{now}
 use Rattle.grid.specs.declared.Grid.{Grid}
 use Rattle.grid.specs.Grid.{binsOf}
-use Rattle.grid.proofs.Places.{one, two, three}
+use Rattle.grid.proofs.Places.{one, two, three, plane-start}
 use Rattle.grid.proofs.Size.{size-low, size-high}
 use Rattle.table.specs.declared.Weighed.the-variants.{Total, Unsound}
 use Rattle.table.specs.Scan.{scanned}
 use Rattle.table.specs.Sound.{limit, weighed}
 use Rattle.table.specs.Cell.{View, wide}
-use Rattle.table.proofs.Scans.{scan-none, scan-under, scan-all, block-more, block-stop, plane-start}
+use Rattle.table.proofs.Scans.{scan-none, scan-under, scan-all, block-more, block-stop}
 use Rattle.table.proofs.weigh.Statement.{statement}
 use Rattle.table.proofs.weigh.Tie as tie
 

@@ -7,13 +7,13 @@ use native.Mathlib.Omega.{arith}
 use borrow.Author.Needs.{needs}
 use denote.Ref.{now}
 use Rattle.grid.specs.Grid.{placeOf}
-use Rattle.grid.proofs.Places.{two}
+use Rattle.grid.proofs.Places.{two, row-start}
 use Rattle.grid.proofs.Size.{size-high}
 use Rattle.table.specs.declared.Weighed.the-variants.{Total, Unsound}
 use Rattle.table.specs.Scan.{scanned}
 use Rattle.table.specs.Sound.{limit}
 use Rattle.table.specs.Cell.{wide}
-use Rattle.table.proofs.Scans.{scan-none, scan-under, block-more, block-stop, row-start}
+use Rattle.table.proofs.Scans.{scan-none, scan-under, block-more, block-stop}
 use Rattle.table.proofs.weigh_plane.Statement.{statement}
 use Rattle.table.proofs.weigh_plane.Tie as tie
 

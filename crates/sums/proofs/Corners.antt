@@ -1,0 +1,144 @@
+-- A box's sum from the moments, by inclusion and exclusion.
+-- Assumes nothing.
+use mathlib.Core.Path.{_≡_, refl, sym, ap, _∙_}
+use mathlib.Core.List.{List}
+use Prim.Native.Nat.{ℕ, _+_, _-_, _^_, _≤_, _<_}
+use native.Mathlib.Nat.{zero-add, lt-of-le-of-lt}
+use native.Mathlib.Omega.{arith}
+use Rattle.grid.specs.declared.Grid.{Grid}
+use Rattle.grid.specs.Range.{sumFrom}
+use Rattle.grid.specs.Grid.{Inside, choose, sizeAt, binsOf, placeOf}
+use Rattle.grid.proofs.Range.{sum-zero, sum-same}
+use Rattle.grid.proofs.Places.{place-lt}
+use Rattle.table.specs.declared.Cell.{Cell}
+use Rattle.table.specs.Cell.{View, wide, cellOf, numberOf, HasCell}
+use Rattle.table.specs.Sound.{limit}
+use Rattle.table.proofs.Cells.{Holds, list-holds, number-cell, cell-by, zero-cell}
+use Rattle.table.proofs.Soundness.{Sound}
+use Rattle.sums.specs.declared.Bounds.{Bounds}
+use Rattle.sums.specs.Box.{minAt, maxAt, sum3, binSum, boxSum, Within}
+use Rattle.sums.specs.Moments.{belowSum, momentsOf, binCell, Corner}
+use Rattle.sums.proofs.Boxes.{sum3-first, sum3-second, sum3-third}
+use Rattle.sums.proofs.Below.{moments-at, below-small}
+
+-- no bins
+pub no-first : (g : Grid) (v : View) (a b m c k j : ℕ) → binSum g v a 0 b m c k j ≡ 0
+unfolding binSum sum3 sumFrom
+no-first g v a b m c k j = refl
+
+pub no-second : (g : Grid) (v : View) (a n b c k j : ℕ) → binSum g v a n b 0 c k j ≡ 0
+unfolding binSum sum3 sumFrom
+no-second g v a n b c k j = sum-zero a n
+
+pub no-third : (g : Grid) (v : View) (a n b m c j : ℕ) → binSum g v a n b m c 0 j ≡ 0
+unfolding binSum sum3 sumFrom
+no-third g v a n b m c j = sum-same a n _ _ (λ x h t. sum-zero b m) ∙ sum-zero a n
+
+-- the runs up to an end are those up to a start and from there on
+ends : (s e : ℕ) → s ≤ e → e ≡ s + (e - s)
+ends s e h = omega arith
+
+module _ (g : Grid) (v : View) where
+  abbrev bin : ℕ → ℕ → ℕ → ℕ → ℕ
+  bin j r gr b = v (placeOf g r gr b) j
+
+  pub first-from : (s e b m c k j : ℕ) → s ≤ e → binSum g v 0 e b m c k j ≡ binSum g v 0 s b m c k j + binSum g v s (e - s) b m c k j
+  unfolding binSum
+  first-from s e b m c k j h =
+      ap (λ (n : ℕ). sum3 0 n b m c k (bin j)) (ends s e h)
+      ∙ sum3-first (bin j) 0 s (e - s) b m c k
+      ∙ ap (λ (n : ℕ). sum3 0 s b m c k (bin j) + sum3 n (e - s) b m c k (bin j)) (zero-add s)
+
+  pub second-from : (a n s e c k j : ℕ) → s ≤ e → binSum g v a n 0 e c k j ≡ binSum g v a n 0 s c k j + binSum g v a n s (e - s) c k j
+  unfolding binSum
+  second-from a n s e c k j h =
+      ap (λ (m : ℕ). sum3 a n 0 m c k (bin j)) (ends s e h)
+      ∙ sum3-second (bin j) a n 0 s (e - s) c k
+      ∙ ap (λ (m : ℕ). sum3 a n 0 s c k (bin j) + sum3 a n m (e - s) c k (bin j)) (zero-add s)
+
+  pub third-from : (a n b m s e j : ℕ) → s ≤ e → binSum g v a n b m 0 e j ≡ binSum g v a n b m 0 s j + binSum g v a n b m s (e - s) j
+  unfolding binSum
+  third-from a n b m s e j h =
+      ap (λ (k : ℕ). sum3 a n b m 0 k (bin j)) (ends s e h)
+      ∙ sum3-third (bin j) a n b m 0 s (e - s)
+      ∙ ap (λ (k : ℕ). sum3 a n b m 0 s (bin j) + sum3 a n b m k (e - s) (bin j)) (zero-add s)
+
+-- zeros where there are no bins
+pub zeros-are : (g : Grid) (v : View) (a n b m c k : ℕ) → ((j : ℕ) → binSum g v a n b m c k j ≡ 0) → _≡_ {A = Cell} (record { weight = 0; sum1 = 0; sum2 = 0; sum3 = 0; squares = 0 }) (binCell g v a n b m c k)
+unfolding binCell
+zeros-are g v a n b m c k e =
+    zero-cell
+    ∙ cell-by (cellOf (λ j. 0)) (cellOf (binSum g v a n b m c k))
+    (λ j h. number-cell (λ i. 0) j h ∙ sym (number-cell (binSum g v a n b m c k) j h ∙ e j))
+
+-- the work table at a corner
+module _ {g : Grid} {t w : List ℕ} {r gr b : ℕ} (c : Corner g t w r gr b) where
+  before : (n : ℕ) → 0 < n → (n - 1) + 1 ≡ n
+  before n h = omega arith
+
+  module _ (h : 0 < r) (k : 0 < gr) (l : 0 < b) where
+    pub corner-inside : Inside g (r - 1) (gr - 1) (b - 1)
+    corner-inside =
+        record {
+          accepted = c .worked .table .accepted;
+          one = omega (arith, c .one);
+          two = omega (arith, c .two);
+          three = omega (arith, c .three);
+        }
+
+    holds : Holds (binsOf g) w (momentsOf g (wide t))
+    holds = rw (c .worked .moments) (list-holds (binsOf g) (momentsOf g (wide t)))
+
+    pub corner-cell : {p : ℕ} → p ≡ placeOf g (r - 1) (gr - 1) (b - 1) → HasCell w p
+    corner-cell at = record { fits = omega (arith, place-lt corner-inside, holds .lent, at) }
+
+    pub corner-is : {p : ℕ} → p ≡ placeOf g (r - 1) (gr - 1) (b - 1) → {x : Cell} → x ≡ cellOf (wide w p) → x ≡ binCell g (wide t) 0 r 0 gr 0 b
+    unfolding binCell belowSum
+    corner-is {p} at {x} e =
+        cell-by x (binCell g (wide t) 0 r 0 gr 0 b)
+        (λ j m.
+        ap (λ (y : Cell). numberOf y j) e
+        ∙ number-cell (wide w p) j m
+        ∙ ap (λ (n : ℕ). wide w n j) at
+        ∙ holds .at (placeOf g (r - 1) (gr - 1) (b - 1)) j (place-lt corner-inside) m
+        ∙ moments-at g (wide t) (r - 1) (gr - 1) (b - 1) j (corner-inside .two) (corner-inside .three)
+        ∙ (λ i. binSum g (wide t) 0 (before r h i) 0 (before gr k i) 0 (before b l i) j)
+        ∙ sym (number-cell (binSum g (wide t) 0 r 0 gr 0 b) j m))
+
+-- ---- boxes
+pub record Sides (g : Grid) (x : Bounds) : Type 0 where
+  pub one : x .r0 < x .r1
+  pub two : x .g0 < x .g1
+  pub three : x .b0 < x .b1
+  pub one-fits : x .r1 ≤ g .b1
+  pub two-fits : x .g1 ≤ g .b2
+  pub three-fits : x .b1 ≤ g .b3
+
+pub sides : {g : Grid} {x : Bounds} → Within g x → Sides g x
+unfolding minAt maxAt sizeAt choose
+sides w =
+    record {
+      one = w .some 0;
+      two = w .some 1;
+      three = w .some 2;
+      one-fits = w .fits 0;
+      two-fits = w .fits 1;
+      three-fits = w .fits 2;
+    }
+
+-- a box has no more than the bins below its ends
+pub box-below : (g : Grid) (v : View) (x : Bounds) (j : ℕ) → Sides g x → boxSum g v x j ≤ belowSum g v (x .r1) (x .g1) (x .b1) j
+unfolding boxSum belowSum
+box-below g v x j s =
+    omega (
+      arith,
+      first-from g v (x .r0) (x .r1) (x .g0) (x .g1 - x .g0) (x .b0) (x .b1 - x .b0) j (omega (arith, s .one)),
+      second-from g v 0 (x .r1) (x .g0) (x .g1) (x .b0) (x .b1 - x .b0) j (omega (arith, s .two)),
+      third-from g v 0 (x .r1) 0 (x .g1) (x .b0) (x .b1) j (omega (arith, s .three)),
+    )
+
+-- at a sound table each number of a box is below 2^50
+pub box-small : {g : Grid} {v : View} → Sound limit g v → {x : Bounds} → Within g x → (j : ℕ) → j < 5 → boxSum g v x j < 2 ^ 50
+box-small {g} {v} s {x} w j h =
+    let e = sides w in
+    lt-of-le-of-lt (box-below g v x j e) (below-small (w .accepted) s (x .r1) (x .g1) (x .b1) j (e .one-fits) (e .two-fits) (e .three-fits) h)

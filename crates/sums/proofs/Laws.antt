@@ -1,0 +1,93 @@
+-- What stands above uses of box sums: the two sides of a cut, the bounds at a sound table, and when a box is empty.
+-- Assumes nothing.
+use mathlib.Core.Path.{_≡_, ap, _∙_}
+use Prim.Native.Nat.{ℕ, zero, suc, _+_, _-_, _*_, _≤_, _<_}
+use native.Mathlib.Omega.{arith}
+use Rattle.grid.specs.declared.Grid.{Grid}
+use Rattle.grid.specs.Grid.{choose, binsOf, placeOf}
+use Rattle.grid.proofs.Places.{place-lt}
+use Rattle.table.specs.Cell.{View}
+use Rattle.table.specs.Sound.{limit}
+use Rattle.table.proofs.Soundness.{Sound, sums-high, squares-high, sound-total}
+use Rattle.table.proofs.Laws.{total-is}
+use Rattle.sums.specs.declared.Bounds.{Bounds}
+use Rattle.sums.specs.Box.{minAt, maxAt, sum3, binSum, boxSum, Within, lowSide, highSide, InBox}
+use Rattle.sums.proofs.Boxes.{sum3-first, sum3-second, sum3-third, sum3-le, sum3-scale, sum3-term, sum3-zero}
+use Rattle.sums.proofs.Below.{all-bins, below-all}
+use Rattle.sums.proofs.Corners.{sides, box-below}
+
+-- ---- a cut
+runs : (a c e : ℕ) → a ≤ c → c ≤ e → e - a ≡ (c - a) + (e - c)
+runs a c e h l = omega arith
+
+there : (a c : ℕ) → a ≤ c → a + (c - a) ≡ c
+there a c h = omega arith
+
+-- "the sum of a box is the sum of the two sides of any cut"
+pub cut-sum : (g : Grid) (v : View) (x : Bounds) (d c j : ℕ) → minAt x d ≤ c → c ≤ maxAt x d → boxSum g v x j ≡ boxSum g v (lowSide x d c) j + boxSum g v (highSide x d c) j
+unfolding boxSum binSum lowSide highSide minAt maxAt choose
+cut-sum g v x zero c j h l =
+    let f : ℕ → ℕ → ℕ → ℕ = λ r gr b. v (placeOf g r gr b) j in
+    ap (λ (n : ℕ). sum3 (x .r0) n (x .g0) (x .g1 - x .g0) (x .b0) (x .b1 - x .b0) f) (runs (x .r0) c (x .r1) h l)
+    ∙ sum3-first f (x .r0) (c - x .r0) (x .r1 - c) (x .g0) (x .g1 - x .g0) (x .b0) (x .b1 - x .b0)
+    ∙ ap (λ (n : ℕ). sum3 (x .r0) (c - x .r0) (x .g0) (x .g1 - x .g0) (x .b0) (x .b1 - x .b0) f + sum3 n (x .r1 - c) (x .g0) (x .g1 - x .g0) (x .b0) (x .b1 - x .b0) f) (there (x .r0) c h)
+cut-sum g v x (suc zero) c j h l =
+    let f : ℕ → ℕ → ℕ → ℕ = λ r gr b. v (placeOf g r gr b) j in
+    ap (λ (n : ℕ). sum3 (x .r0) (x .r1 - x .r0) (x .g0) n (x .b0) (x .b1 - x .b0) f) (runs (x .g0) c (x .g1) h l)
+    ∙ sum3-second f (x .r0) (x .r1 - x .r0) (x .g0) (c - x .g0) (x .g1 - c) (x .b0) (x .b1 - x .b0)
+    ∙ ap (λ (n : ℕ). sum3 (x .r0) (x .r1 - x .r0) (x .g0) (c - x .g0) (x .b0) (x .b1 - x .b0) f + sum3 (x .r0) (x .r1 - x .r0) n (x .g1 - c) (x .b0) (x .b1 - x .b0) f) (there (x .g0) c h)
+cut-sum g v x (suc (suc d)) c j h l =
+    let f : ℕ → ℕ → ℕ → ℕ = λ r gr b. v (placeOf g r gr b) j in
+    ap (λ (n : ℕ). sum3 (x .r0) (x .r1 - x .r0) (x .g0) (x .g1 - x .g0) (x .b0) n f) (runs (x .b0) c (x .b1) h l)
+    ∙ sum3-third f (x .r0) (x .r1 - x .r0) (x .g0) (x .g1 - x .g0) (x .b0) (c - x .b0) (x .b1 - c)
+    ∙ ap (λ (n : ℕ). sum3 (x .r0) (x .r1 - x .r0) (x .g0) (x .g1 - x .g0) (x .b0) (c - x .b0) f + sum3 (x .r0) (x .r1 - x .r0) (x .g0) (x .g1 - x .g0) n (x .b1 - c) f) (there (x .b0) c h)
+
+-- ---- bounds
+module _ {g : Grid} {v : View} (s : Sound limit g v) {x : Bounds} (w : Within g x) where
+  -- the places of its bins
+  place-in : (r gr b : ℕ) → r < x .r0 + (x .r1 - x .r0) → gr < x .g0 + (x .g1 - x .g0) → b < x .b0 + (x .b1 - x .b0) → placeOf g r gr b < binsOf g
+  place-in r gr b h k l =
+      let e = sides w in
+      place-lt
+      (record {
+        accepted = w .accepted;
+        one = omega (arith, e .one, e .one-fits);
+        two = omega (arith, e .two, e .two-fits);
+        three = omega (arith, e .three, e .three-fits);
+      })
+
+  bounded : (q j : ℕ) → ((p : ℕ) → p < binsOf g → v p j ≤ q * v p 0) → boxSum g v x j ≤ q * boxSum g v x 0
+  unfolding boxSum binSum
+  bounded q j e =
+      rw (← sum3-scale q (x .r0) (x .r1 - x .r0) (x .g0) (x .g1 - x .g0) (x .b0) (x .b1 - x .b0) (λ r gr b. v (placeOf g r gr b) 0))
+      (sum3-le (x .r0) (x .r1 - x .r0) (x .g0) (x .g1 - x .g0) (x .b0) (x .b1 - x .b0)
+      (λ r gr b. v (placeOf g r gr b) j) (λ r gr b. q * v (placeOf g r gr b) 0)
+      (λ r gr b h k l. e (placeOf g r gr b) (place-in r gr b h k l)))
+
+  -- component sums at most 255·n, squares at most 195,075·n, and n at most the limit
+  pub box-sums-high : (d : ℕ) → d < 3 → boxSum g v x (d + 1) ≤ 255 * boxSum g v x 0
+  box-sums-high d h = bounded 255 (d + 1) (λ p l. sums-high (w .accepted) s p l d h)
+
+  pub box-squares-high : boxSum g v x 4 ≤ 195075 * boxSum g v x 0
+  box-squares-high = bounded 195075 4 (λ p l. squares-high s p l)
+
+  pub box-weight-high : boxSum g v x 0 ≤ limit
+  box-weight-high =
+      let e = sides w in
+      omega (arith, box-below g v x 0 e, below-all (w .accepted) s (x .r1) (x .g1) (x .b1) 0 (e .one-fits) (e .two-fits) (e .three-fits), all-bins g v 0, total-is g v, sound-total s)
+
+-- ---- empty boxes
+pub box-empty : (g : Grid) (v : View) (x : Bounds) → ((r gr b : ℕ) → InBox x r gr b → v (placeOf g r gr b) 0 ≡ 0) → boxSum g v x 0 ≡ 0
+unfolding boxSum binSum
+box-empty g v x e =
+    sum3-zero (x .r0) (x .r1 - x .r0) (x .g0) (x .g1 - x .g0) (x .b0) (x .b1 - x .b0) (λ r gr b. v (placeOf g r gr b) 0)
+    (λ r gr b h h' k k' l l'. e r gr b (record { one = (h, omega arith); two = (k, omega arith); three = (l, omega arith) }))
+
+pub bins-empty : (g : Grid) (v : View) (x : Bounds) → boxSum g v x 0 ≡ 0 → (r gr b : ℕ) → InBox x r gr b → v (placeOf g r gr b) 0 ≡ 0
+unfolding boxSum binSum
+bins-empty g v x e r gr b i =
+    omega (
+      arith,
+      sum3-term (x .r0) (x .r1 - x .r0) (x .g0) (x .g1 - x .g0) (x .b0) (x .b1 - x .b0) (λ a c d. v (placeOf g a c d) 0) r gr b
+          (i .one .0) (omega (arith, i .one .1)) (i .two .0) (omega (arith, i .two .1)) (i .three .0) (omega (arith, i .three .1)),
+    )

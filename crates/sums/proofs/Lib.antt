@@ -1,0 +1,5 @@
+pub mod Boxes
+pub mod Below
+pub mod Steps
+pub mod Corners
+pub mod Laws
