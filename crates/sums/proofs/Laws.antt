@@ -4,7 +4,7 @@ use mathlib.Core.Path.{_≡_, ap, _∙_}
 use Prim.Native.Nat.{ℕ, zero, suc, _+_, _-_, _*_, _≤_, _<_}
 use native.Mathlib.Omega.{arith}
 use Rattle.grid.specs.declared.Grid.{Grid}
-use Rattle.grid.specs.Grid.{choose, binsOf, placeOf}
+use Rattle.grid.specs.Grid.{Accepted, choose, sizeAt, binsOf, placeOf}
 use Rattle.grid.proofs.Places.{place-lt}
 use Rattle.table.specs.Cell.{View}
 use Rattle.table.specs.Sound.{limit}
@@ -14,7 +14,7 @@ use Rattle.sums.specs.declared.Bounds.{Bounds}
 use Rattle.sums.specs.Box.{minAt, maxAt, sum3, binSum, boxSum, Within, lowSide, highSide, InBox}
 use Rattle.sums.proofs.Boxes.{sum3-first, sum3-second, sum3-third, sum3-le, sum3-scale, sum3-term, sum3-zero}
 use Rattle.sums.proofs.Below.{all-bins, below-all}
-use Rattle.sums.proofs.Corners.{sides, box-below}
+use Rattle.sums.proofs.Corners.{Sides, sides, box-below}
 
 -- ---- a cut
 runs : (a c e : ℕ) → a ≤ c → c ≤ e → e - a ≡ (c - a) + (e - c)
@@ -41,6 +41,47 @@ cut-sum g v x (suc (suc d)) c j h l =
     ap (λ (n : ℕ). sum3 (x .r0) (x .r1 - x .r0) (x .g0) (x .g1 - x .g0) (x .b0) n f) (runs (x .b0) c (x .b1) h l)
     ∙ sum3-third f (x .r0) (x .r1 - x .r0) (x .g0) (x .g1 - x .g0) (x .b0) (c - x .b0) (x .b1 - c)
     ∙ ap (λ (n : ℕ). sum3 (x .r0) (x .r1 - x .r0) (x .g0) (x .g1 - x .g0) (x .b0) (c - x .b0) f + sum3 (x .r0) (x .r1 - x .r0) (x .g0) (x .g1 - x .g0) n (x .b1 - c) f) (there (x .b0) c h)
+
+-- an order that holds in each dimension
+by-dimension : (R : ℕ → ℕ → Type 0) (d a b c x y z : ℕ) → R a x → R b y → R c z → R (choose d a b c) (choose d x y z)
+unfolding choose
+by-dimension R zero a b c x y z p q r = p
+by-dimension R (suc zero) a b c x y z p q r = q
+by-dimension R (suc (suc d)) a b c x y z p q r = r
+
+within-by : {g : Grid} → Accepted g → (x : Bounds) → Sides g x → Within g x
+unfolding minAt maxAt sizeAt
+within-by {g} a x s =
+    record {
+      accepted = a;
+      some = λ d. by-dimension _<_ d (x .r0) (x .g0) (x .b0) (x .r1) (x .g1) (x .b1) (s .one) (s .two) (s .three);
+      fits = λ d. by-dimension _≤_ d (x .r1) (x .g1) (x .b1) (g .b1) (g .b2) (g .b3) (s .one-fits) (s .two-fits) (s .three-fits);
+    }
+
+-- the two sides of a cut strictly inside a box
+pub low-within : {g : Grid} {x : Bounds} → Within g x → (d c : ℕ) → minAt x d < c → c < maxAt x d → Within g (lowSide x d c)
+unfolding lowSide minAt maxAt choose
+low-within {g} {x} w zero c h l =
+    let s = sides w in
+    within-by (w .accepted) _ (record { one = h; two = s .two; three = s .three; one-fits = omega (arith, s .one-fits); two-fits = s .two-fits; three-fits = s .three-fits })
+low-within {g} {x} w (suc zero) c h l =
+    let s = sides w in
+    within-by (w .accepted) _ (record { one = s .one; two = h; three = s .three; one-fits = s .one-fits; two-fits = omega (arith, s .two-fits); three-fits = s .three-fits })
+low-within {g} {x} w (suc (suc d)) c h l =
+    let s = sides w in
+    within-by (w .accepted) _ (record { one = s .one; two = s .two; three = h; one-fits = s .one-fits; two-fits = s .two-fits; three-fits = omega (arith, s .three-fits) })
+
+pub high-within : {g : Grid} {x : Bounds} → Within g x → (d c : ℕ) → minAt x d < c → c < maxAt x d → Within g (highSide x d c)
+unfolding highSide minAt maxAt choose
+high-within {g} {x} w zero c h l =
+    let s = sides w in
+    within-by (w .accepted) _ (record { one = l; two = s .two; three = s .three; one-fits = s .one-fits; two-fits = s .two-fits; three-fits = s .three-fits })
+high-within {g} {x} w (suc zero) c h l =
+    let s = sides w in
+    within-by (w .accepted) _ (record { one = s .one; two = l; three = s .three; one-fits = s .one-fits; two-fits = s .two-fits; three-fits = s .three-fits })
+high-within {g} {x} w (suc (suc d)) c h l =
+    let s = sides w in
+    within-by (w .accepted) _ (record { one = s .one; two = s .two; three = l; one-fits = s .one-fits; two-fits = s .two-fits; three-fits = s .three-fits })
 
 -- ---- bounds
 module _ {g : Grid} {v : View} (s : Sound limit g v) {x : Bounds} (w : Within g x) where

@@ -1,5 +1,5 @@
 -- Boxes and what they sum to (document 01, "Moments"). Definitions only.
-use Prim.Native.Nat.{ℕ, zero, suc, _-_, _≤_, _<_}
+use Prim.Native.Nat.{ℕ, _-_, _≤_, _<_}
 use lib.IntN.{pos}
 use lib.Ieee.{binary64, ofInt}
 use Rattle.grid.specs.declared.Grid.{Grid}
@@ -47,14 +47,18 @@ pub record Within (g : Grid) (x : Bounds) : Type 0 where
 
 -- "the low side is [min, bin), the high side the rest"
 unfoldable pub lowSide : Bounds → ℕ → ℕ → Bounds
-lowSide x zero c = record { r0 = x .r0; r1 = c; g0 = x .g0; g1 = x .g1; b0 = x .b0; b1 = x .b1 }
-lowSide x (suc zero) c = record { r0 = x .r0; r1 = x .r1; g0 = x .g0; g1 = c; b0 = x .b0; b1 = x .b1 }
-lowSide x (suc (suc d)) c = record { r0 = x .r0; r1 = x .r1; g0 = x .g0; g1 = x .g1; b0 = x .b0; b1 = c }
+lowSide x d c =
+    choose d
+    (record { r0 = x .r0; r1 = c; g0 = x .g0; g1 = x .g1; b0 = x .b0; b1 = x .b1 })
+    (record { r0 = x .r0; r1 = x .r1; g0 = x .g0; g1 = c; b0 = x .b0; b1 = x .b1 })
+    (record { r0 = x .r0; r1 = x .r1; g0 = x .g0; g1 = x .g1; b0 = x .b0; b1 = c })
 
 unfoldable pub highSide : Bounds → ℕ → ℕ → Bounds
-highSide x zero c = record { r0 = c; r1 = x .r1; g0 = x .g0; g1 = x .g1; b0 = x .b0; b1 = x .b1 }
-highSide x (suc zero) c = record { r0 = x .r0; r1 = x .r1; g0 = c; g1 = x .g1; b0 = x .b0; b1 = x .b1 }
-highSide x (suc (suc d)) c = record { r0 = x .r0; r1 = x .r1; g0 = x .g0; g1 = x .g1; b0 = c; b1 = x .b1 }
+highSide x d c =
+    choose d
+    (record { r0 = c; r1 = x .r1; g0 = x .g0; g1 = x .g1; b0 = x .b0; b1 = x .b1 })
+    (record { r0 = x .r0; r1 = x .r1; g0 = c; g1 = x .g1; b0 = x .b0; b1 = x .b1 })
+    (record { r0 = x .r0; r1 = x .r1; g0 = x .g0; g1 = x .g1; b0 = c; b1 = x .b1 })
 
 -- a bin of a box
 pub record InBox (x : Bounds) (r gr b : ℕ) : Type 0 where

@@ -1,0 +1,88 @@
+-- Laws of positions and of the better of two.
+-- Assumes nothing.
+use mathlib.Core.Path.{_≡_, refl, sym, ap, ap₂, _∙_}
+use mathlib.Core.Bool.{Bool, true, false, cond}
+use Prim.Native.Nat.{ℕ, suc, _+_, _-_, _≤_}
+use native.Mathlib.Nat.{le-trans, sub-self}
+use native.Mathlib.Omega.{arith}
+use lib.Dec.{T, le→leb, lit<}
+use lib.IntN.{pos}
+use lib.Ieee.{Float, binary64, inFloat, lt}
+use Rattle.grid.specs.declared.Grid.{Grid}
+use Rattle.grid.proofs.Size.{size-high}
+use Rattle.grid.proofs.Places.{sized-at}
+use Rattle.table.specs.Cell.{View}
+use Rattle.table.specs.Sound.{limit}
+use Rattle.table.proofs.Soundness.{Sound}
+use Rattle.sums.specs.declared.Bounds.{Bounds}
+use Rattle.sums.specs.declared.Stats.{Stats}
+use Rattle.sums.specs.Box.{maxAt, statsOf, lowSide, highSide, Within}
+use Rattle.sums.proofs.Laws.{box-sums-high, box-weight-high}
+use Rattle.spread.specs.declared.Position.{Position}
+use Rattle.spread.specs.declared.Position.the-variants.{At, Nowhere}
+use Rattle.spread.specs.Spread.{Plain}
+use Rattle.spread.specs.Cut.{positionOf, positionAt, better, bestRun}
+
+-- a whole number up to 2^53 is turned into f64 without loss
+pub casts : (n : ℕ) → n ≤ 9007199254740992 → T (inFloat binary64 (pos n))
+unfolding inFloat
+casts n h = le→leb n 9007199254740992 h
+
+-- the better of two, by their cases
+module _ {a b : Position} where
+  pub later-only : a ≡ Nowhere → b ≡ better a b
+  unfolding better
+  later-only p = sym (ap (λ (x : Position). better x b) p)
+
+  pub earlier-only : {d i : ℕ} {x : Float} → a ≡ At d i x → b ≡ Nowhere → At d i x ≡ better a b
+  unfolding better
+  earlier-only p q = sym (ap₂ better p q)
+
+  module _ {d i : ℕ} {x : Float} (p : a ≡ At d i x) {e k : ℕ} {y : Float} (q : b ≡ At e k y) where
+    pub later-less : lt y x ≡ true → At e k y ≡ better a b
+    unfolding better
+    later-less l = sym (ap₂ better p q ∙ ap (λ (t : Bool). cond t (At e k y) (At d i x)) l)
+
+    pub later-not-less : lt y x ≡ false → At d i x ≡ better a b
+    unfolding better
+    later-not-less l = sym (ap₂ better p q ∙ ap (λ (t : Bool). cond t (At e k y) (At d i x)) l)
+
+-- ---- the statistics of a box of a sound table are plain
+pub plain-stats : {g : Grid} {v : View} → Sound limit g v → {x : Bounds} → Within g x → {s : Stats} → s ≡ statsOf g v x → Plain s
+unfolding statsOf
+plain-stats {g} {v} h {x} w e =
+    rw e
+    (record {
+      weight = box-weight-high h w;
+      one = box-sums-high h w 0 (lit< tt);
+      two = box-sums-high h w 1 (lit< tt);
+      three = box-sums-high h w 2 (lit< tt);
+    })
+
+-- the last bin of a dimension
+pub end-high : {g : Grid} {x : Bounds} → Within g x → (d : ℕ) → maxAt x d ≤ 128
+end-high w d = le-trans (w .fits d) (size-high (sized-at (w .accepted) d))
+
+-- ---- one position after the other
+module _ (g : Grid) (v : View) (x : Bounds) (d : ℕ) where
+  pub position-is : (bin : ℕ) {low high : Stats} → low ≡ statsOf g v (lowSide x d bin) → high ≡ statsOf g v (highSide x d bin) → {p : Position} → p ≡ positionOf d bin low high → p ≡ positionAt g v x d bin
+  unfolding positionAt
+  position-is bin e f q = q ∙ (λ i. positionOf d bin (e i) (f i))
+
+  pub run-none : (first bin : ℕ) → bin ≡ first → Nowhere ≡ bestRun g v x d first (bin - first)
+  unfolding bestRun
+  run-none first bin e = rw (e, sub-self first) refl
+
+  pub run-next : (first bin : ℕ) → first ≤ bin → {best p r : Position} → best ≡ bestRun g v x d first (bin - first) → p ≡ positionAt g v x d bin → r ≡ better best p → r ≡ bestRun g v x d first ((bin + 1) - first)
+  unfolding bestRun
+  run-next first bin h e f q =
+      q
+      ∙ (λ i. better (e i) (f i))
+      ∙ ap (λ (n : ℕ). better (bestRun g v x d first (bin - first)) (positionAt g v x d n)) (there first bin h)
+      ∙ ap (bestRun g v x d first) (longer first bin h)
+    where
+      there : (first bin : ℕ) → first ≤ bin → bin ≡ first + (bin - first)
+      there first bin h = omega arith
+
+      longer : (first bin : ℕ) → first ≤ bin → suc (bin - first) ≡ (bin + 1) - first
+      longer first bin h = omega arith

@@ -1,0 +1,51 @@
+-- The best position to cut one box (document 01, "Cutting one box"). Definitions only.
+use mathlib.Core.Bool.{cond}
+use mathlib.Core.List.{List, [], _∷_}
+use Prim.Native.Nat.{ℕ, zero, suc, _+_, _-_}
+use lib.Dec.{eqb}
+use lib.Ieee.{Float, lt}
+use Rattle.grid.specs.declared.Grid.{Grid}
+use Rattle.table.specs.Cell.{View}
+use Rattle.sums.specs.declared.Bounds.{Bounds}
+use Rattle.sums.specs.declared.Stats.{Stats}
+use Rattle.sums.specs.Box.{statsOf, minAt, maxAt, lowSide, highSide}
+use Rattle.spread.specs.declared.Position.{Position}
+use Rattle.spread.specs.declared.Position.the-variants.{At, Nowhere}
+use Rattle.spread.specs.Spread.{scoreOf}
+
+-- what a caller is told of each case: "either a position with its float score, or that no position exists"
+pub record Told : Type 0 where
+  pub values : List ℕ
+  pub scores : List Float
+
+unfoldable pub positionAnswer : Position → Told
+positionAnswer (At d bin score) = record { values = d ∷ bin ∷ []; scores = score ∷ [] }
+positionAnswer Nowhere = record { values = []; scores = [] }
+
+-- "A position with an empty side is skipped"
+unfoldable pub positionOf : ℕ → ℕ → Stats → Stats → Position
+positionOf d bin low high =
+    cond (eqb (low .weight) 0) Nowhere (cond (eqb (high .weight) 0) Nowhere (At d bin (scoreOf low high)))
+
+-- the position at a bin of dimension d: "the low side is [min, bin), the high side the rest"
+unfoldable pub positionAt : Grid → View → Bounds → ℕ → ℕ → Position
+positionAt g v x d bin = positionOf d bin (statsOf g v (lowSide x d bin)) (statsOf g v (highSide x d bin))
+
+-- of two positions the earlier, unless the later has a smaller score
+unfoldable pub better : Position → Position → Position
+better Nowhere later = later
+better (At d bin score) Nowhere = At d bin score
+better (At d bin score) (At e other less) = cond (lt less score) (At e other less) (At d bin score)
+
+-- the best of the n positions from a bin of dimension d on, in order
+unfoldable pub bestRun : Grid → View → Bounds → ℕ → ℕ → ℕ → Position
+bestRun g v x d bin zero = Nowhere
+bestRun g v x d bin (suc n) = better (bestRun g v x d bin n) (positionAt g v x d (bin + n))
+
+-- "each bin strictly between min and max"
+unfoldable pub bestIn : Grid → View → Bounds → ℕ → Position
+bestIn g v x d = bestRun g v x d (minAt x d + 1) (maxAt x d - (minAt x d + 1))
+
+-- "The smallest score wins; on a tie the lowest dimension, in it the lowest bin"
+unfoldable pub bestCut : Grid → View → Bounds → Position
+bestCut g v x = better (better (bestIn g v x 0) (bestIn g v x 1)) (bestIn g v x 2)

@@ -1,0 +1,51 @@
+-- Spread and score in f64 (document 01, "Spread" and "Cutting one box"). Definitions only.
+use mathlib.Core.Bool.{Bool, false, _&&_, cond}
+use Prim.Native.Nat.{ℕ, _-_, _*_, _≤_}
+use lib.Dec.{eqb}
+use lib.IntN.{pos}
+use lib.Ieee.{Float, fin, binary64, add, sub, mul, div, neg, ofInt}
+use Rattle.table.specs.Sound.{limit}
+use Rattle.sums.specs.declared.Bounds.{Bounds}
+use Rattle.sums.specs.declared.Stats.{Stats}
+
+-- "each whole number first turned into f64"
+abbrev pub whole : ℕ → Float
+whole n = ofInt binary64 (pos n)
+
+abbrev pub squareOf : ℕ → Float
+squareOf n = mul binary64 (whole n) (whole n)
+
+-- "Q is c1², then plus c2², then plus c3², each operation rounded once"
+abbrev pub qOf : ℕ → ℕ → ℕ → Float
+qOf a b c = add binary64 (add binary64 (squareOf a) (squareOf b)) (squareOf c)
+
+-- Q/n
+unfoldable pub quotOf : Stats → Float
+quotOf s = div binary64 (qOf (s .sum1) (s .sum2) (s .sum3)) (whole (s .weight))
+
+abbrev pub zeroOf : Float
+zeroOf = fin false 0 (pos 0)
+
+unfoldable pub oneBin : Bounds → Bool
+oneBin x = eqb (x .r1 - x .r0) 1 && (eqb (x .g1 - x .g0) 1 && eqb (x .b1 - x .b0) 1)
+
+-- "A box of one bin has spread exactly 0.0. Any other box .. has squares − Q/n"
+unfoldable pub spreadOf : Bounds → Stats → Float
+spreadOf x s = cond (oneBin x) zeroOf (sub binary64 (s .squares) (quotOf s))
+
+-- "Its score is −(Qlow/nlow + Qhigh/nhigh)"
+unfoldable pub scoreOf : Stats → Stats → Float
+scoreOf low high = neg (add binary64 (quotOf low) (quotOf high))
+
+-- statistics whose whole numbers f64 holds
+pub record Plain (s : Stats) : Type 0 where
+  pub weight : s .weight ≤ limit
+  pub one : s .sum1 ≤ 255 * s .weight
+  pub two : s .sum2 ≤ 255 * s .weight
+  pub three : s .sum3 ≤ 255 * s .weight
+
+-- a box with its ends in order
+pub record Ordered (x : Bounds) : Type 0 where
+  pub one : x .r0 ≤ x .r1
+  pub two : x .g0 ≤ x .g1
+  pub three : x .b0 ≤ x .b1
