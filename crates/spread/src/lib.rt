@@ -27,7 +27,7 @@ fn quotient(s: Stats) -> f64
 }
 
 // Whether a box has one bin.
-pub fn is_one_bin(x: Bounds) -> bool
+fn is_one_bin(x: Bounds) -> bool
     requires { ⌜ Ordered x ⌝ }
     ensures { λ r. ⌜ r ≡ oneBin x ⌝ }
 {

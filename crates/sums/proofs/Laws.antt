@@ -132,3 +132,22 @@ bins-empty g v x e r gr b i =
       sum3-term (x .r0) (x .r1 - x .r0) (x .g0) (x .g1 - x .g0) (x .b0) (x .b1 - x .b0) (λ a c d. v (placeOf g a c d) 0) r gr b
           (i .one .0) (omega (arith, i .one .1)) (i .two .0) (omega (arith, i .two .1)) (i .three .0) (omega (arith, i .three .1)),
     )
+
+-- ---- the bins of the two sides of a cut
+pub in-low : {x : Bounds} {r gr b : ℕ} → InBox x r gr b → (d c : ℕ) → choose d r gr b < c → InBox (lowSide x d c) r gr b
+unfolding lowSide choose
+in-low i zero c h = record { one = (i .one .0, h); two = i .two; three = i .three }
+in-low i (suc zero) c h = record { one = i .one; two = (i .two .0, h); three = i .three }
+in-low i (suc (suc d)) c h = record { one = i .one; two = i .two; three = (i .three .0, h) }
+
+pub in-high : {x : Bounds} {r gr b : ℕ} → InBox x r gr b → (d c : ℕ) → c ≤ choose d r gr b → InBox (highSide x d c) r gr b
+unfolding highSide choose
+in-high i zero c h = record { one = (h, i .one .1); two = i .two; three = i .three }
+in-high i (suc zero) c h = record { one = i .one; two = (h, i .two .1); three = i .three }
+in-high i (suc (suc d)) c h = record { one = i .one; two = i .two; three = (h, i .three .1) }
+
+pub in-box : {x : Bounds} {r gr b : ℕ} → InBox x r gr b → (d : ℕ) → (minAt x d ≤ choose d r gr b) × (choose d r gr b < maxAt x d)
+unfolding minAt maxAt choose
+in-box i zero = i .one
+in-box i (suc zero) = i .two
+in-box i (suc (suc d)) = i .three
