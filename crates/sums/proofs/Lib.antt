@@ -3,3 +3,4 @@ pub mod Below
 pub mod Steps
 pub mod Corners
 pub mod Laws
+pub mod Loaded

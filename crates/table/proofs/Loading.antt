@@ -261,3 +261,12 @@ loaded-at g cs v p j = refl
 pub adds-at : (g : Grid) (c : Weighted) (p j : ℕ) → adds g c p j ≡ hit (colourPlace g (c .colour)) p (share c j)
 unfolding adds
 adds-at g c p j = refl
+
+-- sums over a list, one colour after the other
+pub over-none : (f : Weighted → ℕ) → sumOver [] f ≡ 0
+unfolding sumOver
+over-none f = refl
+
+pub over-more : (c : Weighted) (cs : List Weighted) (f : Weighted → ℕ) → sumOver (c ∷ cs) f ≡ f c + sumOver cs f
+unfolding sumOver
+over-more c cs f = refl
