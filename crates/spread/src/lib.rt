@@ -2,12 +2,15 @@
 use grid::Grid;
 use sums::Bounds;
 use sums::Stats;
-use sums::box_sum;
+use sums::box_cell;
+use sums::stats_of;
+use table::Cell;
+use table::minus;
 ghost use mathlib.Core.Path.{_≡_};
 ghost use Prim.Native.Nat.{_≤_, _<_};
 ghost use Rattle.grid.specs.Grid.{choose};
 ghost use Rattle.table.specs.Cell.{wide};
-ghost use Rattle.sums.specs.Box.{minAt, maxAt, lowSide, highSide, Within};
+ghost use Rattle.sums.specs.Box.{boxCell, minAt, maxAt, lowSide, highSide, Within};
 ghost use Rattle.sums.specs.Moments.{Worked};
 ghost use Rattle.spread.specs.Spread.{quotOf, oneBin, spreadOf, scoreOf, Plain, Ordered};
 ghost use Rattle.spread.specs.Cut.{positionOf, positionAt, better as betterOf, bestIn, bestCut};
@@ -153,18 +156,57 @@ fn end_bin(x: Bounds, dimension: u8) -> u8
     }
 }
 
+// The five sums of a box's bins before a bin of a dimension, from the edge of the grid on (`volume_at`).
+fn sums_before(table: &[u64], work: &[u64], g: Grid, x: Bounds, dimension: u8, bin: u8) -> Cell
+    requires { ⌜ Worked g (now table) (now work) × Within g x × (bin ≤ maxAt x dimension) ⌝ }
+    ensures { λ c. ⌜ c ≡ boxCell g (wide (now (table .entry))) (lowSide (highSide x dimension 0) dimension bin) ⌝ }
+{
+    box_cell(
+        table,
+        work,
+        g,
+        low_side(high_side(x, dimension, 0), dimension, bin),
+    )
+}
+
+// The position at a bin, from the five sums of the box and of what lies before the box in the dimension: the low side is
+// what lies before the bin and not before the box, the high side the rest of the box.
+fn position_at(
+    table: &[u64],
+    work: &[u64],
+    g: Grid,
+    x: Bounds,
+    dimension: u8,
+    bin: u8,
+    all: Cell,
+    base: Cell,
+) -> Position
+    requires { ⌜ Worked g (now table) (now work) × Within g x × (minAt x dimension < bin) × (bin < maxAt x dimension) ⌝ }
+    requires { ⌜ all ≡ boxCell g (wide (now table)) x ⌝ }
+    requires { ⌜ base ≡ boxCell g (wide (now table)) (lowSide (highSide x dimension 0) dimension (minAt x dimension)) ⌝ }
+    ensures { λ r. ⌜ r ≡ positionAt g (wide (now (table .entry))) x dimension bin ⌝ }
+{
+    let low = minus(sums_before(table, work, g, x, dimension, bin), base);
+    let high = minus(all, low);
+    position_between(dimension, bin, stats_of(low), stats_of(high))
+}
+
 // The best position of a box in one dimension.
-fn best_in(table: &[u64], work: &[u64], g: Grid, x: Bounds, dimension: u8) -> Position
+fn best_in(table: &[u64], work: &[u64], g: Grid, x: Bounds, dimension: u8, all: Cell) -> Position
     requires { ⌜ Worked g (now table) (now work) × Within g x ⌝ }
+    requires { ⌜ all ≡ boxCell g (wide (now table)) x ⌝ }
     ensures { λ r. ⌜ r ≡ bestIn g (wide (now (table .entry))) x dimension ⌝ }
 {
     let end = end_bin(x, dimension);
+    let first = first_bin(x, dimension);
+    let base = sums_before(table, work, g, x, dimension, first);
     let mut best = Position::Nowhere;
-    let mut bin = first_bin(x, dimension) + 1;
+    let mut bin = first + 1;
     while bin < end {
-        let low = box_sum(table, work, g, low_side(x, dimension, bin));
-        let high = box_sum(table, work, g, high_side(x, dimension, bin));
-        best = better(best, position_between(dimension, bin, low, high));
+        best = better(
+            best,
+            position_at(table, work, g, x, dimension, bin, all, base),
+        );
         bin = bin + 1;
     }
     best
@@ -175,6 +217,10 @@ pub fn best_cut(table: &[u64], work: &[u64], g: Grid, x: Bounds) -> Position
     requires { ⌜ Worked g (now table) (now work) × Within g x ⌝ }
     ensures { λ r. ⌜ r ≡ bestCut g (wide (now (table .entry))) x ⌝ }
 {
-    let two = better(best_in(table, work, g, x, 0), best_in(table, work, g, x, 1));
-    better(two, best_in(table, work, g, x, 2))
+    let all = box_cell(table, work, g, x);
+    let two = better(
+        best_in(table, work, g, x, 0, all),
+        best_in(table, work, g, x, 1, all),
+    );
+    better(two, best_in(table, work, g, x, 2, all))
 }

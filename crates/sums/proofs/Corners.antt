@@ -3,20 +3,24 @@
 use mathlib.Core.Path.{_≡_, refl, sym, ap, _∙_}
 use mathlib.Core.List.{List}
 use Prim.Native.Nat.{ℕ, _+_, _-_, _^_, _≤_, _<_}
-use native.Mathlib.Nat.{zero-add, lt-of-le-of-lt}
+use native.Mathlib.Nat.{zero-add, le-of-lt, lt-of-le-of-lt}
 use native.Mathlib.Omega.{arith}
+use lib.Dec.{lit<}
+use lib.Ieee.{binary64, ofInt}
+use lib.IntN.{pos}
 use Rattle.grid.specs.declared.Grid.{Grid}
 use Rattle.grid.specs.Range.{sumFrom}
 use Rattle.grid.specs.Grid.{Inside, choose, sizeAt, binsOf, placeOf}
 use Rattle.grid.proofs.Range.{sum-zero, sum-same}
 use Rattle.grid.proofs.Places.{place-lt}
 use Rattle.table.specs.declared.Cell.{Cell}
-use Rattle.table.specs.Cell.{View, wide, cellOf, numberOf, HasCell}
+use Rattle.table.specs.Cell.{View, wide, cellOf, numberOf, minusCell, AtLeast, HasCell}
 use Rattle.table.specs.Sound.{limit}
-use Rattle.table.proofs.Cells.{Holds, list-holds, number-cell, cell-by, zero-cell}
+use Rattle.table.proofs.Cells.{Holds, list-holds, number-cell, cell-by, cell-fields, minus-least, minus-is, zero-cell}
 use Rattle.table.proofs.Soundness.{Sound}
 use Rattle.sums.specs.declared.Bounds.{Bounds}
-use Rattle.sums.specs.Box.{minAt, maxAt, sum3, binSum, boxSum, Within}
+use Rattle.sums.specs.declared.Stats.{Stats}
+use Rattle.sums.specs.Box.{minAt, maxAt, sum3, binSum, boxSum, boxCell, cellStats, statsOf, Spans, Within}
 use Rattle.sums.specs.Moments.{belowSum, momentsOf, binCell, Corner}
 use Rattle.sums.proofs.Boxes.{sum3-first, sum3-second, sum3-third}
 use Rattle.sums.proofs.Below.{moments-at, below-small}
@@ -62,6 +66,20 @@ module _ (g : Grid) (v : View) where
       ap (λ (k : ℕ). sum3 a n b m 0 k (bin j)) (ends s e h)
       ∙ sum3-third (bin j) a n b m 0 s (e - s)
       ∙ ap (λ (k : ℕ). sum3 a n b m 0 s (bin j) + sum3 a n b m k (e - s) (bin j)) (zero-add s)
+
+-- the cell of a run of bins, from those up to its end and up to its start
+module _ (F : ℕ → ℕ → ℕ → ℕ) (split : (s e j : ℕ) → s ≤ e → F 0 e j ≡ F 0 s j + F s (e - s) j) {s e : ℕ} (h : s ≤ e) {upper : Cell} (p : upper ≡ cellOf (F 0 e)) where
+  pub from-least : {lower : Cell} → lower ≡ cellOf (F 0 s) → AtLeast upper lower
+  from-least q = minus-least (F 0 e) (F 0 s) (F s (e - s)) (λ j. split s e j h) p q
+
+  pub from-is : {lower : Cell} → lower ≡ cellOf (F 0 s) → {x : Cell} → x ≡ minusCell upper lower → x ≡ cellOf (F s (e - s))
+  from-is q r = minus-is (F 0 e) (F 0 s) (F s (e - s)) (λ j. split s e j h) p q r
+
+  pub from-start : s ≡ 0 → upper ≡ cellOf (F s (e - s))
+  from-start z = p ∙ (λ i. cellOf (F (sym z i) (same i)))
+    where
+      same : e ≡ e - s
+      same = omega arith
 
 -- zeros where there are no bins
 pub zeros-are : (g : Grid) (v : View) (a n b m c k : ℕ) → ((j : ℕ) → binSum g v a n b m c k j ≡ 0) → _≡_ {A = Cell} (record { weight = 0; sum1 = 0; sum2 = 0; sum3 = 0; squares = 0 }) (binCell g v a n b m c k)
@@ -126,6 +144,30 @@ sides w =
       three-fits = w .fits 2;
     }
 
+-- a box that has some bins, or none
+pub record Edges (g : Grid) (x : Bounds) : Type 0 where
+  pub one : x .r0 ≤ x .r1
+  pub two : x .g0 ≤ x .g1
+  pub three : x .b0 ≤ x .b1
+  pub one-fits : x .r1 ≤ g .b1
+  pub two-fits : x .g1 ≤ g .b2
+  pub three-fits : x .b1 ≤ g .b3
+
+pub edges : {g : Grid} {x : Bounds} → Spans g x → Edges g x
+unfolding minAt maxAt sizeAt choose
+edges w =
+    record {
+      one = w .ordered 0;
+      two = w .ordered 1;
+      three = w .ordered 2;
+      one-fits = w .fits 0;
+      two-fits = w .fits 1;
+      three-fits = w .fits 2;
+    }
+
+pub within-spans : {g : Grid} {x : Bounds} → Within g x → Spans g x
+within-spans w = record { accepted = w .accepted; ordered = λ d. le-of-lt (w .some d); fits = w .fits }
+
 -- a box has no more than the bins below its ends
 pub box-below : (g : Grid) (v : View) (x : Bounds) (j : ℕ) → Sides g x → boxSum g v x j ≤ belowSum g v (x .r1) (x .g1) (x .b1) j
 unfolding boxSum belowSum
@@ -142,3 +184,23 @@ pub box-small : {g : Grid} {v : View} → Sound limit g v → {x : Bounds} → W
 box-small {g} {v} s {x} w j h =
     let e = sides w in
     lt-of-le-of-lt (box-below g v x j e) (below-small (w .accepted) s (x .r1) (x .g1) (x .b1) j (e .one-fits) (e .two-fits) (e .three-fits) h)
+
+-- a box's statistics are those of its five numbers, and its squares fit an f64
+module _ (g : Grid) (v : View) (x : Bounds) {c : Cell} (e : c ≡ boxCell g v x) where
+  pub box-squares : Sound limit g v → Within g x → c .squares ≤ 2 ^ 53
+  unfolding boxCell
+  box-squares s w = omega (arith, cell-fields (boxSum g v x) e .squares, box-small s w 4 (lit< tt))
+
+  pub box-stats : {s : Stats} → s ≡ cellStats c → s ≡ statsOf g v x
+  unfolding cellStats statsOf boxCell
+  box-stats q =
+      let f = cell-fields (boxSum g v x) e in
+      q
+      ∙ (λ i.
+      record {
+        weight = f .weight i;
+        sum1 = f .sum1 i;
+        sum2 = f .sum2 i;
+        sum3 = f .sum3 i;
+        squares = ofInt binary64 (pos (f .squares i));
+      })

@@ -5,7 +5,8 @@ use lib.Ieee.{binary64, ofInt}
 use Rattle.grid.specs.declared.Grid.{Grid}
 use Rattle.grid.specs.Range.{sumFrom}
 use Rattle.grid.specs.Grid.{Accepted, choose, placeOf, sizeAt}
-use Rattle.table.specs.Cell.{View}
+use Rattle.table.specs.declared.Cell.{Cell}
+use Rattle.table.specs.Cell.{View, cellOf}
 use Rattle.sums.specs.declared.Bounds.{Bounds}
 use Rattle.sums.specs.declared.Stats.{Stats}
 
@@ -28,6 +29,10 @@ binSum g v a n b m c k j = sum3 a n b m c k (λ r gr z. v (placeOf g r gr z) j)
 unfoldable pub boxSum : Grid → View → Bounds → ℕ → ℕ
 boxSum g v x j = binSum g v (x .r0) (x .r1 - x .r0) (x .g0) (x .g1 - x .g0) (x .b0) (x .b1 - x .b0) j
 
+-- its five numbers together
+unfoldable pub boxCell : Grid → View → Bounds → Cell
+boxCell g v x = cellOf (boxSum g v x)
+
 -- "The statistics of a box travel as one record with its float squares beside the weight and sums"
 unfoldable pub statsOf : Grid → View → Bounds → Stats
 statsOf g v x =
@@ -38,6 +43,23 @@ statsOf g v x =
       sum3 = boxSum g v x 3;
       squares = ofInt binary64 (pos (boxSum g v x 4));
     }
+
+-- the same of five numbers
+unfoldable pub cellStats : Cell → Stats
+cellStats c =
+    record {
+      weight = c .weight;
+      sum1 = c .sum1;
+      sum2 = c .sum2;
+      sum3 = c .sum3;
+      squares = ofInt binary64 (pos (c .squares));
+    }
+
+-- a box of an accepted grid, perhaps without a bin
+pub record Spans (g : Grid) (x : Bounds) : Type 0 where
+  pub accepted : Accepted g
+  pub ordered : (d : ℕ) → minAt x d ≤ maxAt x d
+  pub fits : (d : ℕ) → maxAt x d ≤ sizeAt g d
 
 -- a box of an accepted grid: some bins in each dimension
 pub record Within (g : Grid) (x : Bounds) : Type 0 where

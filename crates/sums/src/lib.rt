@@ -8,12 +8,12 @@ use table::plus;
 use table::put_at;
 ghost use mathlib.Core.Path.{_≡_};
 ghost use mathlib.Core.Bool.{true};
-ghost use Prim.Native.Nat.{_+_, _-_, _*_, _≤_};
+ghost use Prim.Native.Nat.{_+_, _-_, _*_, _^_, _≤_};
 ghost use lib.ListN.{length};
 ghost use Rattle.grid.specs.Grid.{binsOf, placeOf, Inside};
 ghost use Rattle.table.specs.Cell.{wide, wideList, putAt, TableOf};
 ghost use Rattle.table.specs.Sound.{limit, sound};
-ghost use Rattle.sums.specs.Box.{statsOf, Within};
+ghost use Rattle.sums.specs.Box.{boxCell, cellStats, statsOf, Spans, Within};
 ghost use Rattle.sums.specs.Moments.{momentsOf, momentCell, lineCell, binCell, Lent, Worked, Before, Ready, Corner};
 
 // A box: min inclusive, max exclusive, in each dimension (`Cube`).
@@ -154,10 +154,11 @@ fn run(table: &[u64], work: &[u64], g: Grid, r: usize, gr: usize, b0: usize, b1:
     requires { ⌜ Corner g (now table) (now work) r gr b1 × (b0 ≤ b1) ⌝ }
     ensures { λ c. ⌜ c ≡ binCell g (wide (now (table .entry))) 0 r 0 gr b0 (b1 - b0) ⌝ }
 {
-    minus(
-        corner(table, work, g, r, gr, b1),
-        corner(table, work, g, r, gr, b0),
-    )
+    let upper = corner(table, work, g, r, gr, b1);
+    if b0 == 0 {
+        return upper;
+    }
+    minus(upper, corner(table, work, g, r, gr, b0))
 }
 
 // The sums of the bins of a box's last two dimensions, below r.
@@ -167,21 +168,30 @@ fn slab(table: &[u64], work: &[u64], g: Grid, r: usize, x: Bounds) -> Cell
 {
     let b0 = x.b0 as usize;
     let b1 = x.b1 as usize;
-    minus(
-        run(table, work, g, r, x.g1 as usize, b0, b1),
-        run(table, work, g, r, x.g0 as usize, b0, b1),
-    )
+    let upper = run(table, work, g, r, x.g1 as usize, b0, b1);
+    if x.g0 == 0 {
+        return upper;
+    }
+    minus(upper, run(table, work, g, r, x.g0 as usize, b0, b1))
 }
 
-// The statistics of a box, from the moments of its table.
-pub fn box_sum(table: &[u64], work: &[u64], g: Grid, x: Bounds) -> Stats
-    requires { ⌜ Worked g (now table) (now work) × Within g x ⌝ }
-    ensures { λ r. ⌜ r ≡ statsOf g (wide (now (table .entry))) x ⌝ }
+// The five sums of a box, from the moments of its table (`volume`, and `volume_at` where the box starts at 0).
+pub fn box_cell(table: &[u64], work: &[u64], g: Grid, x: Bounds) -> Cell
+    requires { ⌜ Worked g (now table) (now work) × Spans g x ⌝ }
+    ensures { λ c. ⌜ c ≡ boxCell g (wide (now (table .entry))) x ⌝ }
 {
-    let c = minus(
-        slab(table, work, g, x.r1 as usize, x),
-        slab(table, work, g, x.r0 as usize, x),
-    );
+    let upper = slab(table, work, g, x.r1 as usize, x);
+    if x.r0 == 0 {
+        return upper;
+    }
+    minus(upper, slab(table, work, g, x.r0 as usize, x))
+}
+
+// Five sums as statistics, with their squares turned into f64.
+pub fn stats_of(c: Cell) -> Stats
+    requires { ⌜ c .squares ≤ 2 ^ 53 ⌝ }
+    ensures { λ r. ⌜ r ≡ cellStats c ⌝ }
+{
     Stats {
         weight: c.weight,
         sum1: c.sum1,
@@ -189,4 +199,12 @@ pub fn box_sum(table: &[u64], work: &[u64], g: Grid, x: Bounds) -> Stats
         sum3: c.sum3,
         squares: c.squares as f64,
     }
+}
+
+// The statistics of a box, from the moments of its table.
+pub fn box_sum(table: &[u64], work: &[u64], g: Grid, x: Bounds) -> Stats
+    requires { ⌜ Worked g (now table) (now work) × Within g x ⌝ }
+    ensures { λ r. ⌜ r ≡ statsOf g (wide (now (table .entry))) x ⌝ }
+{
+    stats_of(box_cell(table, work, g, x))
 }

@@ -1,16 +1,23 @@
 -- `sums::slab` meets its contract: the bins up to the end are those up to the start and those of the slab.
 -- Assumes nothing.
-use Prim.Native.Nat.{_-_}
+use mathlib.Core.Path.{_≡_}
+use Prim.Native.Nat.{ℕ, _+_, _-_, _≤_}
 use native.Mathlib.Nat.{le-trans}
 use borrow.Author.Needs.{needs}
 use denote.Ref.{now}
 use Rattle.table.specs.Cell.{wide}
-use Rattle.table.proofs.Cells.{minus-least, minus-is}
 use Rattle.sums.specs.Moments.{binCell}
 use Rattle.sums.specs.Box.{binSum}
-use Rattle.sums.proofs.Corners.{second-from}
+use Rattle.sums.proofs.Corners.{second-from, from-least, from-is, from-start}
 use Rattle.sums.proofs.slab.Statement.{statement}
 use Rattle.sums.proofs.slab.Tie as tie
+
+-- number j of the bins from a start on
+abbrev rows : tie.Start → ℕ → ℕ → ℕ → ℕ
+rows s a n j = binSum (s .args .g) (wide (now (s .args .table))) 0 (s .args .r) a n (s .args .x .b0) (s .args .x .b1 - s .args .x .b0) j
+
+split : (s : tie.Start) (a e j : ℕ) → a ≤ e → rows s 0 e j ≡ rows s 0 a j + rows s a (e - a) j
+split s a e j h = second-from (s .args .g) (wide (now (s .args .table))) 0 (s .args .r) a e (s .args .x .b0) (s .args .x .b1 - s .args .x .b0) j h
 
 cast-b0 : tie.Need-cast-b0
 cast-b0 c = search needs
@@ -24,32 +31,32 @@ cast-run c = search needs
 run-requires : tie.Need-run-requires
 run-requires c κs = search needs
 
+returns : tie.Need-returns
+unfolding binCell
+returns c =
+    let s = c .before .before .before .before .before .before .before .before in
+    from-start (rows s) (split s) (s .pre .1) (c .before .before .run .ensures) (c .if1 .taken)
+
 cast-run-2 : tie.Need-cast-run-2
 cast-run-2 c = search needs
 
 run-requires-2 : tie.Need-run-requires-2
 run-requires-2 c κs =
-    let s = c .before .before .before .before .before .before .before in
+    let s = c .before .before .before .before .before .before .before .before .before in
     let k = s .pre .0 in
     (record { worked = k .worked; one = k .one; two = le-trans (s .pre .1) (k .two); three = k .three }, s .pre .2)
 
 minus-requires : tie.Need-minus-requires
 unfolding binCell
 minus-requires c κs =
-    let s = c .before .before .before .before .before .before .before .before in
-    let g = s .args .g in
-    let v = wide (now (s .args .table)) in
-    minus-least (binSum g v 0 (s .args .r) 0 (s .args .x .g1) (s .args .x .b0) (s .args .x .b1 - s .args .x .b0)) (binSum g v 0 (s .args .r) 0 (s .args .x .g0) (s .args .x .b0) (s .args .x .b1 - s .args .x .b0)) (binSum g v 0 (s .args .r) (s .args .x .g0) (s .args .x .g1 - s .args .x .g0) (s .args .x .b0) (s .args .x .b1 - s .args .x .b0))
-    (λ j. second-from g v 0 (s .args .r) (s .args .x .g0) (s .args .x .g1) (s .args .x .b0) (s .args .x .b1 - s .args .x .b0) j (s .pre .1)) (c .before .before .run .ensures) (c .run2 .ensures)
+    let s = c .before .before .before .before .before .before .before .before .before .before in
+    from-least (rows s) (split s) (s .pre .1) (c .before .before .before .before .run .ensures) (c .run2 .ensures)
 
-returns : tie.Need-returns
+returns-2 : tie.Need-returns-2
 unfolding binCell
-returns c =
-    let s = c .before .before .before .before .before .before .before .before .before in
-    let g = s .args .g in
-    let v = wide (now (s .args .table)) in
-    minus-is (binSum g v 0 (s .args .r) 0 (s .args .x .g1) (s .args .x .b0) (s .args .x .b1 - s .args .x .b0)) (binSum g v 0 (s .args .r) 0 (s .args .x .g0) (s .args .x .b0) (s .args .x .b1 - s .args .x .b0)) (binSum g v 0 (s .args .r) (s .args .x .g0) (s .args .x .g1 - s .args .x .g0) (s .args .x .b0) (s .args .x .b1 - s .args .x .b0))
-    (λ j. second-from g v 0 (s .args .r) (s .args .x .g0) (s .args .x .g1) (s .args .x .b0) (s .args .x .b1 - s .args .x .b0) j (s .pre .1)) (c .before .before .before .run .ensures) (c .before .run2 .ensures) (c .minus .ensures)
+returns-2 c =
+    let s = c .before .before .before .before .before .before .before .before .before .before .before in
+    from-is (rows s) (split s) (s .pre .1) (c .before .before .before .before .before .run .ensures) (c .before .run2 .ensures) (c .minus .ensures)
 
 pub slab-spec : {M : Type 1} → statement M
 slab-spec =
@@ -59,7 +66,8 @@ slab-spec =
     cast-b1
     cast-run
     run-requires
+    returns
     cast-run-2
     run-requires-2
     minus-requires
-    returns)
+    returns-2)
