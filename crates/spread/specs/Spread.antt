@@ -55,7 +55,7 @@ pub record Ordered (x : Bounds) : Type 0 where
   pub two : x .g0 ≤ x .g1
   pub three : x .b0 ≤ x .b1
 
--- the property behind the number of boxes: a box with two occupied bins has a computed spread above 0
+-- the property behind the number of boxes: a box with two occupied bins, and so of more than one, has a computed spread above 0
 pub record SpreadsAbove (g : Grid) (v : View) : Type 0 where
   pub above : (x : Bounds) → Within g x → (r gr b r' gr' b' : ℕ) → InBox x r gr b → InBox x r' gr' b'
       → (v (placeOf g r gr b) 0 ≡ 0 → ⊥) → (v (placeOf g r' gr' b') 0 ≡ 0 → ⊥)
