@@ -32,7 +32,7 @@ pub record Split (g : Grid) (v : View) (x : Bounds) (d bin : ℕ) : Type 0 where
   pub low : boxSum g v (lowSide x d bin) 0 ≡ 0 → ⊥
   pub high : boxSum g v (highSide x d bin) 0 ≡ 0 → ⊥
 
--- an answered position
+-- a position strictly inside the box with weight on both sides, and its score
 pub record Good (g : Grid) (v : View) (x : Bounds) (d bin : ℕ) (score : Float) : Type 0 where
   pub inside : (minAt x d < bin) × (bin < maxAt x d)
   pub split : Split g v x d bin

@@ -20,12 +20,12 @@ below-asym false true a b h = absurd (true≢false (sym h))
 below-asym true false a b h = refl
 below-asym true true a b h = le-ltb a b (omega (arith, ltb-true b a h))
 
--- the second factor put in the place of another above 0
+-- a product above 0, with another second factor above 0
 some : (n u k : ℕ) → 0 < k → 0 < n * u → 0 < n * k
 some n u k K h = mul-pos (first-pos n u h) K
 
 -- ---- fractions of either sign: ±a / p, ±b / q and ±c / r
-module _ (a p b q c r : ℕ) (P : 0 < p) (Q : 0 < q) (R : 0 < r) where
+module _ (a p b q c r : ℕ) (P : 0 < p) (R : 0 < r) where
   -- a / p < b / q and b / q ≤ c / r
   up-through : a * q < b * p → b * r ≤ c * q → a * r < c * p
   up-through h k =
@@ -76,7 +76,7 @@ lt-through (fin s m e) (inf t) z X Y Z h k = absurd Y
 lt-through (fin s m e) (fin t n d) nan X Y Z h k = absurd Z
 lt-through (fin s m e) (fin t n d) (inf u) X Y Z h k = absurd Z
 lt-through (fin s m e) (fin t n d) (fin u o i) X Y Z h k =
-    below-through (m * up e) (down e) (n * up d) (down d) (o * up i) (down i) (down-pos e) (down-pos d) (down-pos i) s t u h k
+    below-through (m * up e) (down e) (n * up d) (down d) (o * up i) (down i) (down-pos e) (down-pos i) s t u h k
 
 -- x ≤ y and y ≤ z
 pub not-lt-trans : (x y z : Float) → T (finite x) → T (finite y) → T (finite z) → lt y x ≡ false → lt z y ≡ false → lt z x ≡ false
