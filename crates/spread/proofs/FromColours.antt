@@ -15,10 +15,11 @@ use Rattle.grid.specs.Size.{binOf}
 use Rattle.grid.specs.Grid.{Accepted, Inside, choose, componentAt, binsOf, placeOf, colourPlace}
 use Rattle.grid.proofs.Range.{and-left, and-right, hit, hit-no, hit-yes}
 use Rattle.grid.proofs.Places.{Bytes, colour-inside, place-lt, place-once}
-use Rattle.table.specs.Cell.{View}
+use Rattle.table.specs.Cell.{View, wide}
 use Rattle.table.specs.Sound.{limit}
 use Rattle.table.specs.Load.{Weighted, share, adds, sumOver, weightOf, loaded}
 use Rattle.table.proofs.Loading.{AllBytes, share-weight, share-sum, share-squares, load-sound, loaded-at, adds-at, over-none, over-more}
+use Rattle.table.proofs.Order.{tableOf, table-holds}
 use Rattle.table.proofs.Soundness.{zeros, zeros-total, zeros-sound}
 use Rattle.sums.specs.declared.Bounds.{Bounds}
 use Rattle.sums.specs.Box.{boxSum, Within, InBox}
@@ -201,6 +202,18 @@ unlike {g} e f n a =
     let three = sym (e .three) ∙ ap (binOf (g .s3)) (a .three) ∙ f .three in
     n (λ j. placeOf g (one j) (two j) (three j))
 
+-- the property is one of the numbers at the places of the grid
+pub spreads-same : {g : Grid} {v u : View} → ((p j : ℕ) → p < binsOf g → j < 5 → v p j ≡ u p j) → SpreadsAbove g u → SpreadsAbove g v
+spreads-same {g} {v} {u} same s =
+    record {
+      above = λ x w r gr z r' gr' z' i k o o' n.
+          rw (stats-same same w)
+          (s .above x w r gr z r' gr' z' i k (λ e. o (at w i ∙ e)) (λ e. o' (at w k ∙ e)) n);
+    }
+  where
+    at : {x : Bounds} → Within g x → {r gr b : ℕ} → InBox x r gr b → v (placeOf g r gr b) 0 ≡ u (placeOf g r gr b) 0
+    at w {r} {gr} {b} i = same (placeOf g r gr b) 0 (place-lt (inside w i)) (lit< tt)
+
 -- ---- the theorem
 module _ {g : Grid} (a : Accepted g) (cs : List Weighted) (b : AllBytes cs) where
   -- "a table loaded from colours", of any total that a table has
@@ -222,14 +235,6 @@ module _ {g : Grid} (a : Accepted g) (cs : List Weighted) (b : AllBytes cs) wher
   pub few-colours : weightOf cs ≤ 200000 → SpreadsAbove g (loaded g cs zeros)
   few-colours few = from-colours (le-trans few (lit≤ tt))
 
--- the property is one of the numbers at the places of the grid
-pub spreads-same : {g : Grid} {v u : View} → ((p j : ℕ) → p < binsOf g → j < 5 → v p j ≡ u p j) → SpreadsAbove g u → SpreadsAbove g v
-spreads-same {g} {v} {u} same s =
-    record {
-      above = λ x w r gr z r' gr' z' i k o o' n.
-          rw (stats-same same w)
-          (s .above x w r gr z r' gr' z' i k (λ e. o (at w i ∙ e)) (λ e. o' (at w k ∙ e)) n);
-    }
-  where
-    at : {x : Bounds} → Within g x → {r gr b : ℕ} → InBox x r gr b → v (placeOf g r gr b) 0 ≡ u (placeOf g r gr b) 0
-    at w {r} {gr} {b} i = same (placeOf g r gr b) 0 (place-lt (inside w i)) (lit< tt)
+  -- and of the list that the calls leave behind
+  pub table-above : weightOf cs ≤ limit → SpreadsAbove g (wide (tableOf g cs))
+  table-above most = spreads-same (table-holds g cs .at) (from-colours most)
