@@ -4,7 +4,7 @@
 use mathlib.Core.Path.{_≡_, refl, sym, ap, _∙_}
 use mathlib.Core.Logic.{_⊎_, inl, inr, ⊎-elim}
 use mathlib.Core.Bool.{Bool, true, false, cond}
-use Prim.Native.Nat.{ℕ, zero, suc, _+_, _-_, _≤_, _<_}
+use Prim.Native.Nat.{ℕ, zero, suc, _+_, _-_, _<_}
 use native.Mathlib.Nat.{le-refl, lt-of-le-of-lt, lt-of-not-le}
 use native.Mathlib.Decide.{ℕ-discrete, decLe}
 use native.Mathlib.Omega.{arith}
@@ -24,7 +24,7 @@ use Rattle.spread.specs.declared.Position.the-variants.{At, Nowhere}
 use Rattle.spread.specs.Spread.{scoreOf}
 use Rattle.spread.specs.Cut.{positionOf, positionAt, better, bestRun, bestIn, bestCut}
 
-never : {A : Type 0} {d i : ℕ} {s : Float} → Nowhere ≡ At d i s → A
+pub never : {A : Type 0} {d i : ℕ} {s : Float} → Nowhere ≡ At d i s → A
 never q = absurd (let z : _≡_ {A = ℕ} 0 1 = cc in omega arith)
 
 -- weight on both sides of a position
@@ -32,7 +32,7 @@ pub record Split (g : Grid) (v : View) (x : Bounds) (d bin : ℕ) : Type 0 where
   pub low : boxSum g v (lowSide x d bin) 0 ≡ 0 → ⊥
   pub high : boxSum g v (highSide x d bin) 0 ≡ 0 → ⊥
 
--- an answered position
+-- a position strictly inside the box with weight on both sides, and its score
 pub record Good (g : Grid) (v : View) (x : Bounds) (d bin : ℕ) (score : Float) : Type 0 where
   pub inside : (minAt x d < bin) × (bin < maxAt x d)
   pub split : Split g v x d bin
@@ -72,6 +72,19 @@ module _ (g : Grid) (v : View) (x : Bounds) (d bin : ℕ) where
       go : (t : Bool) → boxSum g v (highSide x d bin) 0 ≡ 0 → cond t Nowhere (cond (eqb (boxSum g v (highSide x d bin) 0) 0) Nowhere (At d bin (scoreOf low high))) ≡ Nowhere
       go true z = refl
       go false z = ap (λ (t : Bool). cond t Nowhere (At d bin (scoreOf low high))) (eq-eqb (boxSum g v (highSide x d bin) 0) 0 z)
+
+  -- an answer is this position, with its score
+  pub position-good : minAt x d < bin → bin < maxAt x d → {e i : ℕ} {s : Float} → positionAt g v x d bin ≡ At e i s → (e ≡ d) × (i ≡ bin) × Good g v x d bin s
+  position-good h l {e} {i} {s} q =
+      let both = split-of q in
+      let same : At e i s ≡ At d bin (scoreOf low high) = sym q ∙ split-here both in
+      let dimension : e ≡ d = cc in
+      let there : i ≡ bin = cc in
+      let score : s ≡ scoreOf low high = cc in
+      (dimension, there, record { inside = (h, l); split = both; scored = score })
+
+  pub good-position : {s : Float} → Good g v x d bin s → positionAt g v x d bin ≡ At d bin s
+  good-position p = split-here (p .split) ∙ ap (At d bin) (sym (p .scored))
 
 -- ---- the better of two
 better-at : (a b : Position) {d i : ℕ} {s : Float} → better a b ≡ At d i s → (a ≡ At d i s) ⊎ (b ≡ At d i s)
@@ -128,20 +141,8 @@ module _ (g : Grid) (v : View) (x : Bounds) where
   unfolding bestIn
   in-good d {e} {i} {s} q =
       let r = run-at g v x d (minAt x d + 1) (maxAt x d - (minAt x d + 1)) q in
-      let bin = (minAt x d + 1) + r .0 in
-      let both = split-of g v x d bin (r .1 .1) in
-      let same : At e i s ≡ At d bin (scoreOf (statsOf g v (lowSide x d bin)) (statsOf g v (highSide x d bin))) = sym (r .1 .1) ∙ split-here g v x d bin both in
-      let dimension : e ≡ d = cc in
-      let there : i ≡ bin = cc in
-      let score : s ≡ scoreOf (statsOf g v (lowSide x d bin)) (statsOf g v (highSide x d bin)) = cc in (
-        dimension,
-        rw there
-            (record {
-              inside = (omega arith, omega (arith, r .1 .0));
-              split = both;
-              scored = score;
-            }),
-      )
+      let p = position-good g v x d ((minAt x d + 1) + r .0) (omega arith) (omega (arith, r .1 .0)) (r .1 .1) in
+      (p .0, rw (p .1) (p .2))
 
   in-none : (d : ℕ) → bestIn g v x d ≡ Nowhere → (bin : ℕ) → minAt x d < bin → bin < maxAt x d → Split g v x d bin → ⊥
   unfolding bestIn

@@ -1,12 +1,17 @@
 -- Spread and score in f64 (document 01, "Spread" and "Cutting one box"). Definitions only.
+use mathlib.Core.Path.{_≡_}
 use mathlib.Core.Bool.{Bool, false, _&&_, cond}
 use Prim.Native.Nat.{ℕ, _-_, _*_, _≤_}
-use lib.Dec.{eqb}
+use lib.Dec.{T, eqb}
 use lib.IntN.{pos}
-use lib.Ieee.{Float, fin, binary64, add, sub, mul, div, neg, ofInt}
+use lib.Ieee.{Float, fin, binary64, add, sub, mul, div, neg, ofInt, lt}
+use Rattle.grid.specs.declared.Grid.{Grid}
+use Rattle.grid.specs.Grid.{placeOf}
+use Rattle.table.specs.Cell.{View}
 use Rattle.table.specs.Sound.{limit}
 use Rattle.sums.specs.declared.Bounds.{Bounds}
 use Rattle.sums.specs.declared.Stats.{Stats}
+use Rattle.sums.specs.Box.{statsOf, Within, InBox}
 
 -- "each whole number first turned into f64"
 abbrev pub whole : ℕ → Float
@@ -49,3 +54,9 @@ pub record Ordered (x : Bounds) : Type 0 where
   pub one : x .r0 ≤ x .r1
   pub two : x .g0 ≤ x .g1
   pub three : x .b0 ≤ x .b1
+
+-- the property behind the number of boxes: a box with two occupied bins, and so of more than one, has a computed spread above 0
+pub record SpreadsAbove (g : Grid) (v : View) : Type 0 where
+  pub above : (x : Bounds) → Within g x → (r gr b r' gr' b' : ℕ) → InBox x r gr b → InBox x r' gr' b'
+      → (v (placeOf g r gr b) 0 ≡ 0 → ⊥) → (v (placeOf g r' gr' b') 0 ≡ 0 → ⊥)
+      → (placeOf g r gr b ≡ placeOf g r' gr' b' → ⊥) → T (lt zeroOf (spreadOf x (statsOf g v x)))

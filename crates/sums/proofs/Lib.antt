@@ -4,3 +4,4 @@ pub mod Steps
 pub mod Corners
 pub mod Laws
 pub mod Loaded
+pub mod Same

@@ -72,12 +72,21 @@ pub square-byte : (a : ℕ) → a < 256 → a * a ≤ 65025
 square-byte a h = times-high 255 255 a a (omega arith) (omega arith)
 
 -- the share of a component, by its dimension
-share-sum : (c : Weighted) (d : ℕ) → d < 3 → share c (d + 1) ≡ c .weight * componentAt (c .colour) d
+pub share-sum : (c : Weighted) (d : ℕ) → d < 3 → share c (d + 1) ≡ c .weight * componentAt (c .colour) d
 unfolding share componentAt choose
 share-sum c zero h = refl
 share-sum c (suc zero) h = refl
 share-sum c (suc (suc zero)) h = refl
 share-sum c (suc (suc (suc d))) h = absurd (omega arith)
+
+-- and the other two shares
+pub share-weight : (c : Weighted) → share c 0 ≡ c .weight
+unfolding share
+share-weight c = refl
+
+pub share-squares : (c : Weighted) → share c 4 ≡ c .weight * (c .colour .c1 * c .colour .c1 + c .colour .c2 * c .colour .c2 + c .colour .c3 * c .colour .c3)
+unfolding share
+share-squares c = refl
 
 module _ {g : Grid} (a : Accepted g) (c : Weighted) (b : Bytes (c .colour)) where
   own : (d : ℕ) → spanAt g (colourPlace g (c .colour)) d ≡ spanOf (shiftAt g d) (binOf (shiftAt g d) (componentAt (c .colour) d))

@@ -36,7 +36,7 @@ unfolding weightOf
 weight-append cs ds = over-append cs ds (λ c. c .weight)
 
 module _ (g : Grid) where
-  table-holds : (cs : List Weighted) → Holds (binsOf g) (tableOf g cs) (loaded g cs zeros)
+  pub table-holds : (cs : List Weighted) → Holds (binsOf g) (tableOf g cs) (loaded g cs zeros)
   unfolding tableOf
   table-holds cs = list-holds (binsOf g) (loaded g cs zeros)
 
