@@ -3,6 +3,7 @@
 use mathlib.Core.Path.{_≡_, refl, sym, subst, _∙_}
 use mathlib.Core.Logic.{_⊎_, inl, inr}
 use mathlib.Core.Bool.{Bool, true, false, cond}
+use mathlib.Core.List.{[], _∷_}
 use Prim.Native.Nat.{ℕ, zero, suc, _+_, _-_, _≤_, _<_}
 use native.Mathlib.Decide.{ℕ-discrete}
 use native.Mathlib.Omega.{arith}
@@ -17,7 +18,7 @@ use Rattle.sums.specs.declared.Bounds.{Bounds}
 use Rattle.sums.specs.Box.{minAt, maxAt, Within}
 use Rattle.spread.specs.declared.Position.{Position}
 use Rattle.spread.specs.declared.Position.the-variants.{At, Nowhere}
-use Rattle.spread.specs.Cut.{positionAt, better, bestRun, bestIn, bestCut}
+use Rattle.spread.specs.Cut.{Told, positionAnswer, positionAt, better, bestRun, bestIn, bestCut}
 use Rattle.spread.proofs.Best.{Good, never, position-good, good-position}
 use Rattle.spread.proofs.Finite.{position-finite}
 use Rattle.spread.proofs.Ordering.{lt-asym, lt-through, not-lt-trans, lt-irrefl}
@@ -37,6 +38,12 @@ pub record Winner (A : ℕ → ℕ → Float → Type 0) (d i : ℕ) (s : Float)
   pub one : A d i s
   pub smallest : {e j : ℕ} {t : Float} → A e j t → lt t s ≡ false
   pub first : {e j : ℕ} {t : Float} → A e j t → Earlier e j d i → lt s t ≡ true
+
+-- what a caller is told: that one, or that there is none
+abbrev pub Tells : (ℕ → ℕ → Float → Type 0) → Told → Type 0
+Tells A told =
+    (_≡_ {A = Told} told (record { values = []; scores = [] }) × ((d i : ℕ) (s : Float) → A d i s → ⊥))
+    ⊎ ((d : ℕ) × ((i : ℕ) × ((s : Float) × (_≡_ {A = Told} told (record { values = d ∷ i ∷ []; scores = s ∷ [] }) × Winner A d i s))))
 
 -- a position is that one, or there is none
 abbrev Wins : (ℕ → ℕ → Float → Type 0) → Position → Type 0
@@ -220,3 +227,12 @@ module _ {g : Grid} {v : View} (sound : Sound limit g v) {x : Bounds} (w : Withi
   -- "The smallest score wins; on a tie the lowest dimension, in it the lowest bin"
   pub best-first : {d i : ℕ} {s : Float} → bestCut g v x ≡ At d i s → Winner (Candidate g v x) d i s
   best-first q = subst (Wins (Candidate g v x)) q best-wins
+
+  -- "either a position with its float score, or that no position exists; the second exactly when no position has weight on both sides"
+  pub best-told : Tells (Candidate g v x) (positionAnswer (bestCut g v x))
+  unfolding positionAnswer
+  best-told = told (bestCut g v x) best-wins
+    where
+      told : (p : Position) → Wins (Candidate g v x) p → Tells (Candidate g v x) (positionAnswer p)
+      told (At d i s) h = inr (d, (i, (s, (refl, h))))
+      told Nowhere h = inl (refl, h)

@@ -42,7 +42,7 @@ spreadOf x s = cond (oneBin x) zeroOf (sub binary64 (s .squares) (quotOf s))
 unfoldable pub scoreOf : Stats → Stats → Float
 scoreOf low high = neg (add binary64 (quotOf low) (quotOf high))
 
--- statistics whose whole numbers f64 holds
+-- statistics within the limit: no component above 255, so f64 holds each whole number
 pub record Plain (s : Stats) : Type 0 where
   pub weight : s .weight ≤ limit
   pub one : s .sum1 ≤ 255 * s .weight

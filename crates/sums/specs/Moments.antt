@@ -56,7 +56,7 @@ pub record Ready (g : Grid) (t w : List ℕ) (r gr b : ℕ) : Type 0 where
   pub inside : Inside g r gr b
   pub before : Before g t w (placeOf g r gr b)
 
--- ---- a box's sum, by inclusion and exclusion
+-- ---- "its sum is found by inclusion and exclusion; an index below 0 counts as all zeros"
 -- a work table with the moments of a table, and the end of some bins of the grid
 pub record Corner (g : Grid) (t w : List ℕ) (r gr b : ℕ) : Type 0 where
   pub worked : Worked g t w
