@@ -6,13 +6,13 @@ use mathlib.Core.List.{List, [], _∷_, _++_}
 use mathlib.Core.Logic.{_≢_}
 use Prim.Native.Nat.{ℕ, zero, suc, _+_, _-_, _*_, _/_, _≤_, _<_}
 use native.Mathlib.Omega.{arith}
-use borrow.Author.Tests.{ltb-true, ltb-false, eqb-true, eqb-false}
-use lib.Dec.{eqb, ltb}
+use borrow.Author.Tests.{ltb-true}
+use lib.Dec.{ltb}
 use lib.Ieee.{lt}
 use lib.ListN.{length, getD, set, take, length-set}
-use lib.Seq.{getD-set-same, getD-set-other, getD-take, length-take-le, take-set-lt, take-suc-set, take-suc}
+use lib.Seq.{getD-set-other, getD-take, length-take-le, take-set-lt, take-suc-set, take-suc, set-getD}
 use Rattle.heap.specs.Heap.{Item, Room, Holed, parent, item, swap, climbs, climb, putIn, child, sink, enter, takeOut, sumItems}
-use Rattle.heap.proofs.Steps.{child-is, by-cond}
+use Rattle.heap.proofs.Steps.{child-is, by-rest}
 
 -- ---- sums over items
 
@@ -76,7 +76,7 @@ module _ {A : Type 0} (none : Item A) where
 
   swapped : (n : ℕ) (h : Room A) (p q : ℕ) → p < n → q < n → q ≢ p → n ≤ length h → Reordered none n h (swap none h p q)
   swapped n h p q l m d e =
-      rw (lib.Seq.set-getD h p none) at (moved n h p q l m d e (item none h p))
+      rw (set-getD h p none) at (moved n h p q l m d e (item none h p))
 
   -- ---- climbing and sinking
 
@@ -156,30 +156,20 @@ module _ {A : Type 0} (none : Item A) (h : Room A) (n : ℕ) (x : Item A) (room 
 -- ---- taking out
 
 module _ {A : Type 0} (none : Item A) (h : Room A) (n : ℕ) (some : 0 < n) (room : n ≤ length h) where
-  -- only the top was there, or the others are in another order
-  by-rest : (P : Room A → Type 0) → (n - 1 ≡ 0 → P h)
-      → (0 < n - 1 → Reordered none (n - 1) (set h 0 (item none h (n - 1))) (enter none (sink none (n - 1) h (n - 1) 0) (item none h (n - 1)))
-      → P (enter none (sink none (n - 1) h (n - 1) 0) (item none h (n - 1))))
-      → P (takeOut none h n)
-  unfolding takeOut
-  by-rest P alone others = go (eqb (n - 1) 0) refl
-    where
-      go : (b : Bool) → eqb (n - 1) 0 ≡ b → P (cond b h (enter none (sink none (n - 1) h (n - 1) 0) (item none h (n - 1))))
-      go true e = alone (eqb-true (n - 1) 0 e)
-      go false e =
-          let z = eqb-false (n - 1) 0 e in
-          let m : 0 < n - 1 = omega arith in
-          others m (take-out-reorders none h (n - 1) m (omega arith))
+  -- where others remain, they are in another order
+  rest : n - 1 ≢ 0 → Reordered none (n - 1) (set h 0 (item none h (n - 1))) (enter none (sink none (n - 1) h (n - 1) 0) (item none h (n - 1)))
+  rest d = take-out-reorders none h (n - 1) (omega arith) (omega arith)
 
   pub take-out-long : length (takeOut none h n) ≡ length h
-  take-out-long = by-rest (λ (k : Room A). length k ≡ length h) (λ e. refl) (λ m r. r .long ∙ length-set h 0 _)
+  take-out-long = by-rest none (λ (k : Room A). length k ≡ length h) h n (λ e. refl) (λ d. rest d .long ∙ length-set h 0 (item none h (n - 1)))
 
   pub take-out-past : (p : ℕ) → n - 1 ≤ p → item none (takeOut none h n) p ≡ item none h p
   take-out-past p l =
-      by-rest (λ (k : Room A). item none k p ≡ item none h p) (λ e. refl) (λ m r. r .past p l ∙ getD-set-other h 0 p _ none (omega arith))
+      by-rest none (λ (k : Room A). item none k p ≡ item none h p) h n (λ e. refl)
+      (λ d. rest d .past p l ∙ getD-set-other h 0 p (item none h (n - 1)) none (omega arith))
 
   pub take-out-sum : (f : Item A → ℕ) → f (item none h 0) + sumItems f (take (n - 1) (takeOut none h n)) ≡ sumItems f (take n h)
   take-out-sum f =
-      by-rest (λ (k : Room A). f (item none h 0) + sumItems f (take (n - 1) k) ≡ sumItems f (take n h))
+      by-rest none (λ (k : Room A). f (item none h 0) + sumItems f (take (n - 1) k) ≡ sumItems f (take n h)) h n
       (λ e. ap (λ (i : ℕ). f (item none h i) + sumItems f (take (n - 1) h)) (sym e) ∙ sym (first-last none f n h some room))
-      (λ m r. omega (arith, r .sums f, first-last none f n h some room, first-set none f (n - 1) h 0 (item none h (n - 1)) m (omega arith)))
+      (λ d. omega (arith, rest d .sums f, first-last none f n h some room, first-set none f (n - 1) h 0 (item none h (n - 1)) (omega arith) (omega arith)))

@@ -1,3 +1,6 @@
 pub mod Steps
 pub mod Lent
 pub mod Keeps
+pub mod View
+pub mod Compare
+pub mod Order

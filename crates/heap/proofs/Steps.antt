@@ -7,8 +7,8 @@ use mathlib.Core.Logic.{_≢_}
 use Prim.Native.Nat.{ℕ, zero, suc, _+_, _-_, _*_, _/_, _≤_, _<_}
 use native.Mathlib.Nat.{add-zero, add-suc}
 use native.Mathlib.Omega.{arith}
-use borrow.Author.Tests.{lt-ltb, le-ltb, eq-eqb, ne-eqb}
-use lib.Dec.{ltb}
+use borrow.Author.Tests.{lt-ltb, le-ltb, eq-eqb, ne-eqb, eqb-true, eqb-false}
+use lib.Dec.{eqb, ltb}
 use lib.ListN.{length, getD, set}
 use lib.Seq.{getD-set-same, getD-set-other, set-set}
 use lib.Ieee.{lt, le}
@@ -100,7 +100,16 @@ module _ {A : Type 0} (none : Item A) where
   sink-ends h zero p l = refl
   sink-ends h (suc n) p l = rw (le-ltb (2 * p + 2) (suc n) (omega arith), le-ltb (2 * p + 1) (suc n) l)
 
-  -- "if others remain"
+  -- "if others remain" or not
+  pub by-rest : (P : Room A → Type 0) (h : Room A) (n : ℕ)
+      → (n - 1 ≡ 0 → P h) → (n - 1 ≢ 0 → P (enter none (sink none (n - 1) h (n - 1) 0) (item none h (n - 1)))) → P (takeOut none h n)
+  unfolding takeOut
+  by-rest P h n alone others = go (eqb (n - 1) 0) refl
+    where
+      go : (b : Bool) → eqb (n - 1) 0 ≡ b → P (cond b h (enter none (sink none (n - 1) h (n - 1) 0) (item none h (n - 1))))
+      go true e = alone (eqb-true (n - 1) 0 e)
+      go false e = others (eqb-false (n - 1) 0 e)
+
   pub others-remain : (h : Room A) (n : ℕ) {s : Holed A} {x : Item A} → n - 1 ≢ 0 → s ≡ sink none (n - 1) h (n - 1) 0 → x ≡ item none h (n - 1)
       → enter none s x ≡ takeOut none h n
   unfolding takeOut
