@@ -4,3 +4,4 @@ pub mod Keeps
 pub mod View
 pub mod Compare
 pub mod Order
+pub mod Worked
