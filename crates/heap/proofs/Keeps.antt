@@ -1,0 +1,175 @@
+-- Putting in and taking out keep the room's length, every place past those in use, and, of those in use, the sum of every f.
+-- Assumes nothing.
+use mathlib.Core.Path.{_≡_, refl, sym, ap, _∙_}
+use mathlib.Core.Bool.{Bool, true, false, cond, _&&_}
+use mathlib.Core.List.{List, [], _∷_, _++_}
+use mathlib.Core.Logic.{_≢_}
+use Prim.Native.Nat.{ℕ, zero, suc, _+_, _-_, _*_, _/_, _≤_, _<_}
+use native.Mathlib.Omega.{arith}
+use borrow.Author.Tests.{ltb-true}
+use lib.Dec.{ltb}
+use lib.Ieee.{lt}
+use lib.ListN.{length, getD, set, take, length-set}
+use lib.Seq.{getD-set-other, getD-take, length-take-le, take-set-lt, take-suc-set, take-suc, set-getD}
+use Rattle.heap.specs.Heap.{Item, Room, Holed, parent, item, swap, climbs, climb, putIn, child, sink, enter, takeOut, sumItems}
+use Rattle.heap.proofs.Steps.{child-is, by-rest}
+
+-- ---- sums over items
+
+module _ {A : Type 0} (f : Item A → ℕ) where
+  sum-append : (h : Room A) (x : Item A) → sumItems f (h ++ (x ∷ [])) ≡ f x + sumItems f h
+  unfolding sumItems
+  sum-append [] x = refl
+  sum-append (y ∷ h) x = omega (arith, sum-append h x)
+
+  sum-set : (none : Item A) (h : Room A) (p : ℕ) (x : Item A) → p < length h → sumItems f (set h p x) + f (item none h p) ≡ sumItems f h + f x
+  unfolding sumItems
+  sum-set none [] p x l = absurd (omega arith)
+  sum-set none (y ∷ h) zero x l = omega arith
+  sum-set none (y ∷ h) (suc p) x l = omega (arith, sum-set none h p x (omega arith))
+
+-- ---- places in another order
+
+-- the first n places of k have the items of h's, as far as sums tell, and the rest is the same
+pub record Reordered {A : Type 0} (none : Item A) (n : ℕ) (h k : Room A) : Type 0 where
+  pub long : length k ≡ length h
+  pub past : (p : ℕ) → n ≤ p → item none k p ≡ item none h p
+  pub sums : (f : Item A → ℕ) → sumItems f (take n k) ≡ sumItems f (take n h)
+
+module _ {A : Type 0} (none : Item A) where
+  -- the sum over the first n places, one of which is written
+  first-set : (f : Item A → ℕ) (n : ℕ) (h : Room A) (p : ℕ) (x : Item A) → p < n → n ≤ length h
+      → sumItems f (take n (set h p x)) + f (item none h p) ≡ sumItems f (take n h) + f x
+  first-set f n h p x l m =
+      rw (take-set-lt n h p x l, ← getD-take n h p none l) (sum-set f none (take n h) p x (rw (length-take-le n h m) l))
+
+  -- the sum over the first n places and the last of them
+  first-last : (f : Item A → ℕ) (n : ℕ) (h : Room A) → 0 < n → n ≤ length h → sumItems f (take n h) ≡ f (item none h (n - 1)) + sumItems f (take (n - 1) h)
+  first-last f zero h l m = absurd (omega arith)
+  first-last f (suc n) h l m = let e : suc n - 1 ≡ n = omega arith in rw e (rw (take-suc h n none m) (sum-append f (take n h) (item none h n)))
+
+  reordered-itself : (n : ℕ) (h : Room A) → Reordered none n h h
+  reordered-itself n h = record { long = refl; past = λ p l. refl; sums = λ f. refl }
+
+  reordered-on : {n : ℕ} {h k r : Room A} → Reordered none n h k → Reordered none n k r → Reordered none n h r
+  reordered-on a b =
+      record { long = b .long ∙ a .long; past = λ p l. b .past p l ∙ a .past p l; sums = λ f. b .sums f ∙ a .sums f }
+
+  -- the hole moves from p to q, and the item at q to p: with an item x in the hole, an exchange
+  moved : (n : ℕ) (h : Room A) (p q : ℕ) → p < n → q < n → q ≢ p → n ≤ length h → (x : Item A)
+      → Reordered none n (set h p x) (set (set h p (item none h q)) q x)
+  moved n h p q l m d e x =
+      record {
+        long = simp length-set;
+        past = λ i k.
+            getD-set-other (set h p (item none h q)) q i x none (omega arith) ∙ getD-set-other h p i (item none h q) none (omega arith)
+            ∙ sym (getD-set-other h p i x none (omega arith));
+        sums = λ f.
+            omega (
+              arith,
+              first-set f n h p (item none h q) l e,
+              first-set f n (set h p (item none h q)) q x m (rw (length-set h p (item none h q)) e),
+              first-set f n h p x l e,
+              ap f (getD-set-other h p q (item none h q) none d),
+            );
+      }
+
+  swapped : (n : ℕ) (h : Room A) (p q : ℕ) → p < n → q < n → q ≢ p → n ≤ length h → Reordered none n h (swap none h p q)
+  swapped n h p q l m d e =
+      rw (set-getD h p none) at (moved n h p q l m d e (item none h p))
+
+  -- ---- climbing and sinking
+
+  and-left : (a b : Bool) → (a && b) ≡ true → a ≡ true
+  and-left true b e = refl
+  and-left false b e = e
+
+  climb-reorders : (times n : ℕ) (h : Room A) (p : ℕ) → p < n → n ≤ length h → Reordered none n h (climb none times h p)
+  unfolding climb
+  climb-reorders zero n h p l m = reordered-itself n h
+  climb-reorders (suc times) n h p l m = go (climbs none h p) refl
+      (λ k. reordered-on (swapped n h p (parent p) l (omega arith) (omega arith) m)
+      (climb-reorders times n (swap none h p (parent p)) (parent p) (omega arith) (simp length-set m)))
+    where
+      go : (b : Bool) → climbs none h p ≡ b → (0 < p → Reordered none n h (climb none times (swap none h p (parent p)) (parent p)))
+          → Reordered none n h (cond b (climb none times (swap none h p (parent p)) (parent p)) h)
+      go true e k = k (ltb-true 0 p (and-left (ltb 0 p) (lt (item none h (parent p) .spread) (item none h p .spread)) e))
+      go false e k = reordered-itself n h
+
+  -- a hole that sank from p stands among the first n places, and what enters it would have entered at p
+  pub record Sunk (n : ℕ) (h : Room A) (p : ℕ) (s : Holed A) : Type 0 where
+    pub within : s .hole < n
+    pub carries : (x : Item A) → Reordered none n (set h p x) (set (s .room) (s .hole) x)
+
+  sunk : (times n : ℕ) (h : Room A) (p : ℕ) → p < n → n ≤ length h → Sunk n h p (sink none times h n p)
+  unfolding sink
+  sunk zero n h p l m = record { within = l; carries = λ x. reordered-itself n (set h p x) }
+  sunk (suc times) n h p l m =
+      pick (ltb (2 * p + 2) n) (ltb (2 * p + 1) n) refl refl
+      (λ b. on (λ c k. sunk times n (set h p (item none h c)) c k (rw (length-set h p (item none h c)) m)) (child none h p)
+      (child-is none h p (λ (c : ℕ). (c < n) × (c ≢ p)) (omega arith, omega arith) (omega arith, omega arith)))
+      (λ b. record { within = b; carries = moved n h p (2 * p + 1) l b (omega arith) m })
+      (record { within = l; carries = λ x. reordered-itself n (set h p x) })
+    where
+      pick : (a b : Bool) → ltb (2 * p + 2) n ≡ a → ltb (2 * p + 1) n ≡ b → {u v w : Holed A}
+          → (2 * p + 2 < n → Sunk n h p u) → (2 * p + 1 < n → Sunk n h p v) → Sunk n h p w → Sunk n h p (cond a u (cond b v w))
+      pick true b d e y z s = y (ltb-true (2 * p + 2) n d)
+      pick false true d e y z s = z (ltb-true (2 * p + 1) n e)
+      pick false false d e y z s = s
+
+      on : ((c : ℕ) → c < n → Sunk n (set h p (item none h c)) c (sink none times (set h p (item none h c)) n c))
+          → (c : ℕ) → (c < n) × (c ≢ p) → Sunk n h p (sink none times (set h p (item none h c)) n c)
+      on deeper c is =
+          let s = deeper c (is .0) in
+          record { within = s .within; carries = λ x. reordered-on (moved n h p c l (is .0) (is .1) m x) (s .carries x) }
+
+  pub sink-within : (n : ℕ) (h : Room A) → 0 < n → n ≤ length h → sink none n h n 0 .hole < n
+  sink-within n h l m = sunk n n h 0 l m .within
+
+  pub sink-long : (n : ℕ) (h : Room A) → 0 < n → n ≤ length h → length (sink none n h n 0 .room) ≡ length h
+  sink-long n h l m = sym (length-set (sink none n h n 0 .room) (sink none n h n 0 .hole) none) ∙ sunk n n h 0 l m .carries none .long ∙ length-set h 0 none
+
+  -- the last item enters at place 0, in whatever order
+  take-out-reorders : (h : Room A) (n : ℕ) → 0 < n → n < length h
+      → Reordered none n (set h 0 (item none h n)) (enter none (sink none n h n 0) (item none h n))
+  unfolding enter
+  take-out-reorders h n l m =
+      reordered-on (sunk n n h 0 l (omega arith) .carries (item none h n))
+      (climb-reorders _ n _ _ (sink-within n h l (omega arith)) (rw length-set (rw (sink-long n h l (omega arith)) (omega arith))))
+
+-- ---- putting in
+
+module _ {A : Type 0} (none : Item A) (h : Room A) (n : ℕ) (x : Item A) (room : n < length h) where
+  put-in-reorders : Reordered none (suc n) (set h n x) (putIn none h n x)
+  unfolding putIn
+  put-in-reorders = climb-reorders none n (suc n) (set h n x) n (omega arith) (rw (length-set h n x) (omega arith))
+
+  pub put-in-long : length (putIn none h n x) ≡ length h
+  put-in-long = put-in-reorders .long ∙ length-set h n x
+
+  pub put-in-past : (p : ℕ) → n < p → item none (putIn none h n x) p ≡ item none h p
+  put-in-past p l = put-in-reorders .past p (omega arith) ∙ getD-set-other h n p x none (omega arith)
+
+  pub put-in-sum : (f : Item A → ℕ) → sumItems f (take (suc n) (putIn none h n x)) ≡ f x + sumItems f (take n h)
+  put-in-sum f = put-in-reorders .sums f ∙ ap (sumItems f) (take-suc-set h n x room) ∙ sum-append f (take n h) x
+
+-- ---- taking out
+
+module _ {A : Type 0} (none : Item A) (h : Room A) (n : ℕ) (some : 0 < n) (room : n ≤ length h) where
+  -- where others remain, they are in another order
+  rest : n - 1 ≢ 0 → Reordered none (n - 1) (set h 0 (item none h (n - 1))) (enter none (sink none (n - 1) h (n - 1) 0) (item none h (n - 1)))
+  rest d = take-out-reorders none h (n - 1) (omega arith) (omega arith)
+
+  pub take-out-long : length (takeOut none h n) ≡ length h
+  take-out-long = by-rest none (λ (k : Room A). length k ≡ length h) h n (λ e. refl) (λ d. rest d .long ∙ length-set h 0 (item none h (n - 1)))
+
+  pub take-out-past : (p : ℕ) → n - 1 ≤ p → item none (takeOut none h n) p ≡ item none h p
+  take-out-past p l =
+      by-rest none (λ (k : Room A). item none k p ≡ item none h p) h n (λ e. refl)
+      (λ d. rest d .past p l ∙ getD-set-other h 0 p (item none h (n - 1)) none (omega arith))
+
+  pub take-out-sum : (f : Item A → ℕ) → f (item none h 0) + sumItems f (take (n - 1) (takeOut none h n)) ≡ sumItems f (take n h)
+  take-out-sum f =
+      by-rest none (λ (k : Room A). f (item none h 0) + sumItems f (take (n - 1) k) ≡ sumItems f (take n h)) h n
+      (λ e. ap (λ (i : ℕ). f (item none h i) + sumItems f (take (n - 1) h)) (sym e) ∙ sym (first-last none f n h some room))
+      (λ d. omega (arith, rest d .sums f, first-last none f n h some room, first-set none f (n - 1) h 0 (item none h (n - 1)) (omega arith) (omega arith)))

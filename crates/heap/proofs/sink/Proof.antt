@@ -1,0 +1,94 @@
+-- `heap::sink` meets its contract: where the hole ends, and the room then, are the same wherever the hole stands on its way.
+-- Assumes nothing.
+use mathlib.Core.Path.{_≡_, refl, sym, ap, _∙_}
+use Prim.Native.Nat.{ℕ, _+_, _*_, _-_, _<_, _≤_}
+use native.Mathlib.Omega.{arith}
+use lib.ListN.{set}
+use Rattle.heap.specs.Heap.{Room, Holed, item, sink}
+use Rattle.heap.specs.Lent.{Lent, noItem, roomOf}
+use Rattle.heap.proofs.Steps.{sink-on, sink-left, sink-ends}
+use Rattle.heap.proofs.Lent.{room-long, lent-set, copied, arrays-are, child-at}
+use Rattle.heap.proofs.sink.Statement.{statement}
+use Rattle.heap.proofs.sink.Tie as tie
+
+abbrev Inv-loop : tie.InvT-loop
+Inv-loop spreads₀ boxes₀ len hole₀ spreads boxes hole =
+    (hole < 256) × Lent spreads boxes × (sink noItem len (roomOf spreads₀ boxes₀) len 0 ≡ sink noItem len (roomOf spreads boxes) len hole)
+
+abbrev μ-loop : tie.MeasureT-loop
+μ-loop spreads₀ boxes₀ len hole₀ spreads boxes hole = 256 - hole
+
+loop-holds : tie.Need-loop-holds Inv-loop μ-loop
+loop-holds c = (omega arith, c .pre .0, refl)
+
+mul-loop : tie.Need-mul-loop Inv-loop μ-loop
+mul-loop c = omega arith
+
+add-loop : tie.Need-add-loop Inv-loop μ-loop
+add-loop c = omega arith
+
+child-requires : tie.Need-child-requires Inv-loop μ-loop
+child-requires c κs = omega arith
+
+copy-to-requires : tie.Need-copy-to-requires Inv-loop μ-loop
+copy-to-requires c κs = (omega arith, omega arith)
+
+loop-less : tie.Need-loop-less Inv-loop μ-loop
+loop-less c = omega arith
+
+loop-again : tie.Need-loop-again Inv-loop μ-loop
+loop-again c =
+    let l = c .before .before .before .before .before .before .loop in
+    let lent = l .inv .1 in
+    let n = c .before .before .before .before .before .before .before .args .len in
+    let e = c .copy-to .ensures in
+    let is = child-at lent (l .hole) ∙ sym (c .before .before .before .child .ensures .0) in (
+      omega arith,
+      lent-set lent (l .hole) _ _ (e .0) (e .1),
+      l .inv .2
+          ∙ sink-on noItem _ n (l .hole) (omega arith)
+          ∙ (λ i. sink noItem n (set (roomOf (l .spreads) (l .boxes)) (l .hole) (item noItem (roomOf (l .spreads) (l .boxes)) (is i))) n (is i))
+          ∙ ap (λ (k : Room ℕ). sink noItem n k n (c .before .before .before .child .result)) (sym (copied lent (c .before .before .before .child .result) (l .hole) (e .0) (e .1))),
+    )
+
+mul-left : tie.Need-mul-left Inv-loop μ-loop
+mul-left c = omega arith
+
+add-left : tie.Need-add-left Inv-loop μ-loop
+add-left c = omega arith
+
+copy-to-requires-2 : tie.Need-copy-to-requires-2 Inv-loop μ-loop
+copy-to-requires-2 c κs = (omega arith, omega arith)
+
+returns : tie.Need-returns Inv-loop μ-loop
+returns c =
+    let l = c .before .before .before .before .before .loop in
+    let lent = l .inv .1 in
+    let e = c .copy-to2 .ensures in
+    let ends = l .inv .2 ∙ sink-left noItem _ _ (l .hole) (omega arith) (omega arith) in
+    (sym (ap (λ (s : Holed ℕ). s .hole) ends), arrays-are (lent-set lent (l .hole) _ _ (e .0) (e .1)) (copied lent _ (l .hole) (e .0) (e .1) ∙ sym (ap (λ (s : Holed ℕ). s .room) ends)))
+
+returns-2 : tie.Need-returns-2 Inv-loop μ-loop
+returns-2 c =
+    let l = c .before .before .loop in
+    let ends = l .inv .2 ∙ sink-ends noItem _ _ (l .hole) (omega arith) in
+    (sym (ap (λ (s : Holed ℕ). s .hole) ends), arrays-are (l .inv .1) (sym (ap (λ (s : Holed ℕ). s .room) ends)))
+
+pub sink-spec : {M : Type 1} → statement M
+sink-spec =
+    tie.close
+    (tie.spec
+    Inv-loop
+    μ-loop
+    loop-holds
+    mul-loop
+    add-loop
+    child-requires
+    copy-to-requires
+    loop-less
+    loop-again
+    mul-left
+    add-left
+    copy-to-requires-2
+    returns
+    returns-2)
