@@ -1,15 +1,15 @@
 -- `<` of floats where no NaN stands between: not less is transitive, less is asymmetric.
 -- Assumes nothing.
-use mathlib.Core.Path.{_≡_, refl, sym, _∙_}
-use mathlib.Core.Bool.{Bool, true, false, not, _&&_, _||_, Bool·beq}
+use mathlib.Core.Path.{_≡_, refl, sym}
+use mathlib.Core.Bool.{Bool, true, false, _&&_, _||_}
 use mathlib.Core.Logic.{_≢_}
 use Prim.Native.Nat.{ℕ, zero, suc, _+_, _*_, _≤_, _<_}
 use native.Mathlib.Nat.{suc-mul, zero-mul}
 use native.Mathlib.Omega.{arith}
-use borrow.Author.Tests.{ltb-true, ltb-false, eqb-true, lt-ltb, le-ltb}
-use lib.Dec.{ltb, eqb}
+use borrow.Author.Tests.{ltb-true, ltb-false, eqb-true, le-ltb}
+use lib.Dec.{eqb}
 use lib.Ieee.{Float, nan, inf, fin, up, down, below, level, lt, eq, le}
-use lib.Ieee.Positive.{den, den-pos, through}
+use lib.Ieee.Positive.{den-pos, through}
 
 impossible : {P : Type 0} → true ≡ false → P
 impossible e = let z : _≡_ {A = ℕ} 0 1 = cc in absurd (omega arith)

@@ -1,10 +1,9 @@
 -- Climbing and sinking go on step by step, and more times than enough change nothing.
 -- Assumes nothing.
 use mathlib.Core.Path.{_≡_, refl, sym, ap, _∙_}
-use mathlib.Core.Bool.{Bool, true, false, cond, _&&_}
-use mathlib.Core.List.{List}
+use mathlib.Core.Bool.{Bool, true, false, cond}
 use mathlib.Core.Logic.{_≢_}
-use Prim.Native.Nat.{ℕ, zero, suc, _+_, _-_, _*_, _/_, _≤_, _<_}
+use Prim.Native.Nat.{ℕ, zero, suc, _+_, _-_, _*_, _≤_, _<_}
 use native.Mathlib.Nat.{add-zero, add-suc}
 use native.Mathlib.Omega.{arith}
 use borrow.Author.Tests.{lt-ltb, le-ltb, eq-eqb, ne-eqb, eqb-true, eqb-false}
@@ -17,6 +16,13 @@ use Rattle.heap.specs.Heap.{Item, Room, Holed, parent, item, swap, climb
 pub by-cond {ℓ κ} : {A : Type ℓ} (P : A → Type κ) (b : Bool) (x y : A) → P x → P y → P (cond b x y)
 by-cond P true x y p q = p
 by-cond P false x y p q = q
+
+pub by-eq {ℓ} : {P : Type ℓ} (i j : ℕ) → (i ≡ j → P) → (i ≢ j → P) → P
+by-eq {P = P} i j same other = go (eqb i j) refl
+  where
+    go : (b : Bool) → eqb i j ≡ b → P
+    go true e = same (eqb-true i j e)
+    go false e = other (eqb-false i j e)
 
 module _ {A : Type 0} (none : Item A) where
   -- one time more than p
