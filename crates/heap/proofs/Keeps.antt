@@ -2,18 +2,15 @@
 -- and whatever holds of each item.
 -- Assumes nothing.
 use mathlib.Core.Path.{_≡_, refl, sym, ap, _∙_}
-use mathlib.Core.Bool.{Bool, true, false, cond, _&&_}
 use mathlib.Core.List.{[], _∷_, _++_}
 use mathlib.Core.Logic.{_≢_}
 use Prim.Native.Nat.{ℕ, zero, suc, _+_, _-_, _*_, _≤_, _<_}
 use native.Mathlib.Omega.{arith}
-use borrow.Author.Tests.{ltb-true}
-use lib.Dec.{ltb}
-use lib.Ieee.{lt}
 use lib.ListN.{length, set, take, length-set}
 use lib.Seq.{getD-set-same, getD-set-other, getD-take, length-take-le, take-set-lt, take-suc-set, take-suc, set-getD}
-use Rattle.heap.specs.Heap.{Item, Room, Holed, parent, item, swap, climbs, climb, putIn, child, sink, enter, takeOut, sumItems}
-use Rattle.heap.proofs.Steps.{by-eq, child-is, by-rest}
+use Rattle.heap.specs.Heap.{Item, Room, Holed, parent, item, swap, climb, putIn, child, sink, enter, takeOut, sumItems}
+use Rattle.heap.proofs.Cases.{by-eq}
+use Rattle.heap.proofs.Steps.{by-climbs, child-is, by-children, by-rest}
 
 -- ---- sums over items
 
@@ -115,21 +112,15 @@ module _ {A : Type 0} (none : Item A) where
 
   -- ---- climbing and sinking
 
-  and-left : (a b : Bool) → (a && b) ≡ true → a ≡ true
-  and-left true b e = refl
-  and-left false b e = e
-
   climb-reorders : (times n : ℕ) (h : Room A) (p : ℕ) → p < n → n ≤ length h → Reordered none n h (climb none times h p)
   unfolding climb
   climb-reorders zero n h p l m = reordered-itself n h
-  climb-reorders (suc times) n h p l m = go (climbs none h p) refl
-      (λ k. reordered-on (swapped n h p (parent p) l (omega arith) (omega arith) m)
+  climb-reorders (suc times) n h p l m =
+      by-climbs none (Reordered none n h) h (climb none times (swap none h p (parent p)) (parent p)) p
+      (λ z e.
+      reordered-on (swapped n h p (parent p) l (omega arith) (omega arith) m)
       (climb-reorders times n (swap none h p (parent p)) (parent p) (omega arith) (simp length-set m)))
-    where
-      go : (b : Bool) → climbs none h p ≡ b → (0 < p → Reordered none n h (climb none times (swap none h p (parent p)) (parent p)))
-          → Reordered none n h (cond b (climb none times (swap none h p (parent p)) (parent p)) h)
-      go true e k = k (ltb-true 0 p (and-left (ltb 0 p) (lt (item none h (parent p) .spread) (item none h p .spread)) e))
-      go false e k = reordered-itself n h
+      (λ e. reordered-itself n h)
 
   -- a hole that sank from p stands among the first n places, and what enters it would have entered at p
   pub record Sunk (n : ℕ) (h : Room A) (p : ℕ) (s : Holed A) : Type 0 where
@@ -140,18 +131,13 @@ module _ {A : Type 0} (none : Item A) where
   unfolding sink
   sunk zero n h p l m = record { within = l; carries = λ x. reordered-itself n (set h p x) }
   sunk (suc times) n h p l m =
-      pick (ltb (2 * p + 2) n) (ltb (2 * p + 1) n) refl refl
-      (λ b. on (λ c k. sunk times n (set h p (item none h c)) c k (rw (length-set h p (item none h c)) m)) (child none h p)
+      by-children none (Sunk n h p) n p
+      (λ b.
+      on (λ c k. sunk times n (set h p (item none h c)) c k (rw (length-set h p (item none h c)) m)) (child none h p)
       (child-is none h p (λ (c : ℕ). (c < n) × (c ≢ p)) (omega arith, omega arith) (omega arith, omega arith)))
-      (λ b. record { within = b; carries = moved n h p (2 * p + 1) l b (omega arith) m })
-      (record { within = l; carries = λ x. reordered-itself n (set h p x) })
+      (λ a b. record { within = b; carries = moved n h p (2 * p + 1) l b (omega arith) m })
+      (λ a. record { within = l; carries = λ x. reordered-itself n (set h p x) })
     where
-      pick : (a b : Bool) → ltb (2 * p + 2) n ≡ a → ltb (2 * p + 1) n ≡ b → {u v w : Holed A}
-          → (2 * p + 2 < n → Sunk n h p u) → (2 * p + 1 < n → Sunk n h p v) → Sunk n h p w → Sunk n h p (cond a u (cond b v w))
-      pick true b d e y z s = y (ltb-true (2 * p + 2) n d)
-      pick false true d e y z s = z (ltb-true (2 * p + 1) n e)
-      pick false false d e y z s = s
-
       on : ((c : ℕ) → c < n → Sunk n (set h p (item none h c)) c (sink none times (set h p (item none h c)) n c))
           → (c : ℕ) → (c < n) × (c ≢ p) → Sunk n h p (sink none times (set h p (item none h c)) n c)
       on deeper c is =

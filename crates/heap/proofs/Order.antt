@@ -1,22 +1,21 @@
 -- Where no spread is a NaN, putting in and taking out keep the room in order, and no spread is greater than the top's.
 -- Assumes nothing.
 use mathlib.Core.Path.{_≡_, refl, ap, _∙_}
-use mathlib.Core.Bool.{Bool, true, false, cond, _&&_}
+use mathlib.Core.Bool.{Bool, true, false, cond}
 use mathlib.Core.Logic.{_≢_}
 use Prim.Native.Nat.{ℕ, zero, suc, _+_, _-_, _*_, _≤_, _<_}
 use native.Mathlib.Omega.{arith}
-use borrow.Author.Tests.{ltb-true, ltb-false}
-use lib.Dec.{ltb}
 use lib.Ieee.{nan, lt, le}
 use lib.ListN.{length, set, length-set}
 use lib.Seq.{getD-set-same, getD-set-other}
 use Rattle.heap.specs.Heap.{Item, Room, Holed, parent, item, swap, climb, putIn, sink, enter, takeOut, InOrder, NoNaN}
+use Rattle.heap.proofs.Cases.{by-eq}
 use Rattle.heap.proofs.Compare.{not-less-trans, less-asym, not-less-itself, at-most, not-at-most}
-use Rattle.heap.proofs.Steps.{by-eq, by-rest}
+use Rattle.heap.proofs.Steps.{by-climbs, by-children, by-rest}
 use Rattle.heap.proofs.Keeps.{Reordered, all-reordered, all-set, swapped, sunk, sink-within, sink-long, put-in-all, take-out-all}
 
 module _ {A : Type 0} (none : Item A) where
-  -- x is not less than y, and so not "strictly greater" the other way round
+  -- y is not greater than x
   abbrev NotLess : Item A → Item A → Type 0
   NotLess x y = lt (x .spread) (y .spread) ≡ false
 
@@ -32,7 +31,7 @@ module _ {A : Type 0} (none : Item A) where
 
   -- ---- climbing
 
-  -- in order but for the element at p and its parent: that parent is not less than the element's children either
+  -- in order but for the element at p against its parent; the children at p are not greater than that parent either
   record Climbing (h : Room A) (n p : ℕ) : Type 0 where
     elsewhere : (q : ℕ) → 0 < q → q < n → q ≢ p → NotLess (item none h (parent q)) (item none h q)
     across : (q : ℕ) → 0 < q → q < n → 0 < p → parent q ≡ p → NotLess (item none h (parent p)) (item none h q)
@@ -77,30 +76,25 @@ module _ {A : Type 0} (none : Item A) where
   unfolding climb
   climb-order zero n h p t l m numbers c = record { under = λ q k j. c .elsewhere q k j (omega arith) }
   climb-order (suc times) n h p t l m numbers c =
-      go (ltb 0 p) (lt (item none h (parent p) .spread) (item none h p .spread)) refl refl
+      by-climbs none (λ (k : Room A). InOrder none k n) h (climb none times (swap none h p (parent p)) (parent p)) p
       (λ z greater.
       climb-order times n (swap none h p (parent p)) (parent p) (omega arith) (omega arith) (simp length-set m)
       (numbers-reordered (swapped none n h p (parent p) l (omega arith) (omega arith) m) numbers)
       (climbing-on z l m numbers c greater))
-    where
-      go : (a b : Bool) → ltb 0 p ≡ a → lt (item none h (parent p) .spread) (item none h p .spread) ≡ b
-          → (0 < p → lt (item none h (parent p) .spread) (item none h p .spread) ≡ true → InOrder none (climb none times (swap none h p (parent p)) (parent p)) n)
-          → InOrder none (cond (a && b) (climb none times (swap none h p (parent p)) (parent p)) h) n
-      go true true d e on = on (ltb-true 0 p d) e
-      go true false d e on =
-          record {
-            under = λ q k j. by-eq q p (λ f. not-less (ap (λ (i : ℕ). item none h (parent i)) f) (ap (item none h) f) e) (c .elsewhere q k j);
-          }
-      go false b d e on = let z = ltb-false 0 p d in record { under = λ q k j. c .elsewhere q k j (omega arith) }
+      (λ still.
+      record {
+        under = λ q k j.
+            by-eq q p (λ f. not-less (ap (λ (i : ℕ). item none h (parent i)) f) (ap (item none h) f) (still (omega arith))) (c .elsewhere q k j);
+      })
 
   -- ---- sinking
 
-  -- in order but for the hole at p: its parent is not less than its children
+  -- in order but for the hole at p; its children are not greater than its parent
   record Sinking (h : Room A) (n p : ℕ) : Type 0 where
     elsewhere : (q : ℕ) → 0 < q → q < n → q ≢ p → parent q ≢ p → NotLess (item none h (parent q)) (item none h q)
     across : (q : ℕ) → 0 < q → q < n → 0 < p → parent q ≡ p → NotLess (item none h (parent p)) (item none h q)
 
-  -- a child that is not less than the other moves up
+  -- a child moves up that none at p is greater than
   sinking-on : {h : Room A} {n p c : ℕ} → 0 < c → c < n → parent c ≡ p → n ≤ length h → Sinking h n p
       → ((q : ℕ) → 0 < q → q < n → parent q ≡ p → NotLess (item none h c) (item none h q)) → Sinking (set h p (item none h c)) n c
   sinking-on {h} {n} {p} {c} z l is m s best =
@@ -134,7 +128,7 @@ module _ {A : Type 0} (none : Item A) where
   unfolding sink
   sink-order zero n h p t l m s = absurd (omega arith)
   sink-order (suc times) n h p t l m s =
-      pick (ltb (2 * p + 2) n) (ltb (2 * p + 1) n) refl refl
+      by-children none (Bottom n) n p
       (λ two.
       both (le (item none h (2 * p + 1) .spread) (item none h (2 * p + 2) .spread)) refl two
       (λ c z k is best.
@@ -146,12 +140,6 @@ module _ {A : Type 0} (none : Item A) where
       })
       (λ one. record { sinking = s; leaf = one })
     where
-      pick : (a b : Bool) → ltb (2 * p + 2) n ≡ a → ltb (2 * p + 1) n ≡ b → {u v w : Holed A}
-          → (2 * p + 2 < n → Bottom n u) → (n ≤ 2 * p + 2 → 2 * p + 1 < n → Bottom n v) → (n ≤ 2 * p + 1 → Bottom n w) → Bottom n (cond a u (cond b v w))
-      pick true b d e x y z = x (ltb-true (2 * p + 2) n d)
-      pick false true d e x y z = y (ltb-false (2 * p + 2) n d) (ltb-true (2 * p + 1) n e)
-      pick false false d e x y z = z (ltb-false (2 * p + 1) n e)
-
       both : (b : Bool) → le (item none h (2 * p + 1) .spread) (item none h (2 * p + 2) .spread) ≡ b → 2 * p + 2 < n
           → ((c : ℕ) → 0 < c → c < n → parent c ≡ p → ((q : ℕ) → 0 < q → q < n → parent q ≡ p → NotLess (item none h c) (item none h q))
           → Bottom n (sink none times (set h p (item none h c)) n c))
