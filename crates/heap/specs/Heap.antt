@@ -31,6 +31,7 @@ module _ {A : Type 0} (none : Item A) where
   abbrev pub item : Room A → ℕ → Item A
   item h p = getD h p none
 
+  -- the elements at p and q exchanged
   abbrev pub swap : Room A → ℕ → ℕ → Room A
   swap h p q = set (set h p (item h q)) q (item h p)
 
