@@ -1,18 +1,16 @@
 -- `<` of floats where no NaN stands between: not less is transitive, less is asymmetric.
 -- Assumes nothing.
-use mathlib.Core.Path.{_≡_, refl, sym, _∙_}
-use mathlib.Core.Bool.{Bool, true, false, not, _&&_, _||_, Bool·beq}
+use mathlib.Core.Path.{_≡_, refl, sym}
+use mathlib.Core.Bool.{Bool, true, false, _||_}
 use mathlib.Core.Logic.{_≢_}
 use Prim.Native.Nat.{ℕ, zero, suc, _+_, _*_, _≤_, _<_}
 use native.Mathlib.Nat.{suc-mul, zero-mul}
 use native.Mathlib.Omega.{arith}
-use borrow.Author.Tests.{ltb-true, ltb-false, eqb-true, lt-ltb, le-ltb}
-use lib.Dec.{ltb, eqb}
+use borrow.Author.Tests.{ltb-true, ltb-false, eqb-true, le-ltb}
+use lib.Dec.{eqb}
 use lib.Ieee.{Float, nan, inf, fin, up, down, below, level, lt, eq, le}
-use lib.Ieee.Positive.{den, den-pos, through}
-
-impossible : {P : Type 0} → true ≡ false → P
-impossible e = let z : _≡_ {A = ℕ} 0 1 = cc in absurd (omega arith)
+use lib.Ieee.Positive.{den-pos, through}
+use Rattle.heap.proofs.Cases.{impossible, and-left, and-right}
 
 -- c·d is 0, and so is c·e
 none-left : (c d e : ℕ) → 0 < d → c * d ≤ 0 → c * e ≤ 0
@@ -101,14 +99,6 @@ not-less-itself x = go (lt x x) refl
     go : (b : Bool) → lt x x ≡ b → lt x x ≡ false
     go true e = less-asym x x e
     go false e = e
-
-and-left : (a b : Bool) → (a && b) ≡ true → a ≡ true
-and-left true b e = refl
-and-left false b e = e
-
-and-right : (a b : Bool) → (a && b) ≡ true → b ≡ true
-and-right true b e = e
-and-right false b e = impossible (sym e)
 
 below-level : (s t : Bool) (a b : ℕ) → level s a t b ≡ true → below t b s a ≡ false
 below-level false false a b p = let e = eqb-true a b (and-left (eqb a b) true p) in le-ltb b a (omega arith)

@@ -1,18 +1,16 @@
--- Putting in and taking out keep the room's length, every place past those in use, and, of those in use, the sum of every f.
+-- Putting in and taking out keep the room's length, every place past those in use, and, of those in use, the sum of every f
+-- and whatever holds of each item.
 -- Assumes nothing.
 use mathlib.Core.Path.{_≡_, refl, sym, ap, _∙_}
-use mathlib.Core.Bool.{Bool, true, false, cond, _&&_}
-use mathlib.Core.List.{List, [], _∷_, _++_}
+use mathlib.Core.List.{[], _∷_, _++_}
 use mathlib.Core.Logic.{_≢_}
-use Prim.Native.Nat.{ℕ, zero, suc, _+_, _-_, _*_, _/_, _≤_, _<_}
+use Prim.Native.Nat.{ℕ, zero, suc, _+_, _-_, _*_, _≤_, _<_}
 use native.Mathlib.Omega.{arith}
-use borrow.Author.Tests.{ltb-true}
-use lib.Dec.{ltb}
-use lib.Ieee.{lt}
-use lib.ListN.{length, getD, set, take, length-set}
-use lib.Seq.{getD-set-other, getD-take, length-take-le, take-set-lt, take-suc-set, take-suc, set-getD}
-use Rattle.heap.specs.Heap.{Item, Room, Holed, parent, item, swap, climbs, climb, putIn, child, sink, enter, takeOut, sumItems}
-use Rattle.heap.proofs.Steps.{child-is, by-rest}
+use lib.ListN.{length, set, take, length-set}
+use lib.Seq.{getD-set-same, getD-set-other, getD-take, length-take-le, take-set-lt, take-suc-set, take-suc, set-getD}
+use Rattle.heap.specs.Heap.{Item, Room, Holed, parent, item, swap, climb, putIn, child, sink, enter, takeOut, sumItems}
+use Rattle.heap.proofs.Cases.{by-eq}
+use Rattle.heap.proofs.Steps.{by-climbs, child-is, by-children, by-rest}
 
 -- ---- sums over items
 
@@ -30,11 +28,12 @@ module _ {A : Type 0} (f : Item A → ℕ) where
 
 -- ---- places in another order
 
--- the first n places of k have the items of h's, as far as sums tell, and the rest is the same
+-- the first n places of k have the items of h's, as far as sums tell, each from one of them, and the rest is the same
 pub record Reordered {A : Type 0} (none : Item A) (n : ℕ) (h k : Room A) : Type 0 where
   pub long : length k ≡ length h
   pub past : (p : ℕ) → n ≤ p → item none k p ≡ item none h p
   pub sums : (f : Item A → ℕ) → sumItems f (take n k) ≡ sumItems f (take n h)
+  pub whence : (p : ℕ) → p < n → (q : ℕ) × (q < n) × (item none k p ≡ item none h q)
 
 module _ {A : Type 0} (none : Item A) where
   -- the sum over the first n places, one of which is written
@@ -49,11 +48,29 @@ module _ {A : Type 0} (none : Item A) where
   first-last f (suc n) h l m = let e : suc n - 1 ≡ n = omega arith in rw e (rw (take-suc h n none m) (sum-append f (take n h) (item none h n)))
 
   reordered-itself : (n : ℕ) (h : Room A) → Reordered none n h h
-  reordered-itself n h = record { long = refl; past = λ p l. refl; sums = λ f. refl }
+  reordered-itself n h = record { long = refl; past = λ p l. refl; sums = λ f. refl; whence = λ p l. (p, l, refl) }
 
   reordered-on : {n : ℕ} {h k r : Room A} → Reordered none n h k → Reordered none n k r → Reordered none n h r
   reordered-on a b =
-      record { long = b .long ∙ a .long; past = λ p l. b .past p l ∙ a .past p l; sums = λ f. b .sums f ∙ a .sums f }
+      record {
+        long = b .long ∙ a .long;
+        past = λ p l. b .past p l ∙ a .past p l;
+        sums = λ f. b .sums f ∙ a .sums f;
+        whence = λ p l.
+            let q = b .whence p l in
+            let r = a .whence (q .0) (q .1) in
+            (r .0, r .1, q .2 ∙ r .2);
+      }
+
+  -- what holds of each item
+  pub all-reordered : {n : ℕ} {h k : Room A} → Reordered none n h k → (P : Item A → Type 0)
+      → ((q : ℕ) → q < n → P (item none h q)) → (p : ℕ) → p < n → P (item none k p)
+  all-reordered r P all p l = let q = r .whence p l in rw (q .2) (all (q .0) (q .1))
+
+  pub all-set : {n : ℕ} (h : Room A) {p : ℕ} (x : Item A) → p < n → n ≤ length h → (P : Item A → Type 0) → P x
+      → ((q : ℕ) → q < n → q ≢ p → P (item none h q)) → (q : ℕ) → q < n → P (item none (set h p x) q)
+  all-set {n} h {p} x l m P one all q k =
+      by-eq q p (λ e. rw (e, getD-set-same h p x none (omega arith)) one) (λ e. rw (getD-set-other h p q x none e) (all q k e))
 
   -- the hole moves from p to q, and the item at q to p: with an item x in the hole, an exchange
   moved : (n : ℕ) (h : Room A) (p q : ℕ) → p < n → q < n → q ≢ p → n ≤ length h → (x : Item A)
@@ -61,9 +78,7 @@ module _ {A : Type 0} (none : Item A) where
   moved n h p q l m d e x =
       record {
         long = simp length-set;
-        past = λ i k.
-            getD-set-other (set h p (item none h q)) q i x none (omega arith) ∙ getD-set-other h p i (item none h q) none (omega arith)
-            ∙ sym (getD-set-other h p i x none (omega arith));
+        past = λ i k. elsewhere i (omega arith) (omega arith);
         sums = λ f.
             omega (
               arith,
@@ -72,51 +87,57 @@ module _ {A : Type 0} (none : Item A) where
               first-set f n h p x l e,
               ap f (getD-set-other h p q (item none h q) none d),
             );
+        whence = λ i k. by-eq i q
+            (λ f. (p, l, ap (item none (set (set h p (item none h q)) q x)) f ∙ at-q))
+            (λ f. by-eq i p (λ g. (q, m, ap (item none (set (set h p (item none h q)) q x)) g ∙ at-p)) (λ g. (i, k, elsewhere i g f)));
       }
+    where
+      elsewhere : (i : ℕ) → i ≢ p → i ≢ q → item none (set (set h p (item none h q)) q x) i ≡ item none (set h p x) i
+      elsewhere i f g =
+          getD-set-other (set h p (item none h q)) q i x none g ∙ getD-set-other h p i (item none h q) none f ∙ sym (getD-set-other h p i x none f)
 
-  swapped : (n : ℕ) (h : Room A) (p q : ℕ) → p < n → q < n → q ≢ p → n ≤ length h → Reordered none n h (swap none h p q)
+      at-q : item none (set (set h p (item none h q)) q x) q ≡ item none (set h p x) p
+      at-q =
+          getD-set-same (set h p (item none h q)) q x none (rw (length-set h p (item none h q)) (omega arith))
+          ∙ sym (getD-set-same h p x none (omega arith))
+
+      at-p : item none (set (set h p (item none h q)) q x) p ≡ item none (set h p x) q
+      at-p =
+          getD-set-other (set h p (item none h q)) q p x none (λ f. d (sym f)) ∙ getD-set-same h p (item none h q) none (omega arith)
+          ∙ sym (getD-set-other h p q x none d)
+
+  pub swapped : (n : ℕ) (h : Room A) (p q : ℕ) → p < n → q < n → q ≢ p → n ≤ length h → Reordered none n h (swap none h p q)
   swapped n h p q l m d e =
       rw (set-getD h p none) at (moved n h p q l m d e (item none h p))
 
   -- ---- climbing and sinking
 
-  and-left : (a b : Bool) → (a && b) ≡ true → a ≡ true
-  and-left true b e = refl
-  and-left false b e = e
-
   climb-reorders : (times n : ℕ) (h : Room A) (p : ℕ) → p < n → n ≤ length h → Reordered none n h (climb none times h p)
   unfolding climb
   climb-reorders zero n h p l m = reordered-itself n h
-  climb-reorders (suc times) n h p l m = go (climbs none h p) refl
-      (λ k. reordered-on (swapped n h p (parent p) l (omega arith) (omega arith) m)
+  climb-reorders (suc times) n h p l m =
+      by-climbs none (Reordered none n h) h (climb none times (swap none h p (parent p)) (parent p)) p
+      (λ z e.
+      reordered-on (swapped n h p (parent p) l (omega arith) (omega arith) m)
       (climb-reorders times n (swap none h p (parent p)) (parent p) (omega arith) (simp length-set m)))
-    where
-      go : (b : Bool) → climbs none h p ≡ b → (0 < p → Reordered none n h (climb none times (swap none h p (parent p)) (parent p)))
-          → Reordered none n h (cond b (climb none times (swap none h p (parent p)) (parent p)) h)
-      go true e k = k (ltb-true 0 p (and-left (ltb 0 p) (lt (item none h (parent p) .spread) (item none h p .spread)) e))
-      go false e k = reordered-itself n h
+      (λ e. reordered-itself n h)
 
   -- a hole that sank from p stands among the first n places, and what enters it would have entered at p
   pub record Sunk (n : ℕ) (h : Room A) (p : ℕ) (s : Holed A) : Type 0 where
     pub within : s .hole < n
     pub carries : (x : Item A) → Reordered none n (set h p x) (set (s .room) (s .hole) x)
 
-  sunk : (times n : ℕ) (h : Room A) (p : ℕ) → p < n → n ≤ length h → Sunk n h p (sink none times h n p)
+  pub sunk : (times n : ℕ) (h : Room A) (p : ℕ) → p < n → n ≤ length h → Sunk n h p (sink none times h n p)
   unfolding sink
   sunk zero n h p l m = record { within = l; carries = λ x. reordered-itself n (set h p x) }
   sunk (suc times) n h p l m =
-      pick (ltb (2 * p + 2) n) (ltb (2 * p + 1) n) refl refl
-      (λ b. on (λ c k. sunk times n (set h p (item none h c)) c k (rw (length-set h p (item none h c)) m)) (child none h p)
+      by-children none (Sunk n h p) n p
+      (λ b.
+      on (λ c k. sunk times n (set h p (item none h c)) c k (rw (length-set h p (item none h c)) m)) (child none h p)
       (child-is none h p (λ (c : ℕ). (c < n) × (c ≢ p)) (omega arith, omega arith) (omega arith, omega arith)))
-      (λ b. record { within = b; carries = moved n h p (2 * p + 1) l b (omega arith) m })
-      (record { within = l; carries = λ x. reordered-itself n (set h p x) })
+      (λ a b. record { within = b; carries = moved n h p (2 * p + 1) l b (omega arith) m })
+      (λ a. record { within = l; carries = λ x. reordered-itself n (set h p x) })
     where
-      pick : (a b : Bool) → ltb (2 * p + 2) n ≡ a → ltb (2 * p + 1) n ≡ b → {u v w : Holed A}
-          → (2 * p + 2 < n → Sunk n h p u) → (2 * p + 1 < n → Sunk n h p v) → Sunk n h p w → Sunk n h p (cond a u (cond b v w))
-      pick true b d e y z s = y (ltb-true (2 * p + 2) n d)
-      pick false true d e y z s = z (ltb-true (2 * p + 1) n e)
-      pick false false d e y z s = s
-
       on : ((c : ℕ) → c < n → Sunk n (set h p (item none h c)) c (sink none times (set h p (item none h c)) n c))
           → (c : ℕ) → (c < n) × (c ≢ p) → Sunk n h p (sink none times (set h p (item none h c)) n c)
       on deeper c is =
@@ -153,6 +174,10 @@ module _ {A : Type 0} (none : Item A) (h : Room A) (n : ℕ) (x : Item A) (room 
   pub put-in-sum : (f : Item A → ℕ) → sumItems f (take (suc n) (putIn none h n x)) ≡ f x + sumItems f (take n h)
   put-in-sum f = put-in-reorders .sums f ∙ ap (sumItems f) (take-suc-set h n x room) ∙ sum-append f (take n h) x
 
+  pub put-in-all : (P : Item A → Type 0) → P x → ((p : ℕ) → p < n → P (item none h p)) → (p : ℕ) → p < suc n → P (item none (putIn none h n x) p)
+  put-in-all P one all =
+      all-reordered none put-in-reorders P (all-set none h x (omega arith) (omega arith) P one (λ q k e. all q (omega arith)))
+
 -- ---- taking out
 
 module _ {A : Type 0} (none : Item A) (h : Room A) (n : ℕ) (some : 0 < n) (room : n ≤ length h) where
@@ -173,3 +198,11 @@ module _ {A : Type 0} (none : Item A) (h : Room A) (n : ℕ) (some : 0 < n) (roo
       by-rest none (λ (k : Room A). f (item none h 0) + sumItems f (take (n - 1) k) ≡ sumItems f (take n h)) h n
       (λ e. ap (λ (i : ℕ). f (item none h i) + sumItems f (take (n - 1) h)) (sym e) ∙ sym (first-last none f n h some room))
       (λ d. omega (arith, rest d .sums f, first-last none f n h some room, first-set none f (n - 1) h 0 (item none h (n - 1)) (omega arith) (omega arith)))
+
+  pub take-out-all : (P : Item A → Type 0) → ((p : ℕ) → p < n → P (item none h p)) → (p : ℕ) → p < n - 1 → P (item none (takeOut none h n) p)
+  take-out-all P all p l =
+      by-rest none (λ (k : Room A). P (item none k p)) h n
+      (λ e. all p (omega arith))
+      (λ d.
+      all-reordered none (rest d) P
+      (all-set none h (item none h (n - 1)) (omega arith) (omega arith) P (all (n - 1) (omega arith)) (λ q k e. all q (omega arith))) p l)

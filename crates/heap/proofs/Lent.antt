@@ -1,14 +1,16 @@
 -- The two lent arrays and the room that they are.
 -- Assumes nothing.
 use mathlib.Core.Path.{_≡_, refl, sym, ap, _∙_}
-use mathlib.Core.List.{List, [], _∷_, map}
+use mathlib.Core.List.{List, [], _∷_}
+use mathlib.Core.Logic.{_≢_}
 use mathlib.Core.Bool.{cond}
-use Prim.Native.Nat.{ℕ, zero, suc, _+_, _*_}
+use Prim.Native.Nat.{ℕ, zero, suc, _+_, _-_, _*_}
 use native.Mathlib.Omega.{arith}
 use lib.ListN.{length, getD, set, length-set, length-map}
 use lib.Ieee.{Float, nan, le}
-use Rattle.heap.specs.Heap.{Item, Room, item, child}
+use Rattle.heap.specs.Heap.{Item, Room, item, child, sink, enter, takeOut}
 use Rattle.heap.specs.Lent.{Lent, noItem, roomOf, spreadsOf, boxesOf}
+use Rattle.heap.proofs.Steps.{others-remain}
 
 -- an item written in both arrays is one written in the room
 pub room-set : (spreads : List Float) (boxes : List ℕ) (p : ℕ) (s : Float) (b : ℕ)
@@ -92,9 +94,6 @@ module _ {spreads : List Float} {boxes : List ℕ} (lent : Lent spreads boxes) w
   pub arrays-are : {h : Room ℕ} → roomOf spreads boxes ≡ h → (spreads ≡ spreadsOf h) × (boxes ≡ boxesOf h)
   arrays-are e = (sym (spreads-of spreads boxes alike) ∙ ap spreadsOf e, sym (boxes-of spreads boxes alike) ∙ ap boxesOf e)
 
-pub arrays-as : {spreads : List Float} {boxes : List ℕ} {h k : Room ℕ} → spreads ≡ spreadsOf h → boxes ≡ boxesOf h → h ≡ k → (spreads ≡ spreadsOf k) × (boxes ≡ boxesOf k)
-arrays-as e f same = (e ∙ ap spreadsOf same, f ∙ ap boxesOf same)
-
 -- the room whose arrays are known
 pub room-is : {spreads : List Float} {boxes : List ℕ} (h : Room ℕ) → spreads ≡ spreadsOf h → boxes ≡ boxesOf h → roomOf spreads boxes ≡ h
 room-is h e f = (λ i. roomOf (e i) (f i)) ∙ room-of h
@@ -102,3 +101,18 @@ room-is h e f = (λ i. roomOf (e i) (f i)) ∙ room-of h
 pub lent-of : {spreads : List Float} {boxes : List ℕ} (h : Room ℕ) → spreads ≡ spreadsOf h → boxes ≡ boxesOf h → length h ≡ 256 → Lent spreads boxes
 unfolding spreadsOf boxesOf
 lent-of h e f l = record { spreads-long = ap length e ∙ length-map h _ ∙ l; boxes-long = ap length f ∙ length-map h _ ∙ l }
+
+-- what stood at the last place enters where the hole sank to
+pub taken-out : {spreads spreads₁ spreads₂ : List Float} {boxes boxes₁ boxes₂ : List ℕ} {hole : ℕ} (len : ℕ) → Lent spreads boxes → len - 1 ≢ 0
+    → hole ≡ sink noItem (len - 1) (roomOf spreads boxes) (len - 1) 0 .hole
+    → spreads₁ ≡ spreadsOf (sink noItem (len - 1) (roomOf spreads boxes) (len - 1) 0 .room)
+    → boxes₁ ≡ boxesOf (sink noItem (len - 1) (roomOf spreads boxes) (len - 1) 0 .room)
+    → spreads₂ ≡ spreadsOf (enter noItem (record { room = roomOf spreads₁ boxes₁; hole = hole }) (record { spread = getD spreads (len - 1) nan; box = getD boxes (len - 1) 0 }))
+    → boxes₂ ≡ boxesOf (enter noItem (record { room = roomOf spreads₁ boxes₁; hole = hole }) (record { spread = getD spreads (len - 1) nan; box = getD boxes (len - 1) 0 }))
+    → (spreads₂ ≡ spreadsOf (takeOut noItem (roomOf spreads boxes) len)) × (boxes₂ ≡ boxesOf (takeOut noItem (roomOf spreads boxes) len))
+taken-out {spreads} {spreads₁} {boxes = boxes} {boxes₁} {hole = hole} len lent others at e f g k = (g ∙ ap spreadsOf taken, k ∙ ap boxesOf taken)
+  where
+    taken : enter noItem (record { room = roomOf spreads₁ boxes₁; hole = hole }) (record { spread = getD spreads (len - 1) nan; box = getD boxes (len - 1) 0 }) ≡ takeOut noItem (roomOf spreads boxes) len
+    taken =
+        others-remain noItem (roomOf spreads boxes) len others (λ i. record { room = room-is _ e f i; hole = at i })
+        (sym (room-item spreads boxes (len - 1) (alike lent)))

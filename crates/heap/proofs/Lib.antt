@@ -1,7 +1,10 @@
+pub mod Cases
 pub mod Steps
 pub mod Lent
 pub mod Keeps
+pub mod Calls
 pub mod View
+pub mod Unread
 pub mod Compare
 pub mod Order
 pub mod Worked

@@ -1,30 +1,21 @@
 -- Where no spread is a NaN, putting in and taking out keep the room in order, and no spread is greater than the top's.
 -- Assumes nothing.
-use mathlib.Core.Path.{_≡_, refl, sym, ap, _∙_}
-use mathlib.Core.Bool.{Bool, true, false, cond, _&&_}
-use mathlib.Core.List.{List}
+use mathlib.Core.Path.{_≡_, refl, ap, _∙_}
+use mathlib.Core.Bool.{Bool, true, false, cond}
 use mathlib.Core.Logic.{_≢_}
-use Prim.Native.Nat.{ℕ, zero, suc, _+_, _-_, _*_, _/_, _≤_, _<_}
+use Prim.Native.Nat.{ℕ, zero, suc, _+_, _-_, _*_, _≤_, _<_}
 use native.Mathlib.Omega.{arith}
-use borrow.Author.Tests.{ltb-true, ltb-false, eqb-true, eqb-false, lt-ltb}
-use lib.Dec.{eqb, ltb}
-use lib.Ieee.{Float, nan, lt, le}
-use lib.ListN.{length, getD, set, length-set}
+use lib.Ieee.{nan, lt, le}
+use lib.ListN.{length, set, length-set}
 use lib.Seq.{getD-set-same, getD-set-other}
-use Rattle.heap.specs.Heap.{Item, Room, Holed, parent, item, swap, climbs, climb, putIn, child, sink, enter, takeOut, InOrder, NoNaN}
+use Rattle.heap.specs.Heap.{Item, Room, Holed, parent, item, swap, climb, putIn, sink, enter, takeOut, InOrder, NoNaN}
+use Rattle.heap.proofs.Cases.{by-eq}
 use Rattle.heap.proofs.Compare.{not-less-trans, less-asym, not-less-itself, at-most, not-at-most}
-use Rattle.heap.proofs.Steps.{by-rest}
-use Rattle.heap.proofs.Keeps.{sink-within, sink-long}
-
-by-eq {ℓ} : {P : Type ℓ} (i j : ℕ) → (i ≡ j → P) → (i ≢ j → P) → P
-by-eq {P = P} i j same other = go (eqb i j) refl
-  where
-    go : (b : Bool) → eqb i j ≡ b → P
-    go true e = same (eqb-true i j e)
-    go false e = other (eqb-false i j e)
+use Rattle.heap.proofs.Steps.{by-climbs, by-children, by-rest}
+use Rattle.heap.proofs.Keeps.{Reordered, all-reordered, all-set, swapped, sunk, sink-within, sink-long, put-in-all, take-out-all}
 
 module _ {A : Type 0} (none : Item A) where
-  -- x is not less than y, and so not "strictly greater" the other way round
+  -- y is not greater than x
   abbrev NotLess : Item A → Item A → Type 0
   NotLess x y = lt (x .spread) (y .spread) ≡ false
 
@@ -35,17 +26,12 @@ module _ {A : Type 0} (none : Item A) where
   under-it : (h : Room A) (q : ℕ) {r : ℕ} → parent q ≡ r → NotLess (item none h (parent q)) (item none h q) → NotLess (item none h r) (item none h q)
   under-it h q e l = rw e at l
 
-  numbers-set : {h : Room A} {n p : ℕ} (x : Item A) → NoNaN none h n → p < n → n ≤ length h → x .spread ≢ nan → NoNaN none (set h p x) n
-  numbers-set {h} {n} {p} x numbers l m d =
-      record {
-        number = λ q k. by-eq q p
-            (λ e. rw (e, getD-set-same h p x none (omega arith)) d)
-            (λ e. rw (getD-set-other h p q x none e) (numbers .number q k));
-      }
+  numbers-reordered : {n : ℕ} {h k : Room A} → Reordered none n h k → NoNaN none h n → NoNaN none k n
+  numbers-reordered r numbers = record { number = all-reordered none r (λ (x : Item A). x .spread ≢ nan) (numbers .number) }
 
   -- ---- climbing
 
-  -- in order but for the element at p and its parent: that parent is not less than the element's children either
+  -- in order but for the element at p against its parent; the children at p are not greater than that parent either
   record Climbing (h : Room A) (n p : ℕ) : Type 0 where
     elsewhere : (q : ℕ) → 0 < q → q < n → q ≢ p → NotLess (item none h (parent q)) (item none h q)
     across : (q : ℕ) → 0 < q → q < n → 0 < p → parent q ≡ p → NotLess (item none h (parent p)) (item none h q)
@@ -85,42 +71,30 @@ module _ {A : Type 0} (none : Item A) where
       down : NotLess (item none h p) (item none h (parent p))
       down = less-asym _ _ greater
 
-  numbers-swap : {h : Room A} {n p q : ℕ} → NoNaN none h n → p < n → q < n → n ≤ length h → NoNaN none (swap none h p q) n
-  numbers-swap {h} {n} {p} {q} numbers l k m =
-      numbers-set (item none h p) (numbers-set (item none h q) numbers l m (numbers .number q k)) k (rw (length-set h p (item none h q)) m) (numbers .number p l)
-
   climb-order : (times n : ℕ) (h : Room A) (p : ℕ) → p ≤ times → p < n → n ≤ length h → NoNaN none h n → Climbing h n p
-      → InOrder none (climb none times h p) n × NoNaN none (climb none times h p) n
+      → InOrder none (climb none times h p) n
   unfolding climb
-  climb-order zero n h p t l m numbers c =
-      (record { under = λ q k j. c .elsewhere q k j (omega arith) }, numbers)
+  climb-order zero n h p t l m numbers c = record { under = λ q k j. c .elsewhere q k j (omega arith) }
   climb-order (suc times) n h p t l m numbers c =
-      go (ltb 0 p) (lt (item none h (parent p) .spread) (item none h p .spread)) refl refl
-      (λ z greater. climb-order times n (swap none h p (parent p)) (parent p) (omega arith) (omega arith)
-      (simp length-set m)
-      (numbers-swap numbers l (omega arith) m)
+      by-climbs none (λ (k : Room A). InOrder none k n) h (climb none times (swap none h p (parent p)) (parent p)) p
+      (λ z greater.
+      climb-order times n (swap none h p (parent p)) (parent p) (omega arith) (omega arith) (simp length-set m)
+      (numbers-reordered (swapped none n h p (parent p) l (omega arith) (omega arith) m) numbers)
       (climbing-on z l m numbers c greater))
-    where
-      go : (a b : Bool) → ltb 0 p ≡ a → lt (item none h (parent p) .spread) (item none h p .spread) ≡ b
-          → (0 < p → lt (item none h (parent p) .spread) (item none h p .spread) ≡ true
-          → InOrder none (climb none times (swap none h p (parent p)) (parent p)) n × NoNaN none (climb none times (swap none h p (parent p)) (parent p)) n)
-          → InOrder none (cond (a && b) (climb none times (swap none h p (parent p)) (parent p)) h) n
-          × NoNaN none (cond (a && b) (climb none times (swap none h p (parent p)) (parent p)) h) n
-      go true true d e on = on (ltb-true 0 p d) e
-      go true false d e on =
-          (record { under = λ q k j. by-eq q p (λ f. not-less (ap (λ (i : ℕ). item none h (parent i)) f) (ap (item none h) f) e) (c .elsewhere q k j) }, numbers)
-      go false b d e on =
-          let z = ltb-false 0 p d in
-          (record { under = λ q k j. c .elsewhere q k j (omega arith) }, numbers)
+      (λ still.
+      record {
+        under = λ q k j.
+            by-eq q p (λ f. not-less (ap (λ (i : ℕ). item none h (parent i)) f) (ap (item none h) f) (still (omega arith))) (c .elsewhere q k j);
+      })
 
   -- ---- sinking
 
-  -- in order but for the hole at p: its parent is not less than its children
+  -- in order but for the hole at p; its children are not greater than its parent
   record Sinking (h : Room A) (n p : ℕ) : Type 0 where
     elsewhere : (q : ℕ) → 0 < q → q < n → q ≢ p → parent q ≢ p → NotLess (item none h (parent q)) (item none h q)
     across : (q : ℕ) → 0 < q → q < n → 0 < p → parent q ≡ p → NotLess (item none h (parent p)) (item none h q)
 
-  -- a child that is not less than the other moves up
+  -- a child moves up that none at p is greater than
   sinking-on : {h : Room A} {n p c : ℕ} → 0 < c → c < n → parent c ≡ p → n ≤ length h → Sinking h n p
       → ((q : ℕ) → 0 < q → q < n → parent q ≡ p → NotLess (item none h c) (item none h q)) → Sinking (set h p (item none h c)) n c
   sinking-on {h} {n} {p} {c} z l is m s best =
@@ -142,7 +116,6 @@ module _ {A : Type 0} (none : Item A) where
 
   -- a hole at the bottom: it has no child among the first n places
   record Bottom (n : ℕ) (s : Holed A) : Type 0 where
-    numbers : NoNaN none (s .room) n
     sinking : Sinking (s .room) n (s .hole)
     leaf : n ≤ 2 * s .hole + 1
 
@@ -151,87 +124,97 @@ module _ {A : Type 0} (none : Item A) where
   which P p q z e left right =
       by-eq q (2 * p + 1) (λ f. rw f left) (λ f. let g : q ≡ 2 * p + 2 = omega arith in rw g right)
 
-  sink-order : (times n : ℕ) (h : Room A) (p : ℕ) → n ≤ p + times → p < n → n ≤ length h → NoNaN none h n → Sinking h n p → Bottom n (sink none times h n p)
+  sink-order : (times n : ℕ) (h : Room A) (p : ℕ) → n ≤ p + times → p < n → n ≤ length h → Sinking h n p → Bottom n (sink none times h n p)
   unfolding sink
-  sink-order zero n h p t l m numbers s = absurd (omega arith)
-  sink-order (suc times) n h p t l m numbers s =
-      pick (ltb (2 * p + 2) n) (ltb (2 * p + 1) n) refl refl
-      (λ two. both (le (item none h (2 * p + 1) .spread) (item none h (2 * p + 2) .spread)) refl two
-      (λ c z k is best. sink-order times n (set h p (item none h c)) c (omega arith) k (rw (length-set h p (item none h c)) m)
-      (numbers-set (item none h c) numbers l m (numbers .number c k)) (sinking-on z k is m s best)))
-      (λ two one. record {
-        numbers = numbers-set (item none h (2 * p + 1)) numbers l m (numbers .number (2 * p + 1) one);
-        sinking = sinking-on (omega arith) one (omega arith) m s
-            (λ q z k e. let f : q ≡ 2 * p + 1 = omega arith in rw f (not-less-itself _));
+  sink-order zero n h p t l m s = absurd (omega arith)
+  sink-order (suc times) n h p t l m s =
+      by-children none (Bottom n) n p
+      (λ two.
+      both (le (item none h (2 * p + 1) .spread) (item none h (2 * p + 2) .spread)) refl two
+      (λ c z k is best.
+      sink-order times n (set h p (item none h c)) c (omega arith) k (rw (length-set h p (item none h c)) m) (sinking-on z k is m s best)))
+      (λ two one.
+      record {
+        sinking = sinking-on (omega arith) one (omega arith) m s (λ q z k e. let f : q ≡ 2 * p + 1 = omega arith in rw f (not-less-itself _));
         leaf = omega arith;
       })
-      (λ one. record { numbers = numbers; sinking = s; leaf = one })
+      (λ one. record { sinking = s; leaf = one })
     where
-      pick : (a b : Bool) → ltb (2 * p + 2) n ≡ a → ltb (2 * p + 1) n ≡ b → {u v w : Holed A}
-          → (2 * p + 2 < n → Bottom n u) → (n ≤ 2 * p + 2 → 2 * p + 1 < n → Bottom n v) → (n ≤ 2 * p + 1 → Bottom n w) → Bottom n (cond a u (cond b v w))
-      pick true b d e x y z = x (ltb-true (2 * p + 2) n d)
-      pick false true d e x y z = y (ltb-false (2 * p + 2) n d) (ltb-true (2 * p + 1) n e)
-      pick false false d e x y z = z (ltb-false (2 * p + 1) n e)
-
       both : (b : Bool) → le (item none h (2 * p + 1) .spread) (item none h (2 * p + 2) .spread) ≡ b → 2 * p + 2 < n
           → ((c : ℕ) → 0 < c → c < n → parent c ≡ p → ((q : ℕ) → 0 < q → q < n → parent q ≡ p → NotLess (item none h c) (item none h q))
           → Bottom n (sink none times (set h p (item none h c)) n c))
           → Bottom n (sink none times (set h p (item none h (cond b (2 * p + 2) (2 * p + 1)))) n (cond b (2 * p + 2) (2 * p + 1)))
-      both true e two on = on (2 * p + 2) (omega arith) two (omega arith)
+      both true e two on =
+          on (2 * p + 2) (omega arith) two (omega arith)
           (λ q z k f. which (λ (i : ℕ). NotLess (item none h (2 * p + 2)) (item none h i)) p q z f (at-most _ _ e) (not-less-itself _))
-      both false e two on = on (2 * p + 1) (omega arith) (omega arith) (omega arith)
+      both false e two on =
+          on (2 * p + 1) (omega arith) (omega arith) (omega arith)
           (λ q z k f. which (λ (i : ℕ). NotLess (item none h (2 * p + 1)) (item none h i)) p q z f (not-less-itself _) (not-at-most _ _ e))
 
-  enter-order : (n : ℕ) (s : Holed A) (x : Item A) → s .hole < n → n ≤ length (s .room) → x .spread ≢ nan → Bottom n s
-      → InOrder none (enter none s x) n × NoNaN none (enter none s x) n
-  unfolding enter
-  enter-order n s x l m d bottom =
-      climb-order (s .hole) n (set (s .room) (s .hole) x) (s .hole) (omega arith) l (rw (length-set (s .room) (s .hole) x) m)
-      (numbers-set x (bottom .numbers) l m d)
-      (record {
-        elsewhere = λ q k j e. not-less (at (parent q) (omega (arith, bottom .leaf))) (at q e) (bottom .sinking .elsewhere q k j e (omega (arith, bottom .leaf)));
+  -- what enters at the bottom is in order but for its parent
+  entered : (n : ℕ) (s : Holed A) (x : Item A) → Bottom n s → Climbing (set (s .room) (s .hole) x) n (s .hole)
+  entered n s x bottom =
+      record {
+        elsewhere = λ q k j e.
+            not-less (at (parent q) (omega (arith, bottom .leaf))) (at q e) (bottom .sinking .elsewhere q k j e (omega (arith, bottom .leaf)));
         across = λ q k j y e. absurd (omega (arith, bottom .leaf));
-      })
+      }
     where
       at : (q : ℕ) → q ≢ s .hole → item none (set (s .room) (s .hole) x) q ≡ item none (s .room) q
       at q e = getD-set-other (s .room) (s .hole) q x none e
 
-  -- ---- the two operations
+-- ---- putting in
 
-  pub put-in-order : (h : Room A) (n : ℕ) (x : Item A) → n < length h → InOrder none h n → NoNaN none h n → x .spread ≢ nan
-      → InOrder none (putIn none h n x) (suc n) × NoNaN none (putIn none h n x) (suc n)
+module _ {A : Type 0} (none : Item A) (h : Room A) (n : ℕ) (x : Item A) (room : n < length h) (numbers : NoNaN none h n) (number : x .spread ≢ nan) where
+  pub put-in-numbers : NoNaN none (putIn none h n x) (suc n)
+  put-in-numbers = record { number = put-in-all none h n x room (λ (y : Item A). y .spread ≢ nan) number (numbers .number) }
+
+  pub put-in-order : InOrder none h n → InOrder none (putIn none h n x) (suc n)
   unfolding putIn
-  put-in-order h n x m order numbers d =
-      climb-order n (suc n) (set h n x) n (omega arith) (omega arith) (rw (length-set h n x) (omega arith))
+  put-in-order order =
+      climb-order none n (suc n) (set h n x) n (omega arith) (omega arith) (rw (length-set h n x) room)
       (record {
-        number = λ q k. by-eq q n
-            (λ e. rw (e, getD-set-same h n x none m) d)
-            (λ e. rw (at q e) (numbers .number q (omega arith)));
+        number = all-set none h x (omega arith) room (λ (y : Item A). y .spread ≢ nan) number (λ q k e. numbers .number q (omega arith));
       })
       (record {
-        elsewhere = λ q k j e. not-less (at (parent q) (omega arith)) (at q e) (order .under q k (omega arith));
+        elsewhere = λ q k j e. not-less none (at (parent q) (omega arith)) (at q e) (order .under q k (omega arith));
         across = λ q k j y e. absurd (omega arith);
       })
     where
       at : (q : ℕ) → q ≢ n → item none (set h n x) q ≡ item none h q
       at q e = getD-set-other h n q x none e
 
-  pub take-out-order : (h : Room A) (n : ℕ) → 0 < n → n ≤ length h → InOrder none h n → NoNaN none h n
-      → InOrder none (takeOut none h n) (n - 1) × NoNaN none (takeOut none h n) (n - 1)
-  take-out-order h n z m order numbers =
-      by-rest none (λ (k : Room A). InOrder none k (n - 1) × NoNaN none k (n - 1)) h n
-      (λ e. (record { under = λ q k j. absurd (omega arith) }, record { number = λ q j. absurd (omega arith) }))
-      (λ d. enter-order (n - 1) (sink none (n - 1) h (n - 1) 0) (item none h (n - 1)) (sink-within none (n - 1) h (omega arith) (omega arith))
-      (rw (sink-long none (n - 1) h (omega arith) (omega arith)) (omega arith)) (numbers .number (n - 1) (omega arith))
-      (sink-order (n - 1) (n - 1) h 0 (omega arith) (omega arith) (omega arith)
-      (record { number = λ q j. numbers .number q (omega arith) })
-      (record { elsewhere = λ q k j e f. order .under q k (omega arith); across = λ q k j y e. absurd (omega arith) })))
+-- ---- taking out
 
+module _ {A : Type 0} (none : Item A) (h : Room A) (n : ℕ) (some : 0 < n) (room : n ≤ length h) (numbers : NoNaN none h n) where
+  pub take-out-numbers : NoNaN none (takeOut none h n) (n - 1)
+  take-out-numbers = record { number = take-out-all none h n some room (λ (x : Item A). x .spread ≢ nan) (numbers .number) }
+
+  pub take-out-order : InOrder none h n → InOrder none (takeOut none h n) (n - 1)
+  unfolding enter
+  take-out-order order =
+      by-rest none (λ (k : Room A). InOrder none k (n - 1)) h n
+      (λ e. record { under = λ q k j. absurd (omega arith) })
+      (λ d.
+      climb-order none _ (n - 1) _ _ (omega arith) (sink-within none (n - 1) h (omega arith) (omega arith))
+      (rw length-set (rw (sink-long none (n - 1) h (omega arith) (omega arith)) (omega arith)))
+      (numbers-reordered none (sunk none (n - 1) (n - 1) h 0 (omega arith) (omega arith) .carries (item none h (n - 1)))
+      (record {
+        number = all-set none h (item none h (n - 1)) (omega arith) (omega arith) (λ (x : Item A). x .spread ≢ nan)
+            (numbers .number (n - 1) (omega arith)) (λ q k e. numbers .number q (omega arith));
+      }))
+      (entered none (n - 1) (sink none (n - 1) h (n - 1) 0) (item none h (n - 1))
+      (sink-order none (n - 1) (n - 1) h 0 (omega arith) (omega arith) (omega arith)
+      (record { elsewhere = λ q k j e f. order .under q k (omega arith); across = λ q k j y e. absurd (omega arith) }))))
+
+-- ---- the top
+
+module _ {A : Type 0} (none : Item A) where
   -- no element is greater than the top
   pub top-greatest : (h : Room A) (n : ℕ) → InOrder none h n → NoNaN none h n → (p : ℕ) → p < n → lt (item none h 0 .spread) (item none h p .spread) ≡ false
   top-greatest h n order numbers p l = go p p (omega arith) l
     where
-      go : (steps q : ℕ) → q ≤ steps → q < n → NotLess (item none h 0) (item none h q)
+      go : (steps q : ℕ) → q ≤ steps → q < n → NotLess none (item none h 0) (item none h q)
       go zero q k j = let e : q ≡ 0 = omega arith in rw e (not-less-itself _)
       go (suc steps) q k j = by-eq q 0
           (λ e. rw e (not-less-itself _))

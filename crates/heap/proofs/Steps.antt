@@ -2,23 +2,31 @@
 -- Assumes nothing.
 use mathlib.Core.Path.{_≡_, refl, sym, ap, _∙_}
 use mathlib.Core.Bool.{Bool, true, false, cond, _&&_}
-use mathlib.Core.List.{List}
 use mathlib.Core.Logic.{_≢_}
-use Prim.Native.Nat.{ℕ, zero, suc, _+_, _-_, _*_, _/_, _≤_, _<_}
+use Prim.Native.Nat.{ℕ, zero, suc, _+_, _-_, _*_, _≤_, _<_}
 use native.Mathlib.Nat.{add-zero, add-suc}
 use native.Mathlib.Omega.{arith}
-use borrow.Author.Tests.{lt-ltb, le-ltb, eq-eqb, ne-eqb, eqb-true, eqb-false}
+use borrow.Author.Tests.{lt-ltb, le-ltb, eq-eqb, ne-eqb, eqb-true, eqb-false, ltb-true, ltb-false}
 use lib.Dec.{eqb, ltb}
 use lib.ListN.{length, getD, set}
 use lib.Seq.{getD-set-same, getD-set-other, set-set}
 use lib.Ieee.{lt, le}
 use Rattle.heap.specs.Heap.{Item, Room, Holed, parent, item, swap, climbs, climb, enter, child, sink, takeOut}
-
-pub by-cond {ℓ κ} : {A : Type ℓ} (P : A → Type κ) (b : Bool) (x y : A) → P x → P y → P (cond b x y)
-by-cond P true x y p q = p
-by-cond P false x y p q = q
+use Rattle.heap.proofs.Cases.{by-cond}
 
 module _ {A : Type 0} (none : Item A) where
+  -- the element at p goes on to climb, or stays
+  pub by-climbs : (P : Room A → Type 0) (h k : Room A) (p : ℕ)
+      → (0 < p → lt (item none h (parent p) .spread) (item none h p .spread) ≡ true → P k)
+      → ((0 < p → lt (item none h (parent p) .spread) (item none h p .spread) ≡ false) → P h)
+      → P (cond (climbs none h p) k h)
+  by-climbs P h k p on stays = go (ltb 0 p) (lt (item none h (parent p) .spread) (item none h p .spread)) refl refl
+    where
+      go : (a b : Bool) → ltb 0 p ≡ a → lt (item none h (parent p) .spread) (item none h p .spread) ≡ b → P (cond (a && b) k h)
+      go true true d e = on (ltb-true 0 p d) e
+      go true false d e = stays (λ l. e)
+      go false b d e = let z = ltb-false 0 p d in stays (λ l. absurd (omega arith))
+
   -- one time more than p
   climb-more : (t : ℕ) (h : Room A) (p : ℕ) → p ≤ t → climb none (suc t) h p ≡ climb none t h p
   unfolding climb
@@ -75,6 +83,17 @@ module _ {A : Type 0} (none : Item A) where
   -- the child that moves up is one of the two
   pub child-is : (h : Room A) (p : ℕ) (P : ℕ → Type 0) → P (2 * p + 2) → P (2 * p + 1) → P (child none h p)
   child-is h p P r l = by-cond P (le (item none h (2 * p + 1) .spread) (item none h (2 * p + 2) .spread)) (2 * p + 2) (2 * p + 1) r l
+
+  -- both children exist, only a left one, or none
+  pub by-children : (P : Holed A → Type 0) (n p : ℕ) {both left here : Holed A}
+      → (2 * p + 2 < n → P both) → (n ≤ 2 * p + 2 → 2 * p + 1 < n → P left) → (n ≤ 2 * p + 1 → P here)
+      → P (cond (ltb (2 * p + 2) n) both (cond (ltb (2 * p + 1) n) left here))
+  by-children P n p {both} {left} {here} x y z = go (ltb (2 * p + 2) n) (ltb (2 * p + 1) n) refl refl
+    where
+      go : (a b : Bool) → ltb (2 * p + 2) n ≡ a → ltb (2 * p + 1) n ≡ b → P (cond a both (cond b left here))
+      go true b d e = x (ltb-true (2 * p + 2) n d)
+      go false true d e = y (ltb-false (2 * p + 2) n d) (ltb-true (2 * p + 1) n e)
+      go false false d e = z (ltb-false (2 * p + 1) n e)
 
   sink-more : (t : ℕ) (h : Room A) (n p : ℕ) → n ≤ p + t → sink none (suc t) h n p ≡ sink none t h n p
   unfolding sink

@@ -22,10 +22,10 @@ data Step : Type 0 where
   take : Step
 
 -- the room after some steps, from n places in use
-run : Room ℕ → ℕ → List Step → Room ℕ
-run h n [] = h
-run h n (put x ∷ steps) = run (putIn noItem h n x) (suc n) steps
-run h n (take ∷ steps) = run (takeOut noItem h n) (n - 1) steps
+after : Room ℕ → ℕ → List Step → Room ℕ
+after h n [] = h
+after h n (put x ∷ steps) = after (putIn noItem h n x) (suc n) steps
+after h n (take ∷ steps) = after (takeOut noItem h n) (n - 1) steps
 
 record Case : Type 0 where
   room : Room ℕ
@@ -75,8 +75,8 @@ cases =
     ∷ []
 
 boxes : Case → List ℕ
-boxes c = map (λ x. x .box) (run (c .room) (c .used) (c .steps))
+boxes c = map (λ x. x .box) (after (c .room) (c .used) (c .steps))
 
 worked : map boxes cases ≡ map (λ c. c .expected) cases
-unfolding lt eq le climb putIn sink enter takeOut number of run cases boxes
+unfolding lt eq le climb putIn sink enter takeOut number of after cases boxes
 worked = refl

@@ -3,7 +3,7 @@ use mathlib.Core.Path.{_≡_}
 use mathlib.Core.Bool.{Bool, false, _&&_, cond}
 use mathlib.Core.List.{List, [], _∷_, map}
 use mathlib.Core.Logic.{_≢_}
-use Prim.Native.Nat.{ℕ, zero, suc, _+_, _-_, _*_, _/_, _≤_, _<_}
+use Prim.Native.Nat.{ℕ, zero, suc, _+_, _-_, _*_, _/_, _<_}
 use lib.Dec.{eqb, ltb}
 use lib.ListN.{getD, set}
 use lib.Ieee.{Float, nan, lt, le}
@@ -25,12 +25,13 @@ pub record Holed (A : Type 0) : Type 0 where
 abbrev pub parent : ℕ → ℕ
 parent p = (p - 1) / 2
 
--- none is the item that a place past the room would have; no place in use is one
+-- none stands for what a place past the room's end has; where the places in use are in the room it is never read
 module _ {A : Type 0} (none : Item A) where
   -- "Places count from 0"
   abbrev pub item : Room A → ℕ → Item A
   item h p = getD h p none
 
+  -- the elements at p and q exchanged
   abbrev pub swap : Room A → ℕ → ℕ → Room A
   swap h p q = set (set h p (item h q)) q (item h p)
 

@@ -1,9 +1,8 @@
 -- `heap::climb` meets its contract: what is to enter at the hole is the same wherever the hole stands.
 -- Assumes nothing.
 use mathlib.Core.Path.{_≡_, refl, sym, ap, _∙_}
-use Prim.Native.Nat.{ℕ, _<_, _-_, _/_}
+use Prim.Native.Nat.{ℕ, _<_}
 use native.Mathlib.Omega.{arith}
-use borrow.Author.Needs.{needs}
 use lib.Ieee.{lt}
 use Rattle.heap.specs.Heap.{Room, parent, enter}
 use Rattle.heap.specs.Lent.{Lent, noItem, roomOf}

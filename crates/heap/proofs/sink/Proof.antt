@@ -1,13 +1,13 @@
 -- `heap::sink` meets its contract: where the hole ends, and the room then, are the same wherever the hole stands on its way.
 -- Assumes nothing.
 use mathlib.Core.Path.{_≡_, refl, sym, ap, _∙_}
-use Prim.Native.Nat.{ℕ, _+_, _*_, _-_, _<_, _≤_}
+use Prim.Native.Nat.{ℕ, _-_, _<_}
 use native.Mathlib.Omega.{arith}
 use lib.ListN.{set}
 use Rattle.heap.specs.Heap.{Room, Holed, item, sink}
 use Rattle.heap.specs.Lent.{Lent, noItem, roomOf}
 use Rattle.heap.proofs.Steps.{sink-on, sink-left, sink-ends}
-use Rattle.heap.proofs.Lent.{room-long, lent-set, copied, arrays-are, child-at}
+use Rattle.heap.proofs.Lent.{lent-set, copied, arrays-are, child-at}
 use Rattle.heap.proofs.sink.Statement.{statement}
 use Rattle.heap.proofs.sink.Tie as tie
 

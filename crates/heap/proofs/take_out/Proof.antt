@@ -1,14 +1,14 @@
 -- `heap::take_out` meets its contract: the last item enters the hole that sank from place 0.
 -- Assumes nothing.
-use mathlib.Core.Path.{sym, _∙_}
-use Prim.Native.Nat.{ℕ, _-_, _<_, _≤_}
+use mathlib.Core.Path.{_∙_}
+use Prim.Native.Nat.{_-_, _<_, _≤_}
 use native.Mathlib.Omega.{arith}
 use denote.Ref.{now}
 use lib.ListN.{length}
 use borrow.Author.Needs.{needs}
 use Rattle.heap.specs.Lent.{noItem, roomOf}
-use Rattle.heap.proofs.Steps.{others-remain, none-remains}
-use Rattle.heap.proofs.Lent.{room-long, room-item, alike, arrays-are, arrays-as, room-is, lent-of}
+use Rattle.heap.proofs.Steps.{none-remains}
+use Rattle.heap.proofs.Lent.{room-long, arrays-are, lent-of, taken-out}
 use Rattle.heap.proofs.Keeps.{sink-within, sink-long}
 use Rattle.heap.proofs.take_out.Statement.{statement}
 use Rattle.heap.proofs.take_out.Tie as tie
@@ -49,10 +49,8 @@ returns-2 : tie.Need-returns-2
 returns-2 c =
     let s = c .before .before .before .before .before .before .before .before .before in
     let e = c .before .before .before .sink .ensures in
-    let room = room-is _ (e .1 .0) (e .1 .1) in
-    let last = room-item _ _ (s .args .len - 1) (alike (s .pre .0)) in
-    arrays-as (c .climb .ensures .0) (c .climb .ensures .1)
-    (others-remain noItem _ (s .args .len) (c .before .before .before .before .before .before .before .before .if1 .left) (λ i. record { room = room i; hole = e .0 i }) (sym last))
+    taken-out (s .args .len) (s .pre .0) (c .before .before .before .before .before .before .before .before .if1 .left) (e .0) (e .1 .0) (e .1 .1)
+    (c .climb .ensures .0) (c .climb .ensures .1)
 
 pub take-out-spec : {M : Type 1} → statement M
 take-out-spec =
