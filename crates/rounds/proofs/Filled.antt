@@ -1,0 +1,136 @@
+-- Every box in use is a box of the grid that has some weight, from the start to the end of the loop.
+-- Assumes nothing.
+use mathlib.Core.Path.{_≡_, refl, subst, _∙_}
+use mathlib.Core.Bool.{Bool, true, false, cond}
+use Prim.Native.Nat.{ℕ, zero, suc, _+_, _-_, _*_, _≤_, _<_}
+use native.Mathlib.Omega.{arith}
+use lib.Dec.{ltb}
+use lib.ListN.{length, replicate, length-set, length-replicate}
+use lib.Ieee.{Float, inf}
+use borrow.Author.Tests.{ltb-true}
+use Rattle.grid.specs.declared.Grid.{Grid}
+use Rattle.grid.specs.Grid.{Accepted}
+use Rattle.table.specs.Cell.{View}
+use Rattle.table.specs.Sound.{total}
+use Rattle.table.proofs.Laws.{total-is}
+use Rattle.sums.specs.declared.Bounds.{Bounds}
+use Rattle.sums.specs.Box.{boxSum, lowSide, highSide, Within}
+use Rattle.spread.specs.declared.Position.the-variants.{At, Nowhere}
+use Rattle.spread.specs.Cut.{bestCut}
+use Rattle.spread.proofs.Best.{answered}
+use Rattle.heap.specs.Heap.{Item, Room, item, putIn, takeOut}
+use Rattle.heap.proofs.Keeps.{put-in-long, put-in-all, take-out-long, take-out-all}
+use Rattle.rounds.specs.Loop.{Heap, noBox, noItem, itself, spent, wholeOf, startRoom, goesOn, roundRoom, roundUsed, round, rounds}
+use Rattle.rounds.proofs.Whole.{whole-within, whole-sum}
+use Rattle.rounds.proofs.Turning.{low-box, high-box, round-cases}
+
+-- a room with n places in use
+pub record InUse (h : Room Bounds) (n : ℕ) : Type 0 where
+  pub long : length h ≡ 256
+  pub some : 0 < n
+  pub most : n ≤ 256
+
+-- that, where each box in use has a property
+pub record Each (P : Item Bounds → Type 0) (h : Room Bounds) (n : ℕ) : Type 0 where
+  pub in-use : InUse h n
+  pub each : (p : ℕ) → p < n → P (item noItem h p)
+
+-- a property that a box put back with 0.0 keeps, and that both sides of a cut have
+pub record Kept (g : Grid) (v : View) (P : Item Bounds → Type 0) : Type 0 where
+  pub spent-too : (x : Item Bounds) → P x → P (spent (x .box))
+  pub sides-too : (x : Item Bounds) → P x → {d i : ℕ} {s : Float} → bestCut g v (x .box) ≡ At d i s
+      → P (itself g v (lowSide (x .box) d i)) × P (itself g v (highSide (x .box) d i))
+
+module _ (P : Item Bounds → Type 0) (h : Room Bounds) where
+  -- a box put in
+  each-put : {n : ℕ} → length h ≡ 256 → n < 256 → ((p : ℕ) → p < n → P (item noItem h p)) → {x : Item Bounds} → P x → Each P (putIn noItem h n x) (n + 1)
+  each-put {n} long room all {x} has =
+      record {
+        in-use = record { long = put-in-long noItem h n x (omega arith) ∙ long; some = omega arith; most = omega arith };
+        each = λ p l. put-in-all noItem h n x (omega arith) P has all p (omega arith);
+      }
+
+  -- the others, once the top has left
+  others : {n : ℕ} → Each P h n → (p : ℕ) → p < n - 1 → P (item noItem (takeOut noItem h n) p)
+  others {n} e = take-out-all noItem h n (e .in-use .some) (omega (arith, e .in-use .long, e .in-use .most)) P (e .each)
+
+  others-long : {n : ℕ} → Each P h n → length (takeOut noItem h n) ≡ 256
+  others-long {n} e = take-out-long noItem h n (e .in-use .some) (omega (arith, e .in-use .long, e .in-use .most)) ∙ e .in-use .long
+
+-- one round
+pub each-round : {g : Grid} {v : View} {P : Item Bounds → Type 0} → Kept g v P → {h : Room Bounds} {n : ℕ} → Each P h n → n < 256 → Each P (roundRoom g v h n) (roundUsed g v h n)
+each-round {g} {v} {P} k {h} {n} e l =
+    let top : P (item noItem h 0) = e .each 0 (e .in-use .some) in
+    let same : n - 1 + 1 ≡ n = omega (arith, e .in-use .some) in
+    round-cases g v h n (Each P)
+    (λ off. subst (Each P _) same (each-put P _ (others-long P h e) (omega arith) (others P h e) top))
+    (λ on none. each-put P _ (others-long P h e) (omega arith) (others P h e) (k .spent-too (item noItem h 0) top))
+    (λ d i s on q.
+    let both = k .sides-too (item noItem h 0) top q in
+    let low = each-put P _ (others-long P h e) (omega arith) (others P h e) (both .0) in
+    subst (Each P _) (two (n - 1)) (each-put P _ (low .in-use .long) (omega arith) (low .each) (both .1)))
+  where
+    two : (m : ℕ) → m + 1 + 1 ≡ m + 2
+    two m = omega arith
+
+-- all rounds
+pub each-rounds : {g : Grid} {v : View} {P : Item Bounds → Type 0} → Kept g v P → (k f : ℕ) → k ≤ 256 → (h : Heap) → Each P (h .room) (h .used) → Each P (rounds f g v k h .room) (rounds f g v k h .used)
+unfolding rounds round
+each-rounds kept k zero most h e = e
+each-rounds {g} {v} {P} kept k (suc f) most h e =
+    go (ltb (h .used) k) refl (goesOn (item noItem (h .room) 0 .spread)) (λ r. each-rounds kept k f most (round g v h) r)
+  where
+    next : h .used < k → Each P (roundRoom g v (h .room) (h .used)) (roundUsed g v (h .room) (h .used))
+    next l = each-round kept e (omega arith)
+
+    go : (a : Bool) → ltb (h .used) k ≡ a → (b : Bool)
+        → (Each P (round g v h .room) (round g v h .used) → Each P (rounds f g v k (round g v h) .room) (rounds f g v k (round g v h) .used))
+        → Each P (cond a (cond b (rounds f g v k (round g v h)) (round g v h)) h .room) (cond a (cond b (rounds f g v k (round g v h)) (round g v h)) h .used)
+    go false q b after = e
+    go true q false after = next (ltb-true (h .used) k q)
+    go true q true after = after (next (ltb-true (h .used) k q))
+
+-- ---- "no box is empty"
+pub record Fit (g : Grid) (v : View) (x : Item Bounds) : Type 0 where
+  pub within : Within g (x .box)
+  pub some : boxSum g v (x .box) 0 ≡ 0 → ⊥
+
+pub fit-kept : (g : Grid) (v : View) → Kept g v (Fit g v)
+unfolding itself
+fit-kept g v =
+    record {
+      spent-too = λ x h. record { within = h .within; some = h .some };
+      sides-too = λ x h {d} {i} {s} q.
+          let a = answered g v (x .box) q .1 .split in (
+            record { within = low-box v (h .within) q; some = a .low },
+            record { within = high-box v (h .within) q; some = a .high },
+          );
+    }
+
+-- ---- the start
+pub start-in-use : (g : Grid) → InUse (startRoom g) 1
+unfolding startRoom
+start-in-use g =
+    record {
+      long = length-set (replicate 256 (spent noBox)) 0 (record { spread = inf false; box = wholeOf g }) ∙ length-replicate 256 (spent noBox);
+      some = omega arith;
+      most = omega arith;
+    }
+
+start-item : (g : Grid) → item noItem (startRoom g) 0 ≡ record { spread = inf false; box = wholeOf g }
+unfolding startRoom
+start-item g = refl
+
+-- the whole grid at the start: its weight is the total
+pub start-fit : {g : Grid} {v : View} → Accepted g → 0 < total g v → Each (Fit g v) (startRoom g) 1
+start-fit {g} {v} a l =
+    record {
+      in-use = start-in-use g;
+      each = λ p m. first p (omega arith);
+    }
+  where
+    weight : boxSum g v (wholeOf g) 0 ≡ 0 → ⊥
+    weight e = omega (arith, total-is g v, whole-sum g v 0)
+
+    first : (p : ℕ) → p ≡ 0 → Fit g v (item noItem (startRoom g) p)
+    first p e = rw (e, start-item g) (record { within = whole-within a; some = weight })

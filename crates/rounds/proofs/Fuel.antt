@@ -1,0 +1,217 @@
+-- How many rounds a loop has at most: 2·k − 2, and more rounds change nothing.
+-- Assumes nothing.
+use mathlib.Core.Path.{_≡_, refl, sym, ap, subst, _∙_}
+use mathlib.Core.Bool.{Bool, true, false, cond, true≢false}
+use Prim.Native.Nat.{ℕ, zero, suc, _+_, _-_, _*_, _≤_, _<_}
+use native.Mathlib.Nat.{le-trans, lt-of-not-le}
+use native.Mathlib.Decide.{decLe}
+use native.Mathlib.Omega.{arith}
+use borrow.Author.Tests.{ltb-true, ltb-false, le-ltb, lt-ltb}
+use lib.Dec.{ltb}
+use lib.ListN.{length, take, set, replicate, length-set, length-replicate}
+use lib.Ieee.{Float, inf, lt, eq}
+use Rattle.grid.specs.declared.Grid.{Grid}
+use Rattle.table.specs.Cell.{View}
+use Rattle.sums.specs.declared.Bounds.{Bounds}
+use Rattle.sums.specs.Box.{lowSide, highSide}
+use Rattle.heap.specs.Heap.{Item, Room, item, putIn, takeOut, sumItems}
+use Rattle.heap.proofs.Keeps.{put-in-long, put-in-sum, take-out-long, take-out-sum}
+use Rattle.rounds.specs.Loop.{Heap, noBox, noItem, itself, spent, wholeOf, startRoom, start, goesOn, roundRoom, roundUsed, round, rounds, heapOf}
+use Rattle.rounds.proofs.Turning.{round-cases}
+use Rattle.rounds.proofs.Filled.{InUse, Each, each-round, start-in-use}
+
+-- ---- one step of the loop
+module _ (g : Grid) (v : View) (k : ℕ) (h : Heap) where
+  pub rounds-full : (f : ℕ) → k ≤ h .used → rounds f g v k h ≡ h
+  unfolding rounds
+  rounds-full zero l = refl
+  rounds-full (suc f) l = rw (le-ltb (h .used) k l) refl
+
+  module _ (f : ℕ) (l : h .used < k) where
+    pub rounds-on : goesOn (item noItem (h .room) 0 .spread) ≡ true → rounds (suc f) g v k h ≡ rounds f g v k (round g v h)
+    unfolding rounds
+    rounds-on e = rw (lt-ltb (h .used) k l, e) refl
+
+    pub rounds-stop : goesOn (item noItem (h .room) 0 .spread) ≡ false → rounds (suc f) g v k h ≡ round g v h
+    unfolding rounds
+    rounds-stop e = rw (lt-ltb (h .used) k l, e) refl
+
+-- ---- 1 for a box that is to be cut
+unfoldable pub hot : Item Bounds → ℕ
+hot x = cond (goesOn (x .spread)) 1 0
+
+hot-high : (x : Item Bounds) → hot x ≤ 1
+unfolding hot
+hot-high x = go (goesOn (x .spread))
+  where
+    go : (b : Bool) → cond b 1 0 ≤ 1
+    go true = omega arith
+    go false = omega arith
+
+hot-spent : (x : Bounds) → hot (spent x) ≡ 0
+unfolding hot goesOn lt
+hot-spent x = refl
+
+-- how many rounds there are still to come at most: none where there are k boxes
+unfoldable pub need : ℕ → Room Bounds → ℕ → ℕ
+need k h n = cond (ltb n k) (2 * (k - 1 - n) + sumItems hot (take n h) + 1) 0
+
+module _ (k : ℕ) (h : Room Bounds) (n : ℕ) where
+  need-is : n < k → need k h n ≡ 2 * (k - 1 - n) + sumItems hot (take n h) + 1
+  unfolding need
+  need-is l = rw (lt-ltb n k l) refl
+
+  -- a bound that holds where boxes lack
+  need-high : (m : ℕ) → (n < k → 2 * (k - 1 - n) + sumItems hot (take n h) + 1 ≤ m) → need k h n ≤ m
+  unfolding need
+  need-high m b = go (ltb n k) refl
+    where
+      go : (c : Bool) → ltb n k ≡ c → cond c (2 * (k - 1 - n) + sumItems hot (take n h) + 1) 0 ≤ m
+      go true e = b (ltb-true n k e)
+      go false e = omega arith
+
+  -- none is needed where there are k boxes, and only there
+  need-none : need k h n ≤ 0 → k ≤ n
+  need-none p = elim (decLe k n) [ yes l ↦ l | no l ↦ absurd (omega (arith, need-is (lt-of-not-le l))) ]
+
+-- a box put in
+hot-put : (h : Room Bounds) (n : ℕ) (x : Item Bounds) → length h ≡ 256 → n < 256 → sumItems hot (take (n + 1) (putIn noItem h n x)) ≡ hot x + sumItems hot (take n h)
+hot-put h n x long l = ap (λ (m : ℕ). sumItems hot (take m (putIn noItem h n x))) (next n) ∙ put-in-sum noItem h n x (omega arith) hot
+  where
+    next : (n : ℕ) → n + 1 ≡ suc n
+    next n = omega arith
+
+-- one round less is needed after a round of a box that is to be cut
+pub need-less : (g : Grid) (v : View) (k : ℕ) → k ≤ 256 → (h : Room Bounds) (n : ℕ) → InUse h n → n < k
+    → goesOn (item noItem h 0 .spread) ≡ true → suc (need k (roundRoom g v h n) (roundUsed g v h n)) ≤ need k h n
+unfolding hot
+need-less g v k most h n u l on =
+    round-cases g v h n (λ r m. suc (need k r m) ≤ need k h n)
+    (λ off. absurd (clash on off))
+    (λ yes none. above (need-high k (putIn noItem rest (n - 1) (spent (top .box))) (n - 1 + 1) _ (λ m. omega (arith, before, hot-put rest (n - 1) (spent (top .box)) rest-long (omega arith), hot-spent (top .box)))))
+    (λ d i s yes q.
+    let low = itself g v (lowSide (top .box) d i) in
+    let high = itself g v (highSide (top .box) d i) in
+    let put = putIn noItem rest (n - 1) low in
+    let put-long : length put ≡ 256 = put-in-long noItem rest (n - 1) low (omega (arith, rest-long)) ∙ rest-long in
+    let last : sumItems hot (take (n - 1 + 2) (putIn noItem put (n - 1 + 1) high)) ≡ hot high + sumItems hot (take (n - 1 + 1) put) =
+        ap (λ (m : ℕ). sumItems hot (take m (putIn noItem put (n - 1 + 1) high))) (two (n - 1)) ∙ hot-put put (n - 1 + 1) high put-long (omega arith) in
+    above (need-high k (putIn noItem put (n - 1 + 1) high) (n - 1 + 2) _ (λ m. omega (arith, before, last, hot-put rest (n - 1) low rest-long (omega arith), hot-high low, hot-high high))))
+  where
+    top : Item Bounds
+    top = item noItem h 0
+
+    rest : Room Bounds
+    rest = takeOut noItem h n
+
+    clash : {b : Bool} → b ≡ true → b ≡ false → ⊥
+    clash p q = true≢false (sym p ∙ q)
+
+    two : (m : ℕ) → m + 2 ≡ m + 1 + 1
+    two m = omega arith
+
+    rest-long : length rest ≡ 256
+    rest-long = take-out-long noItem h n (u .some) (omega (arith, u .long, u .most)) ∙ u .long
+
+    top-hot : hot top ≡ 1
+    top-hot = ap (λ (b : Bool). cond b 1 0) on
+
+    before : 1 + sumItems hot (take (n - 1) rest) ≡ sumItems hot (take n h)
+    before = ap (λ (m : ℕ). m + sumItems hot (take (n - 1) rest)) (sym top-hot) ∙ take-out-sum noItem h n (u .some) (omega (arith, u .long, u .most)) hot
+
+    above : {m : ℕ} → m ≤ 2 * (k - 1 - n) + sumItems hot (take n h) → suc m ≤ need k h n
+    above {m} p = omega (arith, need-is k h n l)
+
+-- ---- more rounds than are needed change nothing
+pub in-use-round : (g : Grid) (v : View) {h : Room Bounds} {n : ℕ} → InUse h n → n < 256 → InUse (roundRoom g v h n) (roundUsed g v h n)
+in-use-round g v {h} {n} u l = each-round {P = λ x. Unit {0}} (record { spent-too = λ x p. tt; sides-too = λ x p q. (tt, tt) }) {h = h} {n = n} (record { in-use = u; each = λ p m. tt }) l .in-use
+
+module _ (g : Grid) (v : View) (k : ℕ) (most : k ≤ 256) where
+  pub stable : (f e : ℕ) (h : Heap) → InUse (h .room) (h .used) → need k (h .room) (h .used) ≤ f → need k (h .room) (h .used) ≤ e → rounds f g v k h ≡ rounds e g v k h
+  unfolding round
+  stable zero zero h u p q = refl
+  stable zero (suc e) h u p q = rounds-full g v k h zero (need-none k (h .room) (h .used) p) ∙ sym (rounds-full g v k h (suc e) (need-none k (h .room) (h .used) p))
+  stable (suc f) zero h u p q = rounds-full g v k h (suc f) (need-none k (h .room) (h .used) q) ∙ sym (rounds-full g v k h zero (need-none k (h .room) (h .used) q))
+  stable (suc f) (suc e) h u p q =
+      go (decLe k (h .used)) (goesOn (item noItem (h .room) 0 .spread)) refl
+      (λ l on. stable f e (round g v h) (in-use-round g v u (omega arith)) (omega (arith, need-less g v k most (h .room) (h .used) u l on)) (omega (arith, need-less g v k most (h .room) (h .used) u l on)))
+    where
+      go : Dec (k ≤ h .used) → (b : Bool) → goesOn (item noItem (h .room) 0 .spread) ≡ b
+          → (h .used < k → goesOn (item noItem (h .room) 0 .spread) ≡ true → rounds f g v k (round g v h) ≡ rounds e g v k (round g v h))
+          → rounds (suc f) g v k h ≡ rounds (suc e) g v k h
+      go (yes l) b t after = rounds-full g v k h (suc f) l ∙ sym (rounds-full g v k h (suc e) l)
+      go (no l) true t after = rounds-on g v k h f (lt-of-not-le l) t ∙ after (lt-of-not-le l) t ∙ sym (rounds-on g v k h e (lt-of-not-le l) t)
+      go (no l) false t after = rounds-stop g v k h f (lt-of-not-le l) t ∙ sym (rounds-stop g v k h e (lt-of-not-le l) t)
+
+-- ---- the start
+start-hot : (g : Grid) → sumItems hot (take 1 (startRoom g)) ≡ 1
+unfolding startRoom sumItems hot goesOn lt eq
+start-hot g = refl
+
+pub start-need : (g : Grid) (k : ℕ) → 1 ≤ k → need k (startRoom g) 1 ≤ 2 * k - 2
+start-need g k l = need-high k (startRoom g) 1 (2 * k - 2) (λ m. omega (arith, start-hot g))
+
+-- "fuel of 2k − 2 or more changes nothing"
+pub enough : (g : Grid) (v : View) (k f : ℕ) → 1 ≤ k → k ≤ 256 → 2 * k - 2 ≤ f → rounds f g v k (start g) ≡ heapOf g v k
+unfolding start heapOf
+enough g v k f l m h = stable g v k m f (2 * k) (start g) (start-in-use g) (le-trans (start-need g k l) h) (omega (arith, start-need g k l))
+
+-- ---- what is still to come, from a room with n places in use: it gives the heap at the end
+pub record ToCome (g : Grid) (v : View) (k : ℕ) (h : Room Bounds) (n : ℕ) : Type 0 where
+  pub so-far : ℕ
+  pub left : ℕ
+  pub covers : need k h n ≤ left
+  pub gives : rounds left g v k (record { room = h; used = n; rounds = so-far }) ≡ heapOf g v k
+
+-- the heap at the end
+pub record AtEnd (g : Grid) (v : View) (k : ℕ) (h : Room Bounds) (n : ℕ) : Type 0 where
+  pub room : h ≡ heapOf g v k .room
+  pub used : n ≡ heapOf g v k .used
+
+at-end : {g : Grid} {v : View} {k : ℕ} {h : Heap} → h ≡ heapOf g v k → AtEnd g v k (h .room) (h .used)
+at-end e = record { room = ap (λ (h : Heap). h .room) e; used = ap (λ (h : Heap). h .used) e }
+
+module _ {g : Grid} {v : View} {k : ℕ} where
+  pub come-start : 1 ≤ k → {h : Room Bounds} → h ≡ startRoom g → ToCome g v k h 1
+  unfolding heapOf start
+  come-start l e =
+      record {
+        so-far = 0;
+        left = 2 * k;
+        covers = rw e (omega (arith, start-need g k l));
+        gives = λ i. rounds (2 * k) g v k (record { room = e i; used = 1; rounds = 0 });
+      }
+
+  module _ {h : Room Bounds} {n : ℕ} (c : ToCome g v k h n) where
+    here : Heap
+    here = record { room = h; used = n; rounds = c .so-far }
+
+    -- k boxes
+    pub come-full : k ≤ n → AtEnd g v k h n
+    unfolding here
+    come-full l = at-end (sym (rounds-full g v k here (c .left) l) ∙ c .gives)
+
+    module _ (l : n < k) where
+      -- the last round
+      pub come-stop : goesOn (item noItem h 0 .spread) ≡ false → AtEnd g v k (roundRoom g v h n) (roundUsed g v h n)
+      unfolding here round
+      come-stop off = at-end (go (c .left) (c .covers) (c .gives))
+        where
+          go : (f : ℕ) → need k h n ≤ f → rounds f g v k here ≡ heapOf g v k → round g v here ≡ heapOf g v k
+          go zero m e = absurd (omega (arith, need-is k h n l))
+          go (suc f) m e = sym (rounds-stop g v k here f l off) ∙ e
+
+      -- one of others
+      pub come-round : k ≤ 256 → InUse h n → goesOn (item noItem h 0 .spread) ≡ true → ToCome g v k (roundRoom g v h n) (roundUsed g v h n)
+      unfolding here round
+      come-round most u on = go (c .left) (c .covers) (c .gives)
+        where
+          go : (f : ℕ) → need k h n ≤ f → rounds f g v k here ≡ heapOf g v k → ToCome g v k (roundRoom g v h n) (roundUsed g v h n)
+          go zero m e = absurd (omega (arith, need-is k h n l))
+          go (suc f) m e =
+              record {
+                so-far = c .so-far + 1;
+                left = f;
+                covers = omega (arith, need-less g v k most h n u l on);
+                gives = sym (rounds-on g v k here f l on) ∙ e;
+              }

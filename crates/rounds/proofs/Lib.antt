@@ -1,0 +1,5 @@
+pub mod Packing
+pub mod Turning
+pub mod Whole
+pub mod Filled
+pub mod Fuel

@@ -1,0 +1,213 @@
+// The loop of a cut: the top of the heap is taken out and cut in two, until there are k boxes.
+use grid::Grid;
+use heap::put_in;
+use heap::take_out;
+use spread::Position;
+use spread::best_cut;
+use spread::high_side;
+use spread::low_side;
+use spread::spread;
+use sums::Bounds;
+use sums::box_sum;
+ghost use mathlib.Core.Path.{_≡_};
+ghost use Prim.Native.Nat.{_+_, _-_, _<_, _≤_};
+ghost use Rattle.table.specs.Cell.{wide};
+ghost use Rattle.sums.specs.Box.{Within};
+ghost use Rattle.sums.specs.Moments.{Worked};
+ghost use Rattle.spread.specs.Cut.{bestCut};
+ghost use Rattle.heap.specs.Heap.{item, putIn, takeOut};
+ghost use Rattle.heap.specs.Lent.{Lent};
+ghost use Rattle.rounds.specs.Pack.{packOf, boxOf, Bytes};
+ghost use Rattle.rounds.specs.Loop.{noItem, itself, wholeOf, startRoom, roomAfter, usedAfter, goesOn, roundRoom, roundUsed, heapOf, placesOf, boxesOf, roomIn, Cuttable};
+
+// A box with its spread (`CubeVar`).
+pub struct BoxSpread {
+    pub r0: u8,
+    pub r1: u8,
+    pub g0: u8,
+    pub g1: u8,
+    pub b0: u8,
+    pub b1: u8,
+    pub spread: f64,
+}
+
+// The boxes of a cut in order: how many were found, and a place for each, all zeros past the last.
+pub struct Boxes {
+    pub found: usize,
+    pub places: [BoxSpread; 256],
+}
+
+// ---- A box as a number
+
+fn packed(x: Bounds) -> u64
+    requires { ⌜ Bytes x ⌝ }
+    ensures { λ r. ⌜ r ≡ packOf x ⌝ }
+{
+    let blue = x.b0 as u64 + 256 * (x.b1 as u64);
+    let green = x.g0 as u64 + 256 * (x.g1 as u64 + 256 * blue);
+    x.r0 as u64 + 256 * (x.r1 as u64 + 256 * green)
+}
+
+fn unpacked(n: u64) -> Bounds
+    ensures { λ r. ⌜ r ≡ boxOf n ⌝ }
+{
+    let green = n / 256 / 256;
+    let blue = green / 256 / 256;
+    Bounds {
+        r0: (n % 256) as u8,
+        r1: (n / 256 % 256) as u8,
+        g0: (green % 256) as u8,
+        g1: (green / 256 % 256) as u8,
+        b0: (blue % 256) as u8,
+        b1: (blue / 256 % 256) as u8,
+    }
+}
+
+// ---- The heap of boxes
+
+// Puts in a box with a spread.
+fn put_box(spreads: &mut [f64; 256], boxes: &mut [u64; 256], len: usize, spread: f64, x: Bounds)
+    requires { ⌜ Lent (now spreads) (now boxes) × (len < 256) × Bytes x ⌝ }
+    ensures { λ r. ⌜ roomIn (now (spreads .exit)) (now (boxes .exit)) ≡ putIn noItem (roomIn (now (spreads .entry)) (now (boxes .entry))) len (record { spread = spread; box = x }) ⌝ }
+    ensures { λ r. ⌜ Lent (now (spreads .exit)) (now (boxes .exit)) ⌝ }
+{
+    put_in(spreads, boxes, len, spread, packed(x));
+}
+
+// Puts in a box with its own spread.
+fn put_itself(
+    table: &[u64],
+    work: &[u64],
+    g: Grid,
+    spreads: &mut [f64; 256],
+    boxes: &mut [u64; 256],
+    len: usize,
+    x: Bounds,
+)
+    requires { ⌜ Worked g (now table) (now work) × Within g x ⌝ }
+    requires { ⌜ Lent (now spreads) (now boxes) × (len < 256) ⌝ }
+    ensures { λ r. ⌜ roomIn (now (spreads .exit)) (now (boxes .exit)) ≡ putIn noItem (roomIn (now (spreads .entry)) (now (boxes .entry))) len (itself g (wide (now (table .entry))) x) ⌝ }
+    ensures { λ r. ⌜ Lent (now (spreads .exit)) (now (boxes .exit)) ⌝ }
+{
+    let s = spread(x, box_sum(table, work, g, x));
+    put_box(spreads, boxes, len, s, x);
+}
+
+// Takes the top out.
+fn take_top(spreads: &mut [f64; 256], boxes: &mut [u64; 256], len: usize)
+    requires { ⌜ Lent (now spreads) (now boxes) × (0 < len) × (len ≤ 256) ⌝ }
+    ensures { λ r. ⌜ roomIn (now (spreads .exit)) (now (boxes .exit)) ≡ takeOut noItem (roomIn (now (spreads .entry)) (now (boxes .entry))) len ⌝ }
+    ensures { λ r. ⌜ Lent (now (spreads .exit)) (now (boxes .exit)) ⌝ }
+{
+    take_out(spreads, boxes, len);
+}
+
+// ---- The loop
+
+// Cuts a box that was taken out, with `left` boxes left, and answers how many there are then.
+fn cut_top(
+    table: &[u64],
+    work: &[u64],
+    g: Grid,
+    spreads: &mut [f64; 256],
+    boxes: &mut [u64; 256],
+    left: usize,
+    x: Bounds,
+) -> usize
+    requires { ⌜ Worked g (now table) (now work) × Within g x ⌝ }
+    requires { ⌜ Lent (now spreads) (now boxes) × (left + 1 < 256) ⌝ }
+    ensures { λ r. ⌜ r ≡ usedAfter left (bestCut g (wide (now (table .entry))) x) ⌝ }
+    ensures { λ r. ⌜ roomIn (now (spreads .exit)) (now (boxes .exit)) ≡ roomAfter g (wide (now (table .entry))) (roomIn (now (spreads .entry)) (now (boxes .entry))) left x (bestCut g (wide (now (table .entry))) x) ⌝ }
+    ensures { λ r. ⌜ Lent (now (spreads .exit)) (now (boxes .exit)) ⌝ }
+{
+    let Position::At {
+        dimension,
+        bin,
+        score: _,
+    } = best_cut(table, work, g, x)
+    else {
+        put_box(spreads, boxes, left, 0.0, x);
+        return left + 1;
+    };
+    put_itself(
+        table,
+        work,
+        g,
+        spreads,
+        boxes,
+        left,
+        low_side(x, dimension, bin),
+    );
+    put_itself(
+        table,
+        work,
+        g,
+        spreads,
+        boxes,
+        left + 1,
+        high_side(x, dimension, bin),
+    );
+    left + 2
+}
+
+// Whether a box is to be cut: its spread is above 0, and is a number.
+fn goes_on(s: f64) -> bool
+    ensures { λ r. ⌜ r ≡ goesOn s ⌝ }
+{
+    if 0.0 < s {
+        return s == s;
+    }
+    false
+}
+
+// One round with `len` boxes; answers how many there are then.
+fn round(
+    table: &[u64],
+    work: &[u64],
+    g: Grid,
+    spreads: &mut [f64; 256],
+    boxes: &mut [u64; 256],
+    len: usize,
+) -> usize
+    requires { ⌜ Worked g (now table) (now work) ⌝ }
+    requires { ⌜ Lent (now spreads) (now boxes) × (0 < len) × (len < 256) × Within g (item noItem (roomIn (now spreads) (now boxes)) 0 .box) ⌝ }
+    ensures { λ r. ⌜ r ≡ roundUsed g (wide (now (table .entry))) (roomIn (now (spreads .entry)) (now (boxes .entry))) len ⌝ }
+    ensures { λ r. ⌜ roomIn (now (spreads .exit)) (now (boxes .exit)) ≡ roundRoom g (wide (now (table .entry))) (roomIn (now (spreads .entry)) (now (boxes .entry))) len ⌝ }
+    ensures { λ r. ⌜ Lent (now (spreads .exit)) (now (boxes .exit)) ⌝ }
+{
+    let s = spreads[0];
+    let x = unpacked(boxes[0]);
+    let left = len - 1;
+    take_top(spreads, boxes, len);
+    if goes_on(s) {
+        return cut_top(table, work, g, spreads, boxes, left, x);
+    }
+    put_box(spreads, boxes, left, s, x);
+    len
+}
+
+// All rounds; answers how many boxes there are.
+fn run(
+    table: &[u64],
+    work: &[u64],
+    g: Grid,
+    k: usize,
+    spreads: &mut [f64; 256],
+    boxes: &mut [u64; 256],
+) -> usize
+    requires { ⌜ Cuttable g (now table) (now work) k ⌝ }
+    requires { ⌜ Lent (now spreads) (now boxes) × (roomIn (now spreads) (now boxes) ≡ startRoom g) ⌝ }
+    ensures { λ r. ⌜ r ≡ heapOf g (wide (now (table .entry))) k .used ⌝ }
+    ensures { λ r. ⌜ roomIn (now (spreads .exit)) (now (boxes .exit)) ≡ heapOf g (wide (now (table .entry))) k .room ⌝ }
+    ensures { λ r. ⌜ Lent (now (spreads .exit)) (now (boxes .exit)) ⌝ }
+{
+    let mut len = 1;
+    while len < k {
+        let more = goes_on(spreads[0]);
+        len = round(table, work, g, spreads, boxes, len);
+        if !more {
+            return len;
+        }
+    }
+    len
+}
