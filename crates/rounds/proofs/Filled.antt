@@ -20,8 +20,8 @@ use Rattle.spread.specs.Cut.{bestCut}
 use Rattle.spread.proofs.Best.{answered}
 use Rattle.heap.specs.Heap.{Item, Room, item, putIn, takeOut}
 use Rattle.heap.proofs.Keeps.{put-in-long, put-in-all, take-out-long, take-out-all}
-use Rattle.rounds.specs.Loop.{Heap, noBox, noItem, itself, spent, wholeOf, startRoom, goesOn, roundRoom, roundUsed, round, rounds}
-use Rattle.rounds.proofs.Whole.{whole-within, whole-sum}
+use Rattle.rounds.specs.Loop.{Heap, noBox, noItem, itself, spent, wholeOf, startRoom, goesOn, roundRoom, roundUsed, round, rounds, start, heapOf}
+use Rattle.rounds.proofs.Grids.{whole-within, whole-sum}
 use Rattle.rounds.proofs.Turning.{low-box, high-box, round-cases}
 
 -- a room with n places in use
@@ -72,6 +72,10 @@ each-round {g} {v} {P} k {h} {n} e l =
   where
     two : (m : ℕ) → m + 1 + 1 ≡ m + 2
     two m = omega arith
+
+-- the places in use alone
+pub in-use-round : (g : Grid) (v : View) {h : Room Bounds} {n : ℕ} → InUse h n → n < 256 → InUse (roundRoom g v h n) (roundUsed g v h n)
+in-use-round g v {h} {n} u l = each-round {P = λ x. Unit {0}} (record { spent-too = λ x p. tt; sides-too = λ x p q. (tt, tt) }) {h = h} {n = n} (record { in-use = u; each = λ p m. tt }) l .in-use
 
 -- all rounds
 pub each-rounds : {g : Grid} {v : View} {P : Item Bounds → Type 0} → Kept g v P → (k f : ℕ) → k ≤ 256 → (h : Heap) → Each P (h .room) (h .used) → Each P (rounds f g v k h .room) (rounds f g v k h .used)
@@ -134,3 +138,33 @@ start-fit {g} {v} a l =
 
     first : (p : ℕ) → p ≡ 0 → Fit g v (item noItem (startRoom g) p)
     first p e = rw (e, start-item g) (record { within = whole-within a; some = weight })
+
+-- ---- the heap at the end
+pub heap-fit : {g : Grid} {v : View} → Accepted g → 0 < total g v → (k : ℕ) → k ≤ 256 → Each (Fit g v) (heapOf g v k .room) (heapOf g v k .used)
+unfolding heapOf start
+heap-fit {g} {v} a l k most = each-rounds (fit-kept g v) k (2 * k) most (start g) (start-fit a l)
+
+-- no more than k boxes
+round-most : (g : Grid) (v : View) (h : Room Bounds) (n : ℕ) → 0 < n → roundUsed g v h n ≤ n + 1
+round-most g v h n l =
+    round-cases g v h n (λ r m. m ≤ n + 1) (λ off. omega arith) (λ on none. omega arith) (λ d i s on q. omega arith)
+
+pub rounds-most : (g : Grid) (v : View) (k : ℕ) → k ≤ 256 → (f : ℕ) (h : Heap) → InUse (h .room) (h .used) → h .used ≤ k → rounds f g v k h .used ≤ k
+unfolding rounds round
+rounds-most g v k most zero h u l = l
+rounds-most g v k most (suc f) h u l =
+    go (ltb (h .used) k) refl (goesOn (item noItem (h .room) 0 .spread))
+    (λ m. rounds-most g v k most f (round g v h) (in-use-round g v u (omega arith)) (next m))
+  where
+    next : h .used < k → roundUsed g v (h .room) (h .used) ≤ k
+    next m = omega (arith, round-most g v (h .room) (h .used) (u .some))
+
+    go : (a : Bool) → ltb (h .used) k ≡ a → (b : Bool) → (h .used < k → rounds f g v k (round g v h) .used ≤ k)
+        → cond a (cond b (rounds f g v k (round g v h)) (round g v h)) h .used ≤ k
+    go false q b after = l
+    go true q false after = next (ltb-true (h .used) k q)
+    go true q true after = after (ltb-true (h .used) k q)
+
+pub heap-most : (g : Grid) (v : View) (k : ℕ) → 1 ≤ k → k ≤ 256 → heapOf g v k .used ≤ k
+unfolding heapOf start
+heap-most g v k least most = rounds-most g v k most (2 * k) (start g) (start-in-use g) least

@@ -18,7 +18,7 @@ use Rattle.heap.specs.Heap.{Item, Room, item, putIn, takeOut, sumItems}
 use Rattle.heap.proofs.Keeps.{put-in-long, put-in-sum, take-out-long, take-out-sum}
 use Rattle.rounds.specs.Loop.{Heap, noBox, noItem, itself, spent, wholeOf, startRoom, start, goesOn, roundRoom, roundUsed, round, rounds, heapOf}
 use Rattle.rounds.proofs.Turning.{round-cases}
-use Rattle.rounds.proofs.Filled.{InUse, Each, each-round, start-in-use}
+use Rattle.rounds.proofs.Filled.{InUse, start-in-use, in-use-round}
 
 -- ---- one step of the loop
 module _ (g : Grid) (v : View) (k : ℕ) (h : Heap) where
@@ -95,7 +95,7 @@ need-less g v k most h n u l on =
     let put = putIn noItem rest (n - 1) low in
     let put-long : length put ≡ 256 = put-in-long noItem rest (n - 1) low (omega (arith, rest-long)) ∙ rest-long in
     let last : sumItems hot (take (n - 1 + 2) (putIn noItem put (n - 1 + 1) high)) ≡ hot high + sumItems hot (take (n - 1 + 1) put) =
-        ap (λ (m : ℕ). sumItems hot (take m (putIn noItem put (n - 1 + 1) high))) (two (n - 1)) ∙ hot-put put (n - 1 + 1) high put-long (omega arith) in
+    ap (λ (m : ℕ). sumItems hot (take m (putIn noItem put (n - 1 + 1) high))) (two (n - 1)) ∙ hot-put put (n - 1 + 1) high put-long (omega arith) in
     above (need-high k (putIn noItem put (n - 1 + 1) high) (n - 1 + 2) _ (λ m. omega (arith, before, last, hot-put rest (n - 1) low rest-long (omega arith), hot-high low, hot-high high))))
   where
     top : Item Bounds
@@ -123,9 +123,6 @@ need-less g v k most h n u l on =
     above {m} p = omega (arith, need-is k h n l)
 
 -- ---- more rounds than are needed change nothing
-pub in-use-round : (g : Grid) (v : View) {h : Room Bounds} {n : ℕ} → InUse h n → n < 256 → InUse (roundRoom g v h n) (roundUsed g v h n)
-in-use-round g v {h} {n} u l = each-round {P = λ x. Unit {0}} (record { spent-too = λ x p. tt; sides-too = λ x p q. (tt, tt) }) {h = h} {n = n} (record { in-use = u; each = λ p m. tt }) l .in-use
-
 module _ (g : Grid) (v : View) (k : ℕ) (most : k ≤ 256) where
   pub stable : (f e : ℕ) (h : Heap) → InUse (h .room) (h .used) → need k (h .room) (h .used) ≤ f → need k (h .room) (h .used) ≤ e → rounds f g v k h ≡ rounds e g v k h
   unfolding round

@@ -1,5 +1,6 @@
 pub mod Packing
 pub mod Turning
-pub mod Whole
+pub mod Grids
 pub mod Filled
 pub mod Fuel
+pub mod Gathering

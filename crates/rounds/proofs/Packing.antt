@@ -1,12 +1,13 @@
 -- A box is what its number unpacks to, and a room of packed boxes is a room of boxes.
 -- Assumes nothing.
 use mathlib.Core.Path.{_≡_, refl, sym, ap, _∙_}
+use mathlib.Core.Bool.{false}
 use mathlib.Core.List.{List}
 use Prim.Native.Nat.{ℕ, _+_, _*_, _/_, _%_, _≤_, _<_}
 use native.Mathlib.Nat.{le-of-lt}
 use native.Mathlib.Omega.{arith}
-use lib.ListN.{length, getD, length-map}
-use lib.Ieee.{Float, nan}
+use lib.ListN.{length, getD, set, replicate, length-map}
+use lib.Ieee.{Float, nan, inf}
 use Rattle.grid.specs.declared.Grid.{Grid}
 use Rattle.grid.specs.Grid.{choose, sizeAt}
 use Rattle.grid.proofs.Size.{size-high}
@@ -14,14 +15,14 @@ use Rattle.grid.proofs.Places.{sized-at}
 use Rattle.sums.specs.declared.Bounds.{Bounds}
 use Rattle.sums.specs.Box.{Within}
 use Rattle.sums.proofs.Corners.{sides}
-use Rattle.spread.specs.Spread.{Ordered}
+use Rattle.spread.specs.Spread.{zeroOf, Ordered}
 use Rattle.heap.specs.Heap.{Item, Room, item, putIn, takeOut, viewItem, viewRoom}
 use Rattle.heap.specs.Lent.{Lent, roomOf, spreadsOf, boxesOf, noItem as noPacked}
 use Rattle.heap.proofs.Lent.{alike, room-item, room-is, room-long, lent-of}
 use Rattle.heap.proofs.Keeps.{put-in-long, take-out-long}
 use Rattle.heap.proofs.View.{item-view, put-in-view, take-out-view}
 use Rattle.rounds.specs.Pack.{packOf, boxOf, Bytes}
-use Rattle.rounds.specs.Loop.{noItem, roomIn}
+use Rattle.rounds.specs.Loop.{noBox, noItem, spent, wholeOf, startRoom, roomIn}
 
 low-byte : (a n : ℕ) → a < 256 → (a + 256 * n) % 256 ≡ a
 low-byte a n h = omega arith
@@ -122,3 +123,9 @@ module _ {spreads : List Float} {boxes : List ℕ} (lent : Lent spreads boxes) w
       lent-taken some most =
           lent-of (takeOut noPacked (roomOf spreads boxes) n) e f
           (take-out-long noPacked (roomOf spreads boxes) n some (omega (arith, room-long lent)) ∙ room-long lent)
+
+-- ---- the arrays at the start
+pub room-start : (g : Grid) {spread : Float} {packed : ℕ} → spread ≡ inf false → packed ≡ packOf (wholeOf g) → Bytes (wholeOf g)
+    → roomIn (set (replicate 256 zeroOf) 0 spread) (set (replicate 256 0) 0 packed) ≡ startRoom g
+unfolding roomIn startRoom roomOf boxOf
+room-start g e f b = λ i. set (replicate 256 (spent noBox)) 0 (record { spread = e i; box = (ap boxOf f ∙ box-pack (wholeOf g) b) i })

@@ -11,6 +11,7 @@ use sums::Bounds;
 use sums::box_sum;
 ghost use mathlib.Core.Path.{_≡_};
 ghost use Prim.Native.Nat.{_+_, _-_, _<_, _≤_};
+ghost use Rattle.grid.specs.Grid.{Accepted};
 ghost use Rattle.table.specs.Cell.{wide};
 ghost use Rattle.sums.specs.Box.{Within};
 ghost use Rattle.sums.specs.Moments.{Worked};
@@ -18,7 +19,7 @@ ghost use Rattle.spread.specs.Cut.{bestCut};
 ghost use Rattle.heap.specs.Heap.{item, putIn, takeOut};
 ghost use Rattle.heap.specs.Lent.{Lent};
 ghost use Rattle.rounds.specs.Pack.{packOf, boxOf, Bytes};
-ghost use Rattle.rounds.specs.Loop.{noItem, itself, wholeOf, startRoom, roomAfter, usedAfter, goesOn, roundRoom, roundUsed, heapOf, placesOf, boxesOf, roomIn, Cuttable};
+ghost use Rattle.rounds.specs.Loop.{noItem, itself, wholeOf, startRoom, roomAfter, usedAfter, goesOn, roundRoom, roundUsed, heapOf, boxSpread, placesOf, boxesOf, roomIn, Cuttable};
 
 // A box with its spread (`CubeVar`).
 pub struct BoxSpread {
@@ -210,4 +211,64 @@ fn run(
         }
     }
     len
+}
+
+// ---- The record of the boxes
+
+// A box and its spread together.
+fn with_spread(x: Bounds, spread: f64) -> BoxSpread
+    ensures { λ r. ⌜ r ≡ boxSpread (record { spread = spread; box = x }) ⌝ }
+{
+    BoxSpread {
+        r0: x.r0,
+        r1: x.r1,
+        g0: x.g0,
+        g1: x.g1,
+        b0: x.b0,
+        b1: x.b1,
+        spread,
+    }
+}
+
+// The places of a record of `len` boxes.
+fn gathered(spreads: &[f64; 256], boxes: &[u64; 256], len: usize) -> [BoxSpread; 256]
+    requires { ⌜ Lent (now spreads) (now boxes) × (len ≤ 256) ⌝ }
+    ensures { λ r. ⌜ r ≡ placesOf (roomIn (now (spreads .entry)) (now (boxes .entry))) len ⌝ }
+{
+    let mut places = [with_spread(unpacked(0), 0.0); 256];
+    let mut i = 0;
+    while i < len {
+        places[i] = with_spread(unpacked(boxes[i]), spreads[i]);
+        i = i + 1;
+    }
+    places
+}
+
+// The whole grid as a box.
+fn whole(g: Grid) -> Bounds
+    requires { ⌜ Accepted g ⌝ }
+    ensures { λ r. ⌜ r ≡ wholeOf g ⌝ }
+{
+    Bounds {
+        r0: 0,
+        r1: g.b1 as u8,
+        g0: 0,
+        g1: g.b2 as u8,
+        b0: 0,
+        b1: g.b3 as u8,
+    }
+}
+
+// The boxes that a table is cut into, at most k (`cubes_heap`).
+pub fn cut_boxes(table: &[u64], work: &[u64], g: Grid, k: usize) -> Boxes
+    requires { ⌜ Cuttable g (now table) (now work) k ⌝ }
+    ensures { λ r. ⌜ r ≡ boxesOf g (wide (now (table .entry))) k ⌝ }
+{
+    let mut spreads = [0.0; 256];
+    let mut boxes = [0u64; 256];
+    spreads[0] = 1.0 / 0.0;
+    boxes[0] = packed(whole(g));
+    let found = run(table, work, g, k, &mut spreads, &mut boxes);
+    let places = gathered(&spreads, &boxes, found);
+    Boxes { found, places }
 }
