@@ -3,7 +3,7 @@
 use mathlib.Core.Path.{_≡_, refl, ap, _∙_}
 use mathlib.Core.Bool.{Bool, true, false}
 use Prim.Native.Nat.{ℕ, _+_, _-_}
-use lib.Ieee.{Float}
+use lib.Ieee.{Float, lt, eq}
 use Rattle.grid.specs.declared.Grid.{Grid}
 use Rattle.table.specs.Cell.{View}
 use Rattle.sums.specs.declared.Bounds.{Bounds}
@@ -11,6 +11,7 @@ use Rattle.sums.specs.Box.{lowSide, highSide, Within}
 use Rattle.sums.proofs.Laws.{low-within, high-within}
 use Rattle.spread.specs.declared.Position.{Position}
 use Rattle.spread.specs.declared.Position.the-variants.{At, Nowhere}
+use Rattle.spread.specs.Spread.{zeroOf}
 use Rattle.spread.specs.Cut.{bestCut}
 use Rattle.spread.proofs.Best.{answered}
 use Rattle.heap.specs.Heap.{Item, Room, item, putIn, takeOut}
@@ -41,6 +42,15 @@ module _ {g : Grid} (v : View) {x : Bounds} (w : Within g x) {d i : ℕ} {s : Fl
 
   pub high-box : Within g (highSide x d i)
   high-box = let a = answered g v x q .1 .inside in high-within w d i (a .0) (a .1)
+
+-- the two tests of a spread
+pub above-0 : (s : Float) → lt zeroOf s ≡ true → eq s s ≡ goesOn s
+unfolding goesOn
+above-0 s e = rw e refl
+
+pub not-above-0 : (s : Float) → lt zeroOf s ≡ false → false ≡ goesOn s
+unfolding goesOn
+not-above-0 s e = rw e refl
 
 -- a round whose top is to be cut, and one that stops
 module _ (g : Grid) (v : View) (h : Room Bounds) (n : ℕ) where

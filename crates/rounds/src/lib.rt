@@ -130,24 +130,10 @@ fn cut_top(
         put_box(spreads, boxes, left, 0.0, x);
         return left + 1;
     };
-    put_itself(
-        table,
-        work,
-        g,
-        spreads,
-        boxes,
-        left,
-        low_side(x, dimension, bin),
-    );
-    put_itself(
-        table,
-        work,
-        g,
-        spreads,
-        boxes,
-        left + 1,
-        high_side(x, dimension, bin),
-    );
+    let low = low_side(x, dimension, bin);
+    let high = high_side(x, dimension, bin);
+    put_itself(table, work, g, spreads, boxes, left, low);
+    put_itself(table, work, g, spreads, boxes, left + 1, high);
     left + 2
 }
 

@@ -56,24 +56,24 @@ returns c =
 low-side-requires : tie.Need-low-side-requires
 low-side-requires c κs = search needs
 
+high-side-requires : tie.Need-high-side-requires
+high-side-requires c κs = search needs
+
 put-itself-requires : tie.Need-put-itself-requires
 put-itself-requires c κs =
-    let s = c .before .before .before .before .before .before .before .before .before in (
-      (s .pre .0 .0, rw (c .low-side .ensures) (low-box (view s) (s .pre .0 .1) (sym (c .before .before .before .before .before .before .best-cut .ensures) ∙ c .before .before .before .before .dimension .given .1))),
+    let s = c .before .before .before .before .before .before .before .before .before .before in (
+      (s .pre .0 .0, rw (c .before .before .before .low-side .ensures) (low-box (view s) (s .pre .0 .1) (sym (c .before .before .before .before .before .before .before .best-cut .ensures) ∙ c .before .before .before .before .before .dimension .given .1))),
       (s .pre .1 .0, omega (arith, s .pre .1 .1)),
     )
 
 add-put-itself : tie.Need-add-put-itself
-add-put-itself c = search needs
-
-high-side-requires : tie.Need-high-side-requires
-high-side-requires c κs = search needs
+add-put-itself c = record { fits = omega (arith, c .before .before .before .before .before .before .before .before .before .before .before .before .before .pre .1 .1) }
 
 put-itself-requires-2 : tie.Need-put-itself-requires-2
 put-itself-requires-2 c κs =
     let s = c .before .before .before .before .before .before .before .before .before .before .before .before .before in (
-      (s .pre .0 .0, rw (c .high-side .ensures) (high-box (view s) (s .pre .0 .1) (sym (c .before .before .before .before .before .before .before .before .before .before .best-cut .ensures) ∙ c .before .before .before .before .before .before .before .before .dimension .given .1))),
-      (c .before .before .before .put-itself .ensures .1, s .pre .1 .1),
+      (s .pre .0 .0, rw (c .before .before .before .before .before .high-side .ensures) (high-box (view s) (s .pre .0 .1) (sym (c .before .before .before .before .before .before .before .before .before .before .best-cut .ensures) ∙ c .before .before .before .before .before .before .before .before .dimension .given .1))),
+      (c .before .before .put-itself .ensures .1, s .pre .1 .1),
     )
 
 add-result-2 : tie.Need-add-result-2
@@ -86,7 +86,7 @@ returns-2 c =
       sym (used-cut (s .args .g) (view s) (before s) (s .args .left) (s .args .x) q),
       (
         c .put-itself2 .ensures .0
-            ∙ (λ i. putIn noItem ((c .before .before .before .before .put-itself .ensures .0 ∙ ap (λ (y : Bounds). putIn noItem (before s) (s .args .left) (itself (s .args .g) (view s) y)) (c .before .before .before .before .before .low-side .ensures)) i) (s .args .left + 1) (itself (s .args .g) (view s) (c .before .high-side .ensures i)))
+            ∙ (λ i. putIn noItem ((c .before .before .before .put-itself .ensures .0 ∙ ap (λ (y : Bounds). putIn noItem (before s) (s .args .left) (itself (s .args .g) (view s) y)) (c .before .before .before .before .before .before .before .low-side .ensures)) i) (s .args .left + 1) (itself (s .args .g) (view s) (c .before .before .before .before .before .before .high-side .ensures i)))
             ∙ sym (room-cut (s .args .g) (view s) (before s) (s .args .left) (s .args .x) q),
         c .put-itself2 .ensures .1,
       ),
@@ -103,9 +103,9 @@ cut-top-spec =
     add-result
     returns
     low-side-requires
+    high-side-requires
     put-itself-requires
     add-put-itself
-    high-side-requires
     put-itself-requires-2
     add-result-2
     returns-2)
