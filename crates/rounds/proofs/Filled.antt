@@ -37,7 +37,7 @@ pub record Each (P : Item Bounds → Type 0) (h : Room Bounds) (n : ℕ) : Type 
 
 -- a property that a box put back with 0.0 keeps, and that both sides of a cut have
 pub record Kept (g : Grid) (v : View) (P : Item Bounds → Type 0) : Type 0 where
-  pub spent-too : (x : Item Bounds) → P x → P (spent (x .box))
+  pub spent-too : (x : Item Bounds) → P x → bestCut g v (x .box) ≡ Nowhere → P (spent (x .box))
   pub sides-too : (x : Item Bounds) → P x → {d i : ℕ} {s : Float} → bestCut g v (x .box) ≡ At d i s
       → P (itself g v (lowSide (x .box) d i)) × P (itself g v (highSide (x .box) d i))
 
@@ -64,7 +64,7 @@ each-round {g} {v} {P} k {h} {n} e l =
     let same : n - 1 + 1 ≡ n = omega (arith, e .in-use .some) in
     round-cases g v h n (Each P)
     (λ off. subst (Each P _) same (each-put P _ (others-long P h e) (omega arith) (others P h e) top))
-    (λ on none. each-put P _ (others-long P h e) (omega arith) (others P h e) (k .spent-too (item noItem h 0) top))
+    (λ on none. each-put P _ (others-long P h e) (omega arith) (others P h e) (k .spent-too (item noItem h 0) top none))
     (λ d i s on q.
     let both = k .sides-too (item noItem h 0) top q in
     let low = each-put P _ (others-long P h e) (omega arith) (others P h e) (both .0) in
@@ -75,7 +75,7 @@ each-round {g} {v} {P} k {h} {n} e l =
 
 -- the places in use alone
 pub in-use-round : (g : Grid) (v : View) {h : Room Bounds} {n : ℕ} → InUse h n → n < 256 → InUse (roundRoom g v h n) (roundUsed g v h n)
-in-use-round g v {h} {n} u l = each-round {P = λ x. Unit {0}} (record { spent-too = λ x p. tt; sides-too = λ x p q. (tt, tt) }) {h = h} {n = n} (record { in-use = u; each = λ p m. tt }) l .in-use
+in-use-round g v {h} {n} u l = each-round {P = λ x. Unit {0}} (record { spent-too = λ x p q. tt; sides-too = λ x p q. (tt, tt) }) {h = h} {n = n} (record { in-use = u; each = λ p m. tt }) l .in-use
 
 -- all rounds
 pub each-rounds : {g : Grid} {v : View} {P : Item Bounds → Type 0} → Kept g v P → (k f : ℕ) → k ≤ 256 → (h : Heap) → Each P (h .room) (h .used) → Each P (rounds f g v k h .room) (rounds f g v k h .used)
@@ -103,7 +103,7 @@ pub fit-kept : (g : Grid) (v : View) → Kept g v (Fit g v)
 unfolding itself
 fit-kept g v =
     record {
-      spent-too = λ x h. record { within = h .within; some = h .some };
+      spent-too = λ x h q. record { within = h .within; some = h .some };
       sides-too = λ x h {d} {i} {s} q.
           let a = answered g v (x .box) q .1 .split in (
             record { within = low-box v (h .within) q; some = a .low },

@@ -4,3 +4,4 @@ pub mod Grids
 pub mod Filled
 pub mod Fuel
 pub mod Gathering
+pub mod Cover
