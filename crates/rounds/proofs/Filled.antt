@@ -43,7 +43,7 @@ pub record Kept (g : Grid) (v : View) (P : Item Bounds → Type 0) : Type 0 wher
 
 module _ (P : Item Bounds → Type 0) (h : Room Bounds) where
   -- a box put in
-  each-put : {n : ℕ} → length h ≡ 256 → n < 256 → ((p : ℕ) → p < n → P (item noItem h p)) → {x : Item Bounds} → P x → Each P (putIn noItem h n x) (n + 1)
+  pub each-put : {n : ℕ} → length h ≡ 256 → n < 256 → ((p : ℕ) → p < n → P (item noItem h p)) → {x : Item Bounds} → P x → Each P (putIn noItem h n x) (n + 1)
   each-put {n} long room all {x} has =
       record {
         in-use = record { long = put-in-long noItem h n x (omega arith) ∙ long; some = omega arith; most = omega arith };
@@ -51,10 +51,10 @@ module _ (P : Item Bounds → Type 0) (h : Room Bounds) where
       }
 
   -- the others, once the top has left
-  others : {n : ℕ} → Each P h n → (p : ℕ) → p < n - 1 → P (item noItem (takeOut noItem h n) p)
+  pub others : {n : ℕ} → Each P h n → (p : ℕ) → p < n - 1 → P (item noItem (takeOut noItem h n) p)
   others {n} e = take-out-all noItem h n (e .in-use .some) (omega (arith, e .in-use .long, e .in-use .most)) P (e .each)
 
-  others-long : {n : ℕ} → Each P h n → length (takeOut noItem h n) ≡ 256
+  pub others-long : {n : ℕ} → Each P h n → length (takeOut noItem h n) ≡ 256
   others-long {n} e = take-out-long noItem h n (e .in-use .some) (omega (arith, e .in-use .long, e .in-use .most)) ∙ e .in-use .long
 
 -- one round
@@ -121,7 +121,7 @@ start-in-use g =
       most = omega arith;
     }
 
-start-item : (g : Grid) → item noItem (startRoom g) 0 ≡ record { spread = inf false; box = wholeOf g }
+pub start-item : (g : Grid) → item noItem (startRoom g) 0 ≡ record { spread = inf false; box = wholeOf g }
 unfolding startRoom
 start-item g = refl
 

@@ -71,7 +71,7 @@ module _ (k : ℕ) (h : Room Bounds) (n : ℕ) where
       go false e = omega arith
 
   -- none is needed where there are k boxes, and only there
-  need-none : need k h n ≤ 0 → k ≤ n
+  pub need-none : need k h n ≤ 0 → k ≤ n
   need-none p = elim (decLe k n) [ yes l ↦ l | no l ↦ absurd (omega (arith, need-is (lt-of-not-le l))) ]
 
 -- a box put in

@@ -5,3 +5,4 @@ pub mod Filled
 pub mod Fuel
 pub mod Gathering
 pub mod Cover
+pub mod Ends

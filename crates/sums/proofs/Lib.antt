@@ -5,3 +5,4 @@ pub mod Corners
 pub mod Laws
 pub mod Loaded
 pub mod Same
+pub mod Occupied

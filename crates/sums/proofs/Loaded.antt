@@ -76,20 +76,15 @@ lies g x c =
     && (among (x .g0) (x .g1 - x .g0) (binOf (g .s2) (c .colour .c2))
     && among (x .b0) (x .b1 - x .b0) (binOf (g .s3) (c .colour .c3)))
 
--- one colour adds its share to the boxes that its bin lies in
-colour-box : {g : Grid} {x : Bounds} → Within g x → (c : Weighted) → Bytes (c .colour) → (j : ℕ) → boxSum g (adds g c) x j ≡ cond (lies g x c) (share c j) 0
-unfolding boxSum binSum sum3 lies colourPlace
-colour-box {g} {x} w c b j =
+-- a place that is hit once: by the bins of a box, if the place is among them
+pub hit-box : {g : Grid} {x : Bounds} → Within g x → {R G Z : ℕ} → Inside g R G Z → (y j : ℕ)
+    → boxSum g (λ p i. hit (placeOf g R G Z) p y) x j ≡ cond (among (x .r0) (x .r1 - x .r0) R && (among (x .g0) (x .g1 - x .g0) G && among (x .b0) (x .b1 - x .b0) Z)) y 0
+unfolding boxSum binSum sum3
+hit-box {g} {x} w {R} {G} {Z} i y j =
     let e = sides w in
-    let i = colour-inside (w .accepted) b in
-    let R = binOf (g .s1) (c .colour .c1) in
-    let G = binOf (g .s2) (c .colour .c2) in
-    let Z = binOf (g .s3) (c .colour .c3) in
-    let y = share c j in
-    sum3-same (x .r0) (x .r1 - x .r0) (x .g0) (x .g1 - x .g0) (x .b0) (x .b1 - x .b0) (λ r gr z. adds g c (placeOf g r gr z) j) (λ r gr z. hit R r (hit G gr (hit Z z y)))
+    sum3-same (x .r0) (x .r1 - x .r0) (x .g0) (x .g1 - x .g0) (x .b0) (x .b1 - x .b0) (λ r gr z. hit (placeOf g R G Z) (placeOf g r gr z) y) (λ r gr z. hit R r (hit G gr (hit Z z y)))
     (λ r gr z h k l.
-    adds-at g c (placeOf g r gr z) j
-    ∙ hit-place i (record { accepted = w .accepted; one = omega (arith, e .one, e .one-fits); two = omega (arith, e .two, e .two-fits); three = omega (arith, e .three, e .three-fits) }) y)
+    hit-place i (record { accepted = w .accepted; one = omega (arith, e .one, e .one-fits); two = omega (arith, e .two, e .two-fits); three = omega (arith, e .three, e .three-fits) }) y)
     ∙ sum-same (x .r0) (x .r1 - x .r0) _ _
     (λ r h k.
     sum-same (x .g0) (x .g1 - x .g0) _ _ (λ gr m n. hit-sum R r (x .b0) (x .b1 - x .b0) (λ z. hit G gr (hit Z z y)) ∙ ap (hit R r) (hit-sum G gr (x .b0) (x .b1 - x .b0) (λ z. hit Z z y)))
@@ -99,6 +94,14 @@ colour-box {g} {x} w c b j =
     (run-hit (x .g0) (x .g1 - x .g0) G (sumFrom (x .b0) (x .b1 - x .b0) (λ z. hit Z z y))
     ∙ ap (λ (n : ℕ). cond (among (x .g0) (x .g1 - x .g0) G) n 0) (run-hit (x .b0) (x .b1 - x .b0) Z y))
     ∙ three (among (x .r0) (x .r1 - x .r0) R) (among (x .g0) (x .g1 - x .g0) G) (among (x .b0) (x .b1 - x .b0) Z) y
+
+-- one colour adds its share to the boxes that its bin lies in
+colour-box : {g : Grid} {x : Bounds} → Within g x → (c : Weighted) → Bytes (c .colour) → (j : ℕ) → boxSum g (adds g c) x j ≡ cond (lies g x c) (share c j) 0
+unfolding boxSum binSum lies colourPlace
+colour-box {g} {x} w c b j =
+    sum3-same (x .r0) (x .r1 - x .r0) (x .g0) (x .g1 - x .g0) (x .b0) (x .b1 - x .b0) (λ r gr z. adds g c (placeOf g r gr z) j) (λ r gr z. hit (colourPlace g (c .colour)) (placeOf g r gr z) (share c j))
+    (λ r gr z h k l. adds-at g c (placeOf g r gr z) j)
+    ∙ hit-box w (colour-inside (w .accepted) b) (share c j) j
 
 module _ {g : Grid} {x : Bounds} (w : Within g x) (j : ℕ) where
   -- what a colour has in the box

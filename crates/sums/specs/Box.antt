@@ -1,5 +1,7 @@
 -- Boxes and what they sum to (document 01, "Moments"). Definitions only.
+use mathlib.Core.Bool.{cond}
 use Prim.Native.Nat.{ℕ, _-_, _≤_, _<_}
+use lib.Dec.{eqb}
 use lib.IntN.{pos}
 use lib.Ieee.{binary64, ofInt}
 use Rattle.grid.specs.declared.Grid.{Grid}
@@ -81,6 +83,14 @@ highSide x d c =
     (record { r0 = c; r1 = x .r1; g0 = x .g0; g1 = x .g1; b0 = x .b0; b1 = x .b1 })
     (record { r0 = x .r0; r1 = x .r1; g0 = c; g1 = x .g1; b0 = x .b0; b1 = x .b1 })
     (record { r0 = x .r0; r1 = x .r1; g0 = x .g0; g1 = x .g1; b0 = c; b1 = x .b1 })
+
+-- a view with 1 at each occupied bin, weight above 0
+unfoldable pub marks : View → View
+marks v p j = cond (eqb (v p 0) 0) 0 1
+
+-- how many bins of a box are occupied
+unfoldable pub occupiedIn : Grid → View → Bounds → ℕ
+occupiedIn g v x = boxSum g (marks v) x 0
 
 -- a bin of a box
 pub record InBox (x : Bounds) (r gr b : ℕ) : Type 0 where
