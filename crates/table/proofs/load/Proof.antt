@@ -31,7 +31,7 @@ abbrev grid : tie.After-known-told → Grid
 grid k = k .before .g .given .0 .0
 
 on-grid : (k : tie.After-known-told) → gridOf (k .before .before .before .before .before .before .before .args .b1) (k .before .before .before .before .before .before .before .args .b2) (k .before .before .before .before .before .before .before .args .b3) ≡ Of (grid k)
-on-grid k = cc
+on-grid k = sym (k .before .before .before .grid-of .ensures) ∙ k .before .g .given .1
 
 accepted : (k : tie.After-known-told) → Accepted (grid k)
 accepted k = chose _ _ _ (grid k) (on-grid k) .accepted
@@ -61,8 +61,7 @@ had k = k .before .had .given .0 .0
 
 is-sound : (k : tie.After-known-told2) → (sound limit (grid (k .before .before .before .before .before .before .before .before .before)) (wide (table (k .before .before .before .before .before))) ≡ true) × (had k ≡ total (grid (k .before .before .before .before .before .before .before .before .before)) (wide (table (k .before .before .before .before .before))))
 is-sound k =
-    let is : k .before .before .before .weigh .result ≡ Total (had k) = cc in
-    weighed-total limit _ _ (had k) (sym (k .before .before .before .weigh .ensures) ∙ is)
+    weighed-total limit _ _ (had k) (sym (k .before .before .before .weigh .ensures) ∙ k .before .had .given .1)
 
 -- the test of the total is that of the definition
 abbrev batch : tie.After-batch-fits → List Weighted
@@ -86,7 +85,7 @@ enum-told c = search needs
 returns : tie.Need-returns
 returns c =
     let a = c .before .before .before .before .before .before .args in
-    load-no-grid (a .b1) (a .b2) (a .b3) (now (a .table)) (now (a .colours)) (a .weighted) (now (a .weights)) (cc)
+    load-no-grid (a .b1) (a .b2) (a .b3) (now (a .table)) (now (a .colours)) (a .weighted) (now (a .weights)) (sym (c .before .before .grid-of .ensures) ∙ c .enum-told .given .1)
 
 returns-2 : tie.Need-returns-2
 returns-2 c =
@@ -125,9 +124,8 @@ same-length c = search needs
 returns-5 : tie.Need-returns-5
 returns-5 c =
     let a = c .before .before .before .before .before .before .before .before .before .before .before .before .before .before .before .args in
-    let is : c .before .before .weigh .result ≡ Unsound = cc in
     load-unsound (a .b1) (a .b2) (a .b3) (now (a .table)) (now (a .colours)) (a .weighted) (now (a .weights)) (on-grid (c .before .before .before .before .before .before .before .before)) (c .before .before .before .before .before .before .before .if1 .left) (paired (c .before .before .before .before .before .before)) (the-table (c .before .before .before .before) .lent)
-    (weighed-unsound limit _ _ (sym (c .before .before .weigh .ensures) ∙ is))
+    (weighed-unsound limit _ _ (sym (c .before .before .weigh .ensures) ∙ c .enum-told2 .given .1))
 
 batch-fits-requires : tie.Need-batch-fits-requires
 batch-fits-requires c κs =

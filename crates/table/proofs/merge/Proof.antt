@@ -28,7 +28,7 @@ abbrev grid : tie.After-known-told → Grid
 grid k = k .before .g .given .0 .0
 
 on-grid : (k : tie.After-known-told) → gridOf (k .before .before .before .before .before .before .args .b1) (k .before .before .before .before .before .before .args .b2) (k .before .before .before .before .before .before .args .b3) ≡ Of (grid k)
-on-grid k = cc
+on-grid k = sym (k .before .before .before .grid-of .ensures) ∙ k .before .g .given .1
 
 accepted : (k : tie.After-known-told) → Accepted (grid k)
 accepted k = chose _ _ _ (grid k) (on-grid k) .accepted
@@ -58,8 +58,7 @@ more k = k .before .more .given .0 .0
 
 first-sound : (k : tie.After-known-told2) → (sound limit (grid (k .before .before .before .before .before .before .before .before)) (wide (first (k .before .before .before .before .before))) ≡ true) × (had k ≡ total (grid (k .before .before .before .before .before .before .before .before)) (wide (first (k .before .before .before .before .before))))
 first-sound k =
-    let is : k .before .before .before .weigh .result ≡ Total (had k) = cc in
-    weighed-total limit _ _ (had k) (sym (k .before .before .before .weigh .ensures) ∙ is)
+    weighed-total limit _ _ (had k) (sym (k .before .before .before .weigh .ensures) ∙ k .before .had .given .1)
 
 under : (k : tie.After-known-told2) → had k ≤ limit
 under k =
@@ -68,8 +67,7 @@ under k =
 
 second-sound : (k : tie.After-known-told3) → (sound limit (grid (k .before .before .before .before .before .before .before .before .before .before .before .before)) (wide (second (k .before .before .before .before .before .before .before .before .before))) ≡ true) × (more k ≡ total (grid (k .before .before .before .before .before .before .before .before .before .before .before .before)) (wide (second (k .before .before .before .before .before .before .before .before .before))))
 second-sound k =
-    let is : k .before .before .before .weigh2 .result ≡ Total (more k) = cc in
-    weighed-total limit _ _ (more k) (sym (k .before .before .before .weigh2 .ensures) ∙ is)
+    weighed-total limit _ _ (more k) (sym (k .before .before .before .weigh2 .ensures) ∙ k .before .more .given .1)
 
 -- a merge whose total fits leaves no number that a u64 can't hold
 room : (g : Grid) (t s : List ℕ) → Accepted g → sound limit g (wide t) ≡ true → sound limit g (wide s) ≡ true → total g (wide t) + total g (wide s) ≤ limit → (p j : ℕ) → p < binsOf g → j < 5 → wide t p j + wide s p j < 2 ^ 64
@@ -87,7 +85,7 @@ enum-told : tie.Need-enum-told
 enum-told c = search needs
 
 returns : tie.Need-returns
-returns c = let a = c .before .before .before .before .before .args in merge-no-grid (a .b1) (a .b2) (a .b3) (now (a .table)) (now (a .second)) (cc)
+returns c = let a = c .before .before .before .before .before .args in merge-no-grid (a .b1) (a .b2) (a .b3) (now (a .table)) (now (a .second)) (sym (c .before .before .grid-of .ensures) ∙ c .enum-told .given .1)
 
 bins-requires : tie.Need-bins-requires
 bins-requires c κs = accepted c
@@ -124,9 +122,8 @@ returns-4 : tie.Need-returns-4
 returns-4 c =
     let a = c .before .before .before .before .before .before .before .before .before .before .before .before .before .args in
     let k = c .before .before .before .before in
-    let is : c .before .before .weigh .result ≡ Unsound = cc in
     merge-first-unsound (a .b1) (a .b2) (a .b3) (now (a .table)) (now (a .second)) (on-grid (k .before .before .before)) (first-table k .lent) (second-table k .lent)
-    (weighed-unsound limit _ _ (sym (c .before .before .weigh .ensures) ∙ is))
+    (weighed-unsound limit _ _ (sym (c .before .before .weigh .ensures) ∙ c .enum-told2 .given .1))
 
 weigh-requires-2 : tie.Need-weigh-requires-2
 weigh-requires-2 c κs = second-table (c .before .before .before .before .before)
@@ -144,10 +141,9 @@ returns-5 : tie.Need-returns-5
 returns-5 c =
     let a = c .before .before .before .before .before .before .before .before .before .before .before .before .before .before .before .before .before .args in
     let k = c .before .before .before .before .before .before .before .before in
-    let is : c .before .before .weigh2 .result ≡ Unsound = cc in
     merge-second-unsound (a .b1) (a .b2) (a .b3) (now (a .table)) (now (a .second)) (on-grid (k .before .before .before)) (first-table k .lent) (second-table k .lent)
     (first-sound (c .before .before .before) .0)
-    (weighed-unsound limit _ _ (sym (c .before .before .weigh2 .ensures) ∙ is))
+    (weighed-unsound limit _ _ (sym (c .before .before .weigh2 .ensures) ∙ c .enum-told3 .given .1))
 
 sub-if3 : tie.Need-sub-if3
 sub-if3 c = under (c .before .before .before .before)
