@@ -8,8 +8,7 @@ use Rattle.grid.specs.Grid.{Accepted, choose, sizeAt, binsOf, placeOf}
 use Rattle.grid.proofs.Places.{place-lt}
 use Rattle.table.specs.Cell.{View}
 use Rattle.table.specs.Sound.{limit}
-use Rattle.table.proofs.Soundness.{Sound, sums-high, squares-high, sound-total}
-use Rattle.table.proofs.Laws.{total-is}
+use Rattle.table.proofs.Soundness.{Sound, sums-high, squares-high, sound-total, total-is}
 use Rattle.sums.specs.declared.Bounds.{Bounds}
 use Rattle.sums.specs.Box.{minAt, maxAt, sum3, binSum, boxSum, Within, lowSide, highSide, InBox}
 use Rattle.sums.proofs.Boxes.{sum3-first, sum3-second, sum3-third, sum3-le, sum3-scale, sum3-term, sum3-zero}
