@@ -12,7 +12,7 @@ use Rattle.grid.specs.declared.Grid.{Grid}
 use Rattle.grid.specs.Grid.{Accepted}
 use Rattle.table.specs.Cell.{View}
 use Rattle.table.specs.Sound.{total}
-use Rattle.table.proofs.Laws.{total-is}
+use Rattle.table.proofs.Soundness.{total-is}
 use Rattle.sums.specs.declared.Bounds.{Bounds}
 use Rattle.sums.specs.Box.{boxSum, lowSide, highSide, Within}
 use Rattle.spread.specs.declared.Position.the-variants.{At, Nowhere}

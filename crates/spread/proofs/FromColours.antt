@@ -17,9 +17,9 @@ use Rattle.grid.proofs.Range.{and-left, and-right, hit, hit-no, hit-yes}
 use Rattle.grid.proofs.Places.{Bytes, colour-inside, place-lt, place-once}
 use Rattle.table.specs.Cell.{View, wide}
 use Rattle.table.specs.Sound.{limit}
-use Rattle.table.specs.Load.{Weighted, share, adds, sumOver, weightOf, loaded}
-use Rattle.table.proofs.Loading.{AllBytes, share-weight, share-sum, share-squares, load-sound, loaded-at, adds-at, over-none, over-more}
-use Rattle.table.proofs.Order.{tableOf, table-holds}
+use Rattle.loader.specs.Load.{Weighted, share, adds, sumOver, weightOf, loaded}
+use Rattle.loader.proofs.Loading.{AllBytes, share-weight, share-sum, share-squares, load-sound, loaded-at, adds-at, over-none, over-more}
+use Rattle.loader.proofs.Order.{tableOf, table-holds}
 use Rattle.table.proofs.Soundness.{zeros, zeros-total, zeros-sound}
 use Rattle.sums.specs.declared.Bounds.{Bounds}
 use Rattle.sums.specs.Box.{boxSum, Within, InBox}

@@ -11,8 +11,7 @@ use Rattle.grid.proofs.Range.{sum-zero, sum-grow, sum-le}
 use Rattle.grid.proofs.Places.{place-lt, bin-of-place}
 use Rattle.table.specs.Cell.{View}
 use Rattle.table.specs.Sound.{limit, total}
-use Rattle.table.proofs.Soundness.{Sound, number-high, sound-total}
-use Rattle.table.proofs.Laws.{total-is}
+use Rattle.table.proofs.Soundness.{Sound, number-high, sound-total, total-is}
 use Rattle.sums.specs.Box.{sum3, binSum}
 use Rattle.sums.specs.Moments.{belowSum, momentsOf, lineSum}
 use Rattle.sums.proofs.Boxes.{sum3-first, sum3-second, sum3-le, sum3-scale, all-places}

@@ -11,8 +11,7 @@ use Rattle.table.specs.declared.Cell.{Cell}
 use Rattle.table.specs.Cell.{View, minusCell, AtLeast}
 use Rattle.table.specs.Sound.{limit}
 use Rattle.table.proofs.Cells.{minus-least, minus-is}
-use Rattle.table.proofs.Soundness.{Sound, sums-high, squares-high, sound-total}
-use Rattle.table.proofs.Laws.{total-is}
+use Rattle.table.proofs.Soundness.{Sound, sums-high, squares-high, sound-total, total-is}
 use Rattle.sums.specs.declared.Bounds.{Bounds}
 use Rattle.sums.specs.Box.{minAt, maxAt, sum3, binSum, boxSum, boxCell, Spans, Within, lowSide, highSide, InBox}
 use Rattle.sums.proofs.Boxes.{sum3-first, sum3-second, sum3-third, sum3-le, sum3-scale, sum3-term, sum3-zero}

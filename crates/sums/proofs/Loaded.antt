@@ -15,8 +15,8 @@ use Rattle.grid.specs.Size.{binOf}
 use Rattle.grid.specs.Grid.{Inside, choose, placeOf, colourPlace}
 use Rattle.grid.proofs.Range.{hit, hit-yes, hit-no, sum-hit, sum-zero, sum-same}
 use Rattle.grid.proofs.Places.{Bytes, colour-inside, place-once}
-use Rattle.table.specs.Load.{Weighted, share, adds, sumOver, loaded}
-use Rattle.table.proofs.Loading.{AllBytes, loaded-at, adds-at, over-none, over-more}
+use Rattle.loader.specs.Load.{Weighted, share, adds, sumOver, loaded}
+use Rattle.loader.proofs.Loading.{AllBytes, loaded-at, adds-at, over-none, over-more}
 use Rattle.table.proofs.Soundness.{zeros}
 use Rattle.sums.specs.declared.Bounds.{Bounds}
 use Rattle.sums.specs.Box.{sum3, binSum, boxSum, Within}

@@ -14,7 +14,6 @@ use lib.Seq.{getD-set-same, getD-set-other}
 use Rattle.grid.proofs.Range.{length-list, list-at, list-is}
 use Rattle.table.specs.declared.Cell.{Cell}
 use Rattle.table.specs.Cell.{View, numberOf, cellOf, wide, wideList, putAt, plusCell, minusCell, AtLeast}
-use Rattle.table.specs.Scan.{Adds}
 
 pub number-cell : (f : ℕ → ℕ) (j : ℕ) → j < 5 → numberOf (cellOf f) j ≡ f j
 unfolding numberOf cellOf
@@ -24,6 +23,15 @@ number-cell f (suc (suc zero)) h = refl
 number-cell f (suc (suc (suc zero))) h = refl
 number-cell f (suc (suc (suc (suc zero)))) h = refl
 number-cell f (suc (suc (suc (suc (suc j))))) h = absurd (omega arith)
+
+-- the five numbers of a cell, and where a table has them
+pub cell-is : (f : ℕ → ℕ) → cellOf f ≡ record { weight = f 0; sum1 = f 1; sum2 = f 2; sum3 = f 3; squares = f 4 }
+unfolding cellOf
+cell-is f = refl
+
+pub wide-at : (t : List ℕ) (p j : ℕ) → wide t p j ≡ getD t (5 * p + j) 0
+unfolding wide
+wide-at t p j = refl
 
 pub number-plus : (c d : Cell) (j : ℕ) → j < 5 → numberOf (plusCell c d) j ≡ numberOf c j + numberOf d j
 unfolding plusCell
@@ -200,7 +208,3 @@ add-holds {n} {t} {v} h p c b =
     go : (q j : ℕ) → q < n → j < 5 → Dec (p ≡ q) → cond (eqb p q) (numberOf (plusCell (cellOf (wide t p)) c) j) (v q j) ≡ v q j + cond (eqb p q) (numberOf c j) 0
     go q j a k (yes e) = rw (eq-eqb p q e, ← e) (there j k)
     go q j a k (no d) = rw (ne-eqb p q d) (sym (add-zero (v q j)))
-
--- what can be added is what the sums of the numbers have room for
-pub adds-fit : {t : List ℕ} {p : ℕ} {c : Cell} → Adds t p c → (d : Cell) → d ≡ cellOf (wide t p) → (j : ℕ) → j < 5 → numberOf d j + numberOf c j < 2 ^ 64
-adds-fit {t} {p} {c} a d e j h = rw (e, number-cell (wide t p) j h) (a .fits j h)

@@ -9,14 +9,14 @@ use borrow.Author.Tests.{le-leb, lt-leb, leb-true}
 use lib.Dec.{leb, leb·zero, lit<}
 use Rattle.grid.specs.declared.Grid.{Grid}
 use Rattle.grid.specs.declared.Span.{Span}
-use Rattle.grid.specs.Range.{allFrom}
+use Rattle.grid.specs.Range.{sumFrom, allFrom}
+use Rattle.grid.specs.Size.{spanOf}
 use Rattle.grid.specs.Grid.{Accepted, binsOf, binAt, shiftAt, choose}
 use Rattle.grid.proofs.Range.{sum-same, sum-plus, sum-zero, term-le, and-left, and-right, all-true, all-at, all-same}
 use Rattle.grid.proofs.Size.{in-size, span-byte}
 use Rattle.grid.proofs.Places.{sized-at, bin-at-below}
 use Rattle.table.specs.declared.Cell.{Cell}
 use Rattle.table.specs.Cell.{View, numberOf}
-use Rattle.table.specs.Merge.{merged}
 use Rattle.table.specs.Sound.{limit, between, inBounds, spanAt, binSound, total, sound}
 
 -- ---- the bounds of one bin, as facts
@@ -171,10 +171,19 @@ module _ {most : ℕ} {g : Grid} {v : View} (s : Sound most g v) where
   pub squares-high : (p : ℕ) → p < binsOf g → v p 4 ≤ 195075 * v p 0
   squares-high p h = sound-keeps p h .squares
 
+-- "all weights total": the total is the sum of the weights
+pub total-is : (g : Grid) (v : View) → total g v ≡ sumFrom 0 (binsOf g) (λ p. v p 0)
+unfolding total
+total-is g v = refl
+
 -- a weight is at most the total
 pub weight-high : (g : Grid) (v : View) (p : ℕ) → p < binsOf g → v p 0 ≤ total g v
 unfolding total
 weight-high g v p h = term-le 0 (binsOf g) (λ q. v q 0) p (omega arith) (omega arith)
+
+pub span-is : (g : Grid) (p d : ℕ) → spanAt g p d ≡ spanOf (shiftAt g d) (binAt g d p)
+unfolding spanAt
+span-is g p d = refl
 
 -- the span of a place of an accepted grid is one of bytes
 pub span-at-byte : {g : Grid} → Accepted g → (p d : ℕ) → p < binsOf g → spanAt g p d .high ≤ 255
@@ -202,18 +211,3 @@ module _ {most : ℕ} {g : Grid} {v : View} (a : Accepted g) (s : Sound most g v
   -- "every total stays below 195,075 · 2^32 < 2^50"
   pub number-below : most ≤ limit → (j : ℕ) → j < 5 → v p j < 2 ^ 50
   number-below m j l = omega (arith, number-high j l, weight-high g v p h, sound-total s)
-
--- ---- merging
-pub merge-total : (g : Grid) (v u : View) → total g (merged v u) ≡ total g v + total g u
-unfolding total merged
-merge-total g v u = sum-plus 0 (binsOf g) (λ p. v p 0) (λ p. u p 0)
-
-pub merge-sound : {most : ℕ} {g : Grid} {v u : View} → Sound most g v → Sound most g u → total g v + total g u ≤ most → Sound most g (merged v u)
-unfolding merged
-merge-sound {most} {g} {v} {u} s r l =
-    sound-by most g (merged v u) (λ p h. keeps-plus (sound-keeps s p h) (sound-keeps r p h)) (omega (arith, merge-total g v u))
-
--- number j of place p, after a merge
-pub merged-at : (v u : View) (p j : ℕ) → merged v u p j ≡ v p j + u p j
-unfolding merged
-merged-at v u p j = refl

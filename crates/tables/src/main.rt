@@ -1,4 +1,4 @@
-// Runs the calls `load` and `merge` of the crate `table`, and writes for each case what the lent table holds,
+// Runs the calls `load` and `merge` of the crate `loader`, and writes for each case what the lent table holds,
 // the call with its answer, and what the table holds then.
 mod bins;
 mod loads;

@@ -60,7 +60,7 @@ pub(crate) fn load(
     text(b"  load");
     sizes(b1, b2, b3);
     batch(colours, weighted, weights);
-    answer(table::load(b1, b2, b3, lent, colours, weighted, weights));
+    answer(loader::load(b1, b2, b3, lent, colours, weighted, weights));
     show::table(b"  after:", lent);
 }
 
@@ -93,7 +93,7 @@ pub(crate) fn merge(
     show::table(b"  second:", second);
     text(b"  merge");
     sizes(b1, b2, b3);
-    answer(table::merge(b1, b2, b3, lent, second));
+    answer(loader::merge(b1, b2, b3, lent, second));
     show::table(b"  after:", lent);
 }
 

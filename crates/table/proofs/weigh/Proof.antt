@@ -61,12 +61,11 @@ returns c =
     let l = c .before .before .before .before .before .loop in
     let g = s .args .g in
     let v = wide (now (s .args .table)) in
-    let bad : c .before .before .weigh-plane .result ≡ Unsound = cc in
     sym
     (whole g v
     ∙ block-stop limit g v 0 (g .b2 * g .b3) (l .r) (g .b1) 0 (c .before .before .before .if1 .taken)
     (block-more limit g v 0 (g .b2 * g .b3) (l .r) 0 (l .total) Unsound (l .inv .1) (plane-start g (l .r))
-    (sym bad ∙ c .before .before .weigh-plane .ensures)))
+    (sym (c .enum-told .given .1) ∙ c .before .before .weigh-plane .ensures)))
 
 add-r : tie.Need-add-r Inv-loop μ-loop
 add-r c =
@@ -82,7 +81,7 @@ loop-again c =
     let l = c .before .before .before .before .before .before .loop in
     let g = s .args .g in
     let v = wide (now (s .args .table)) in
-    let good : c .before .before .before .weigh-plane .result ≡ Total (c .before .x .given .0 .0) = cc in (
+    let good : c .before .before .before .weigh-plane .result ≡ Total (c .before .x .given .0 .0) = c .before .x .given .1 in (
       omega (arith, c .before .before .before .before .if1 .taken),
       block-more limit g v 0 (g .b2 * g .b3) (l .r) 0 (l .total) (Total (c .before .x .given .0 .0)) (l .inv .1) (plane-start g (l .r))
           (sym good ∙ c .before .before .before .weigh-plane .ensures),

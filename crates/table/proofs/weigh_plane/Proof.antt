@@ -54,11 +54,10 @@ returns c =
     let l = c .before .before .before .before .before .loop in
     let g = s .args .g in
     let v = wide (now (s .args .table)) in
-    let bad : c .before .before .weigh-row .result ≡ Unsound = cc in
     sym
     (block-stop limit g v (placeOf g (s .args .r) 0 0) (g .b3) (l .gr) (g .b2) (s .args .had) (c .before .before .before .if1 .taken)
     (block-more limit g v (placeOf g (s .args .r) 0 0) (g .b3) (l .gr) (s .args .had) (l .total) Unsound (l .inv .1) (row-start g (s .args .r) (l .gr))
-    (sym bad ∙ c .before .before .weigh-row .ensures)))
+    (sym (c .enum-told .given .1) ∙ c .before .before .weigh-row .ensures)))
 
 add-gr : tie.Need-add-gr Inv-loop μ-loop
 add-gr c =
@@ -74,7 +73,7 @@ loop-again c =
     let l = c .before .before .before .before .before .before .loop in
     let g = s .args .g in
     let v = wide (now (s .args .table)) in
-    let good : c .before .before .before .weigh-row .result ≡ Total (c .before .x .given .0 .0) = cc in (
+    let good : c .before .before .before .weigh-row .result ≡ Total (c .before .x .given .0 .0) = c .before .x .given .1 in (
       omega (arith, c .before .before .before .before .if1 .taken),
       block-more limit g v (placeOf g (s .args .r) 0 0) (g .b3) (l .gr) (s .args .had) (l .total) (Total (c .before .x .given .0 .0)) (l .inv .1) (row-start g (s .args .r) (l .gr))
           (sym good ∙ c .before .before .before .weigh-row .ensures),

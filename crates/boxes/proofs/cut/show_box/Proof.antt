@@ -34,7 +34,7 @@ sides-requires c κs =
     let s = c .before .before .before .before .before .before .before in
     let p = c .before .before .dimension .given in
     let b = c .before .before .before .before in
-    let is : b .best-cut .result ≡ At (p .0 .0) (p .0 .1 .0) (p .0 .1 .1 .0) = cc in
+    let is : b .best-cut .result ≡ At (p .0 .0) (p .0 .1 .0) (p .0 .1 .1 .0) = p .1 in
     let good = answered (s .args .g) (wide (now (s .args .table))) (s .args .x) (sym (b .best-cut .ensures) ∙ is) .1 in
     (s .pre .0, s .pre .1, good .inside .0, good .inside .1)
 

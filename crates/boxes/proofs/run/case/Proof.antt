@@ -45,7 +45,7 @@ returns c = search needs
 loaded-requires : tie.Need-loaded-requires
 loaded-requires c κs =
     let k = c .before .before in
-    let is : k .before .before .before .grid-of .result ≡ Of (k .before .g .given .0 .0) = cc in
+    let is : k .before .before .before .grid-of .result ≡ Of (k .before .g .given .0 .0) = k .before .g .given .1 in
     chose _ _ _ _ (sym (k .before .before .before .grid-of .ensures) ∙ is) .accepted
 
 same-length-2 : tie.Need-same-length-2

@@ -43,7 +43,7 @@ sound-requires c κs =
     let w = k .before .before .before in
     let n = w .before in
     let bins = n .before .before in
-    let is : w .weigh .result ≡ Total (k .before .all .given .0 .0) = cc in
+    let is : w .weigh .result ≡ Total (k .before .all .given .0 .0) = k .before .all .given .1 in
     record {
       table = record { accepted = bins .before .before .before .pre; lent = n .before .if1 .left ∙ ap (λ (m : ℕ). 5 * m) (bins .bins .ensures) };
       is-sound = weighed-total limit _ _ _ (sym (w .weigh .ensures) ∙ is) .0;

@@ -1,0 +1,186 @@
+-- What a caller of load and merge may use without seeing inside their definitions: a refusal leaves all as it was, lengths
+-- stay, and where the number is 0 the grid is accepted, the tables were sound, the total fits, and each number is known.
+-- Assumes nothing.
+use mathlib.Core.Path.{_≡_, refl, sym, ap, _∙_}
+use mathlib.Core.Bool.{Bool, true, false}
+use mathlib.Core.List.{List}
+use Prim.Native.Nat.{ℕ, zero, suc, _+_, _*_, _≤_, _<_}
+use native.Mathlib.Omega.{arith}
+use borrow.Author.Tests.{eqb-true, ltb-false, not-false}
+use lib.Dec.{eqb}
+use lib.ListN.{length, getD}
+use Rattle.grid.specs.declared.Grid.{Grid}
+use Rattle.grid.specs.declared.Chosen.{Chosen}
+use Rattle.grid.specs.declared.Chosen.the-variants as chosen
+use Rattle.grid.specs.Answer.{refuse, whenDone}
+use Rattle.grid.specs.Grid.{gridOf, gridAnswer, onGrid, numberOn, binsOf}
+use Rattle.grid.proofs.Range.{and-left, and-right}
+use Rattle.grid.proofs.Places.{chose}
+use Rattle.table.specs.Cell.{View, wide, wideList}
+use Rattle.table.specs.Sound.{limit, total, sound}
+use Rattle.loader.specs.Load.{weightOf, batchOf, loaded, loadNumberOn, loadNumber, loadLater}
+use Rattle.loader.specs.Merge.{merged, mergeNumberOn, mergeNumber, mergeLater}
+use Rattle.table.proofs.Cells.{Holds, list-holds}
+use Rattle.table.proofs.Soundness.{Sound, sound-same, total-same}
+use Rattle.loader.proofs.Loading.{load-sound, load-total, all-bytes-of}
+use Rattle.loader.proofs.Merging.{merge-sound, merge-total}
+
+-- a test that did not refuse
+passed : (b : Bool) (n rest : ℕ) → refuse b (suc n) rest ≡ 0 → (b ≡ false) × (rest ≡ 0)
+unfolding refuse
+passed true n rest e = absurd (never e)
+  where
+    never : suc n ≡ 0 → ⊥
+    never q = omega arith
+passed false n rest e = (refl, e)
+
+-- ---- a call on its grid
+left-alone : (m : ℕ) (x t : List ℕ) {n : ℕ} → m ≡ suc n → whenDone m x t ≡ t
+unfolding whenDone
+left-alone m x t e = rw e refl
+
+written : (m : ℕ) (x t : List ℕ) → m ≡ 0 → whenDone m x t ≡ x
+unfolding whenDone
+written m x t e = rw e refl
+
+call-refused : (c : Chosen) (f : Grid → ℕ) (done : Grid → List ℕ) (t : List ℕ) {n : ℕ} → numberOn c f ≡ suc n → onGrid c t (λ g. whenDone (f g) (done g) t) ≡ t
+unfolding numberOn onGrid
+call-refused (chosen.Of g) f done t e = left-alone (f g) (done g) t e
+call-refused chosen.Refused f done t e = refl
+
+record OnGrid (c : Chosen) (f : Grid → ℕ) (done : Grid → List ℕ) (t : List ℕ) : Type 0 where
+  g : Grid
+  is : c ≡ chosen.Of g
+  number : f g ≡ 0
+  later : onGrid c t (λ h. whenDone (f h) (done h) t) ≡ done g
+
+call-done : (c : Chosen) (f : Grid → ℕ) (done : Grid → List ℕ) (t : List ℕ) → numberOn c f ≡ 0 → OnGrid c f done t
+unfolding numberOn onGrid gridAnswer
+call-done (chosen.Of g) f done t e = record { g = g; is = refl; number = e; later = written (f g) (done g) t e }
+call-done chosen.Refused f done t e = absurd (never e)
+  where
+    never : _≡_ {A = ℕ} 1 0 → ⊥
+    never q = omega arith
+
+-- the length after a call that, where it is done, leaves as many numbers as there were
+same-length : (n : ℕ) (t e : List ℕ) → ((m : ℕ) → n ≡ suc m → e ≡ t) → (n ≡ 0 → length e ≡ length t) → length e ≡ length t
+same-length zero t e r d = d refl
+same-length (suc n) t e r d = ap length (r n refl)
+
+-- ---- load
+module _ (b1 b2 b3 : ℕ) (t colours : List ℕ) (given : Bool) (weights : List ℕ) where
+  abbrev number : ℕ
+  number = loadNumber b1 b2 b3 t colours given weights
+
+  abbrev later : List ℕ
+  later = loadLater b1 b2 b3 t colours given weights
+
+  pub load-refused : {n : ℕ} → number ≡ suc n → later ≡ t
+  unfolding loadNumber loadLater
+  load-refused e =
+      call-refused (gridOf b1 b2 b3) (λ g. loadNumberOn limit g t colours given weights) (λ g. wideList (binsOf g) (loaded g (batchOf colours given weights) (wide t))) t e
+
+  -- what a load that is done tells
+  pub record LoadDone : Type 0 where
+    pub g : Grid
+    pub chosen : gridOf b1 b2 b3 ≡ chosen.Of g
+    pub lent : length t ≡ 5 * binsOf g
+    pub sound-before : Sound limit g (wide t)
+    pub under : total g (wide t) + weightOf (batchOf colours given weights) ≤ limit
+    pub holds : Holds (binsOf g) later (loaded g (batchOf colours given weights) (wide t))
+
+  pub load-says : number ≡ 0 → LoadDone
+  unfolding loadNumber loadLater loadNumberOn
+  load-says e =
+      let c = call-done (gridOf b1 b2 b3) (λ g. loadNumberOn limit g t colours given weights) (λ g. wideList (binsOf g) (loaded g (batchOf colours given weights) (wide t))) t e in
+      let four = passed _ 2 _ (c .number) .1 in
+      let five = passed _ 3 _ four .1 in
+      let six = passed _ 4 _ five in
+      let seven = passed _ 5 _ (six .1) in
+      let last = passed _ 6 0 (seven .1) in
+      record {
+        g = c .g;
+        chosen = c .is;
+        lent = eqb-true (length t) (5 * binsOf (c .g)) (not-false _ (six .0));
+        sound-before = record { holds = not-false _ (seven .0) };
+        under = ltb-false limit (total (c .g) (wide t) + weightOf (batchOf colours given weights)) (last .0);
+        holds = rw (c .later) (list-holds (binsOf (c .g)) (loaded (c .g) (batchOf colours given weights) (wide t)));
+      }
+
+  pub load-length : length later ≡ length t
+  load-length = same-length number t later (λ m e. load-refused e) (λ e. let d = load-says e in d .holds .lent ∙ sym (d .lent))
+
+  module _ (bytes : (k : ℕ) → getD colours k 0 < 256) (e : number ≡ 0) where
+    -- loading keeps a table sound, and the total after is the sum
+    pub load-keeps : Sound limit (load-says e .g) (wide later)
+    load-keeps =
+        let d = load-says e in
+        record {
+          holds = sound-same (d .g) (wide later) (loaded (d .g) (batchOf colours given weights) (wide t)) (d .holds .at) limit
+              ∙ load-sound (chose b1 b2 b3 (d .g) (d .chosen) .accepted) (batchOf colours given weights) (all-bytes-of colours given weights bytes) (d .sound-before) (d .under) .holds;
+        }
+
+    pub load-sum : total (load-says e .g) (wide later) ≡ total (load-says e .g) (wide t) + weightOf (batchOf colours given weights)
+    load-sum =
+        let d = load-says e in
+        total-same (d .g) (wide later) (loaded (d .g) (batchOf colours given weights) (wide t)) (d .holds .at)
+        ∙ load-total (chose b1 b2 b3 (d .g) (d .chosen) .accepted) (batchOf colours given weights) (all-bytes-of colours given weights bytes) (wide t)
+
+-- ---- merge
+module _ (b1 b2 b3 : ℕ) (t s : List ℕ) where
+  abbrev merge-number : ℕ
+  merge-number = mergeNumber b1 b2 b3 t s
+
+  abbrev merge-later : List ℕ
+  merge-later = mergeLater b1 b2 b3 t s
+
+  pub merge-refused : {n : ℕ} → merge-number ≡ suc n → merge-later ≡ t
+  unfolding mergeNumber mergeLater
+  merge-refused e =
+      call-refused (gridOf b1 b2 b3) (λ g. mergeNumberOn limit g t s) (λ g. wideList (binsOf g) (merged (wide t) (wide s))) t e
+
+  -- what a merge that is done tells
+  pub record MergeDone : Type 0 where
+    pub g : Grid
+    pub chosen : gridOf b1 b2 b3 ≡ chosen.Of g
+    pub lent : (length t ≡ 5 * binsOf g) × (length s ≡ 5 * binsOf g)
+    pub sound-before : Sound limit g (wide t) × Sound limit g (wide s)
+    pub under : total g (wide t) + total g (wide s) ≤ limit
+    pub holds : Holds (binsOf g) merge-later (merged (wide t) (wide s))
+
+  pub merge-says : merge-number ≡ 0 → MergeDone
+  unfolding mergeNumber mergeLater mergeNumberOn
+  merge-says e =
+      let c = call-done (gridOf b1 b2 b3) (λ g. mergeNumberOn limit g t s) (λ g. wideList (binsOf g) (merged (wide t) (wide s))) t e in
+      let six = passed _ 4 _ (c .number) in
+      let seven = passed _ 5 _ (six .1) in
+      let last = passed _ 6 0 (seven .1) in
+      let first : Bool = eqb (length t) (5 * binsOf (c .g)) in
+      let second : Bool = eqb (length s) (5 * binsOf (c .g)) in
+      let one : Bool = sound limit (c .g) (wide t) in
+      let two : Bool = sound limit (c .g) (wide s) in
+      record {
+        g = c .g;
+        chosen = c .is;
+        lent = (eqb-true (length t) (5 * binsOf (c .g)) (and-left first second (not-false _ (six .0))), eqb-true (length s) (5 * binsOf (c .g)) (and-right first second (not-false _ (six .0))));
+        sound-before = (record { holds = and-left one two (not-false _ (seven .0)) }, record { holds = and-right one two (not-false _ (seven .0)) });
+        under = ltb-false limit (total (c .g) (wide t) + total (c .g) (wide s)) (last .0);
+        holds = rw (c .later) (list-holds (binsOf (c .g)) (merged (wide t) (wide s)));
+      }
+
+  pub merge-length : length merge-later ≡ length t
+  merge-length = same-length merge-number t merge-later (λ m e. merge-refused e) (λ e. let d = merge-says e in d .holds .lent ∙ sym (d .lent .0))
+
+  module _ (e : merge-number ≡ 0) where
+    pub merge-keeps : Sound limit (merge-says e .g) (wide merge-later)
+    merge-keeps =
+        let d = merge-says e in
+        record {
+          holds = sound-same (d .g) (wide merge-later) (merged (wide t) (wide s)) (d .holds .at) limit
+              ∙ merge-sound (d .sound-before .0) (d .sound-before .1) (d .under) .holds;
+        }
+
+    pub merge-sum : total (merge-says e .g) (wide merge-later) ≡ total (merge-says e .g) (wide t) + total (merge-says e .g) (wide s)
+    merge-sum =
+        let d = merge-says e in
+        total-same (d .g) (wide merge-later) (merged (wide t) (wide s)) (d .holds .at) ∙ merge-total (d .g) (wide t) (wide s)

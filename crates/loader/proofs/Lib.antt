@@ -1,0 +1,6 @@
+pub mod Loading
+pub mod Merging
+pub mod Calls
+pub mod Laws
+pub mod Order
+pub mod Worked

@@ -1,0 +1,85 @@
+-- A first table into which the cells of a second are added one after the other, and that a merge keeps tables sound.
+-- Assumes nothing.
+use mathlib.Core.Path.{_≡_, refl, sym, ap, _∙_}
+use mathlib.Core.Bool.{Bool, cond}
+use mathlib.Core.List.{List}
+use Prim.Native.Nat.{ℕ, _+_, _*_, _^_, _≤_, _<_}
+use native.Mathlib.Nat.{add-zero}
+use native.Mathlib.Decide.{ℕ-discrete, decLe}
+use native.Mathlib.Omega.{arith}
+use borrow.Author.Tests.{eq-eqb, ne-eqb, lt-ltb, le-ltb}
+use lib.Dec.{eqb, ltb}
+use lib.ListN.{length}
+use Rattle.grid.specs.declared.Grid.{Grid}
+use Rattle.grid.specs.Grid.{binsOf}
+use Rattle.grid.proofs.Range.{sum-plus}
+use Rattle.table.specs.declared.Cell.{Cell}
+use Rattle.table.specs.Cell.{View, numberOf, cellOf, wide, wideList, putAt, plusCell}
+use Rattle.table.specs.Sound.{total}
+use Rattle.loader.specs.Merge.{merged}
+use Rattle.loader.specs.Step.{Adds}
+use Rattle.table.proofs.Cells.{Holds, holds-same, holds-list, holds-itself, add-holds, number-cell}
+use Rattle.table.proofs.Soundness.{keeps-plus, Sound, sound-by, sound-keeps, total-is}
+
+-- the cells before place p are added
+abbrev pub partly : ℕ → View → View → View
+partly p v u q j = v q j + cond (ltb q p) (u q j) 0
+
+pub none-added : (n : ℕ) (t : List ℕ) (u : View) → length t ≡ 5 * n → Holds n t (partly 0 (wide t) u)
+none-added n t u e =
+    holds-same (holds-itself n t e)
+    (λ q j h k. sym (ap (λ (b : Bool). wide t q j + cond b (u q j) 0) (le-ltb q 0 (omega arith)) ∙ add-zero (wide t q j)))
+
+one-more : (p q x y : ℕ) → (x + cond (ltb q p) y 0) + cond (eqb p q) y 0 ≡ x + cond (ltb q (p + 1)) y 0
+one-more p q x y = go (ℕ-discrete p q) (decLe p q)
+  where
+    go : Dec (p ≡ q) → Dec (p ≤ q) → (x + cond (ltb q p) y 0) + cond (eqb p q) y 0 ≡ x + cond (ltb q (p + 1)) y 0
+    go (yes e) d = rw (le-ltb q p (omega arith), eq-eqb p q e, lt-ltb q (p + 1) (omega arith)) (omega arith)
+    go (no e) (yes l) = rw (le-ltb q p l, ne-eqb p q e, le-ltb q (p + 1) (omega arith)) (omega arith)
+    go (no e) (no l) = rw (lt-ltb q p (omega arith), ne-eqb p q e, lt-ltb q (p + 1) (omega arith)) (omega arith)
+
+module _ {n : ℕ} {t : List ℕ} (v u : View) (p : ℕ) (h : Holds n t (partly p v u)) (l : p < n) {c : Cell} (e : c ≡ cellOf (u p)) where
+  number : (j : ℕ) → j < 5 → numberOf c j ≡ u p j
+  number j k = ap (λ (x : Cell). numberOf x j) e ∙ number-cell (u p) j k
+
+  hit-number : (q j : ℕ) → j < 5 → cond (eqb p q) (numberOf c j) 0 ≡ cond (eqb p q) (u q j) 0
+  hit-number q j k = go (ℕ-discrete p q)
+    where
+      go : Dec (p ≡ q) → cond (eqb p q) (numberOf c j) 0 ≡ cond (eqb p q) (u q j) 0
+      go (yes d) = rw (eq-eqb p q d, ← d) (number j k)
+      go (no d) = rw (ne-eqb p q d) refl
+
+  pub one-added : Holds n (putAt t p (plusCell (cellOf (wide t p)) c)) (partly (p + 1) v u)
+  one-added =
+      holds-same (add-holds h p c l)
+      (λ q j a k.
+      ap (λ (x : ℕ). (v q j + cond (ltb q p) (u q j) 0) + x) (hit-number q j k) ∙ one-more p q (v q j) (u q j))
+
+  pub can-add : ((j : ℕ) → j < 5 → v p j + u p j < 2 ^ 64) → Adds t p c
+  can-add f =
+      record {
+        cell = omega (arith, h .lent);
+        fits = λ j k.
+            rw (h .at p j l k, number j k, le-ltb p p (omega arith)) (omega (arith, f j k));
+      }
+
+pub all-added : {n : ℕ} {t : List ℕ} (v u : View) → Holds n t (partly n v u) → t ≡ wideList n (merged v u)
+unfolding merged
+all-added {n} v u h =
+    holds-list (holds-same h (λ q j a k. ap (λ (b : Bool). v q j + cond b (u q j) 0) (lt-ltb q n a)))
+
+-- ---- soundness and total
+pub merge-total : (g : Grid) (v u : View) → total g (merged v u) ≡ total g v + total g u
+unfolding merged
+merge-total g v u =
+    total-is g (merged v u) ∙ sum-plus 0 (binsOf g) (λ p. v p 0) (λ p. u p 0) ∙ (λ i. sym (total-is g v) i + sym (total-is g u) i)
+
+pub merge-sound : {most : ℕ} {g : Grid} {v u : View} → Sound most g v → Sound most g u → total g v + total g u ≤ most → Sound most g (merged v u)
+unfolding merged
+merge-sound {most} {g} {v} {u} s r l =
+    sound-by most g (merged v u) (λ p h. keeps-plus (sound-keeps s p h) (sound-keeps r p h)) (omega (arith, merge-total g v u))
+
+-- number j of place p, after a merge
+pub merged-at : (v u : View) (p j : ℕ) → merged v u p j ≡ v p j + u p j
+unfolding merged
+merged-at v u p j = refl

@@ -1,0 +1,185 @@
+-- `loader::load` meets its contract: the refusals in their order, and then the batch is added.
+-- Assumes nothing.
+use mathlib.Core.List.{List}
+use mathlib.Core.Logic.{⊎-elim}
+use mathlib.Core.Bool.{true, false, true≢false, not, _&&_}
+use mathlib.Core.Path.{_≡_, sym, ap, _∙_}
+use Prim.Native.Nat.{ℕ, _+_, _*_, _/_}
+use native.Mathlib.Omega.{arith}
+use borrow.Author.Tests.{leb-true, leb-false, not-true, not-false}
+use borrow.Author.Needs.{needs}
+use denote.Ref.{now}
+use lib.ListN.{length}
+use lib.Dec.{eqb, leb}
+use Rattle.grid.specs.declared.Chosen.the-variants.{Of}
+use Rattle.grid.specs.declared.Grid.{Grid}
+use Rattle.grid.specs.Grid.{gridOf, Accepted}
+use Rattle.grid.proofs.Places.{chose, bins-high}
+use Rattle.table.specs.declared.Weighed.the-variants.{Total, Unsound}
+use Rattle.loader.specs.Load.{Weighted, weightOf, batchOf}
+use Rattle.table.specs.Sound.{limit, total, sound}
+use Rattle.table.specs.Cell.{wide, TableOf}
+use Rattle.loader.proofs.Calls.{pairs, load-no-grid, load-not-threes, load-not-paired, load-length, load-unsound, load-over, load-done}
+use Rattle.table.proofs.Scans.{weighed-unsound, weighed-total}
+use Rattle.loader.proofs.Loading.{batch-weight}
+use Rattle.table.proofs.Soundness.{sound-total}
+use Rattle.loader.proofs.load.Statement.{statement}
+use Rattle.loader.proofs.load.Tie as tie
+
+-- the grid, once it is accepted
+abbrev grid : tie.After-known-told → Grid
+grid k = k .before .g .given .0 .0
+
+on-grid : (k : tie.After-known-told) → gridOf (k .before .before .before .before .before .before .before .args .b1) (k .before .before .before .before .before .before .before .args .b2) (k .before .before .before .before .before .before .before .args .b3) ≡ Of (grid k)
+on-grid k = sym (k .before .before .before .grid-of .ensures) ∙ k .before .g .given .1
+
+accepted : (k : tie.After-known-told) → Accepted (grid k)
+accepted k = chose _ _ _ (grid k) (on-grid k) .accepted
+
+-- one weight a colour, where weights are given
+one-each : (k : tie.Joined2) → k .before .before .before .before .before .before .before .before .before .args .weighted ≡ true → length (now (k .before .before .before .before .before .before .before .before .before .args .weights)) ≡ length (now (k .before .before .before .before .before .before .before .before .before .args .colours)) / 3
+one-each k given =
+    ⊎-elim {C = length (now (k .before .before .before .before .before .before .before .before .before .args .weights)) ≡ length (now (k .before .before .before .before .before .before .before .before .before .args .colours)) / 3}
+    (λ w. w .1 .left)
+    (λ w. absurd (true≢false (sym given ∙ w .left)))
+    (k .if2 .came)
+
+paired : (k : tie.Joined2) → (k .before .before .before .before .before .before .before .before .before .args .weighted && not (eqb (length (now (k .before .before .before .before .before .before .before .before .before .args .weights))) (length (now (k .before .before .before .before .before .before .before .before .before .args .colours)) / 3))) ≡ false
+paired k =
+    pairs (k .before .before .before .before .before .before .before .before .before .args .weighted) (length (now (k .before .before .before .before .before .before .before .before .before .args .weights))) (length (now (k .before .before .before .before .before .before .before .before .before .args .colours)) / 3) (one-each k)
+
+-- the table, once its length is right
+abbrev table : tie.Else4 → List ℕ
+table k = now (k .before .before .before .before .before .before .before .before .before .before .before .args .table)
+
+the-table : (k : tie.Else4) → TableOf (grid (k .before .before .before .before)) (table k)
+the-table k = record { accepted = accepted (k .before .before .before .before); lent = k .if4 .left ∙ ap (λ (n : ℕ). 5 * n) (k .before .bins .ensures) }
+
+-- its total, once it is sound
+abbrev had : tie.After-known-told2 → ℕ
+had k = k .before .had .given .0 .0
+
+is-sound : (k : tie.After-known-told2) → (sound limit (grid (k .before .before .before .before .before .before .before .before .before)) (wide (table (k .before .before .before .before .before))) ≡ true) × (had k ≡ total (grid (k .before .before .before .before .before .before .before .before .before)) (wide (table (k .before .before .before .before .before))))
+is-sound k =
+    weighed-total limit _ _ (had k) (sym (k .before .before .before .weigh .ensures) ∙ k .before .had .given .1)
+
+-- the test of the total is that of the definition
+abbrev batch : tie.After-batch-fits → List Weighted
+batch k = batchOf (now (k .before .before .before .before .before .before .before .before .before .before .before .before .before .before .before .before .before .args .colours)) (k .before .before .before .before .before .before .before .before .before .before .before .before .before .before .before .before .before .args .weighted) (now (k .before .before .before .before .before .before .before .before .before .before .before .before .before .before .before .before .before .args .weights))
+
+tested : (k : tie.After-batch-fits) → k .batch-fits .result ≡ leb (total (grid (k .before .before .before .before .before .before .before .before .before .before)) (wide (table (k .before .before .before .before .before .before))) + weightOf (batch k)) limit
+tested k =
+    let a = k .before .before .before .before .before .before .before .before .before .before .before .before .before .before .before .before .before .args in
+    k .batch-fits .ensures
+    ∙ (λ i. leb (is-sound (k .before) .1 i + sym (batch-weight (now (a .colours)) (a .weighted) (now (a .weights)) (one-each (k .before .before .before .before .before .before .before .before))) i) limit)
+
+grid-of-requires : tie.Need-grid-of-requires
+grid-of-requires c κs = search needs
+
+enum-known-g : tie.Need-enum-known-g
+enum-known-g c = search needs
+
+enum-told : tie.Need-enum-told
+enum-told c = search needs
+
+returns : tie.Need-returns
+returns c =
+    let a = c .before .before .before .before .before .before .args in
+    load-no-grid (a .b1) (a .b2) (a .b3) (now (a .table)) (now (a .colours)) (a .weighted) (now (a .weights)) (sym (c .before .before .grid-of .ensures) ∙ c .enum-told .given .1)
+
+returns-2 : tie.Need-returns-2
+returns-2 c =
+    let a = c .before .before .before .before .before .before .before .before .args in
+    load-not-threes (a .b1) (a .b2) (a .b3) (now (a .table)) (now (a .colours)) (a .weighted) (now (a .weights)) (on-grid (c .before)) (c .if1 .taken)
+
+returns-3 : tie.Need-returns-3
+returns-3 c =
+    let a = c .before .before .before .before .before .before .before .before .before .before .args in
+    load-not-paired (a .b1) (a .b2) (a .b3) (now (a .table)) (now (a .colours)) (a .weighted) (now (a .weights)) (on-grid (c .before .before .before)) (c .before .before .if1 .left) (c .before .if2 .taken) (c .if3 .taken)
+
+bins-requires : tie.Need-bins-requires
+bins-requires c κs = accepted (c .before .before)
+
+mul-if4 : tie.Need-mul-if4
+mul-if4 c = omega (arith, c .bins .ensures, bins-high (accepted (c .before .before .before)))
+
+returns-4 : tie.Need-returns-4
+returns-4 c =
+    let a = c .before .before .before .before .before .before .before .before .before .before .before .args in
+    load-length (a .b1) (a .b2) (a .b3) (now (a .table)) (now (a .colours)) (a .weighted) (now (a .weights)) (on-grid (c .before .before .before .before)) (c .before .before .before .if1 .left) (paired (c .before .before))
+    (λ e. c .if4 .taken (e ∙ ap (λ (n : ℕ). 5 * n) (sym (c .before .bins .ensures))))
+
+weigh-requires : tie.Need-weigh-requires
+weigh-requires c κs = the-table (c .before)
+
+enum-known-had : tie.Need-enum-known-had
+enum-known-had c = search needs
+
+enum-told-2 : tie.Need-enum-told-2
+enum-told-2 c = search needs
+
+same-length : tie.Need-same-length
+same-length c = search needs
+
+returns-5 : tie.Need-returns-5
+returns-5 c =
+    let a = c .before .before .before .before .before .before .before .before .before .before .before .before .before .before .before .args in
+    load-unsound (a .b1) (a .b2) (a .b3) (now (a .table)) (now (a .colours)) (a .weighted) (now (a .weights)) (on-grid (c .before .before .before .before .before .before .before .before)) (c .before .before .before .before .before .before .before .if1 .left) (paired (c .before .before .before .before .before .before)) (the-table (c .before .before .before .before) .lent)
+    (weighed-unsound limit _ _ (sym (c .before .before .weigh .ensures) ∙ c .enum-told2 .given .1))
+
+batch-fits-requires : tie.Need-batch-fits-requires
+batch-fits-requires c κs =
+    let f = is-sound c in
+    omega (arith, f .1, sound-total {v = wide (table (c .before .before .before .before .before))} (record { holds = f .0 }))
+
+same-length-2 : tie.Need-same-length-2
+same-length-2 c = search needs
+
+returns-6 : tie.Need-returns-6
+returns-6 c =
+    let a = c .before .before .before .before .before .before .before .before .before .before .before .before .before .before .before .before .before .before .args in
+    load-over (a .b1) (a .b2) (a .b3) (now (a .table)) (now (a .colours)) (a .weighted) (now (a .weights)) (on-grid (c .before .before .before .before .before .before .before .before .before .before .before)) (c .before .before .before .before .before .before .before .before .before .before .if1 .left) (paired (c .before .before .before .before .before .before .before .before .before)) (the-table (c .before .before .before .before .before .before .before) .lent) (is-sound (c .before .before) .0)
+    (leb-false _ _ (sym (tested (c .before)) ∙ not-true _ (c .if5 .taken)))
+
+add-colours-requires : tie.Need-add-colours-requires
+add-colours-requires c κs =
+    record {
+      table = the-table (c .before .before .before .before .before .before .before .before);
+      is-sound = is-sound (c .before .before .before) .0;
+      one-each = one-each (c .before .before .before .before .before .before .before .before .before .before);
+      under = leb-true _ _ (sym (tested (c .before .before)) ∙ not-false _ (c .before .if5 .left));
+    }
+
+same-length-3 : tie.Need-same-length-3
+same-length-3 c = search needs
+
+returns-7 : tie.Need-returns-7
+returns-7 c =
+    let a = c .before .before .before .before .before .before .before .before .before .before .before .before .before .before .before .before .before .before .before .before .before .before .args in
+    load-done (a .b1) (a .b2) (a .b3) (now (a .table)) (now (a .colours)) (a .weighted) (now (a .weights)) (on-grid (c .before .before .before .before .before .before .before .before .before .before .before .before .before .before .before)) (c .before .before .before .before .before .before .before .before .before .before .before .before .before .before .if1 .left) (paired (c .before .before .before .before .before .before .before .before .before .before .before .before .before)) (the-table (c .before .before .before .before .before .before .before .before .before .before .before) .lent) (is-sound (c .before .before .before .before .before .before) .0)
+    (leb-true _ _ (sym (tested (c .before .before .before .before .before)) ∙ not-false _ (c .before .before .before .before .if5 .left))) (c .before .before .add-colours .ensures)
+
+pub load-spec : {M : Type 1} → statement M
+load-spec =
+    tie.close
+    (tie.spec
+    grid-of-requires
+    enum-known-g
+    enum-told
+    returns
+    returns-2
+    returns-3
+    bins-requires
+    mul-if4
+    returns-4
+    weigh-requires
+    enum-known-had
+    enum-told-2
+    same-length
+    returns-5
+    batch-fits-requires
+    same-length-2
+    returns-6
+    add-colours-requires
+    same-length-3
+    returns-7)

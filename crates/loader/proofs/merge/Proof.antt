@@ -1,0 +1,212 @@
+-- `loader::merge` meets its contract: the refusals in their order, and then the cells are added.
+-- Assumes nothing.
+use mathlib.Core.Bool.{true}
+use mathlib.Core.List.{List}
+use mathlib.Core.Path.{_≡_, sym, ap, _∙_}
+use Prim.Native.Nat.{ℕ, _*_, _+_, _^_, _≤_, _<_}
+use native.Mathlib.Nat.{lt-trans}
+use native.Mathlib.Omega.{arith}
+use borrow.Author.Needs.{needs}
+use denote.Ref.{now}
+use lib.Dec.{lit<}
+use Rattle.grid.specs.declared.Chosen.the-variants.{Of}
+use Rattle.grid.specs.declared.Grid.{Grid}
+use Rattle.grid.specs.Grid.{gridOf, Accepted, binsOf}
+use Rattle.grid.proofs.Places.{chose, bins-high}
+use Rattle.table.specs.declared.Weighed.the-variants.{Total, Unsound}
+use Rattle.loader.specs.Merge.{merged}
+use Rattle.table.specs.Sound.{limit, total, sound}
+use Rattle.table.specs.Cell.{TableOf, wide}
+use Rattle.table.proofs.Scans.{weighed-unsound, weighed-total}
+use Rattle.table.proofs.Soundness.{sound-total, number-below}
+use Rattle.loader.proofs.Merging.{merge-sound}
+use Rattle.loader.proofs.Calls.{merge-no-grid, merge-first-length, merge-second-length, merge-first-unsound, merge-second-unsound, merge-over, merge-done}
+use Rattle.loader.proofs.merge.Statement.{statement}
+use Rattle.loader.proofs.merge.Tie as tie
+
+-- the grid, once it is accepted
+abbrev grid : tie.After-known-told → Grid
+grid k = k .before .g .given .0 .0
+
+on-grid : (k : tie.After-known-told) → gridOf (k .before .before .before .before .before .before .args .b1) (k .before .before .before .before .before .before .args .b2) (k .before .before .before .before .before .before .args .b3) ≡ Of (grid k)
+on-grid k = sym (k .before .before .before .grid-of .ensures) ∙ k .before .g .given .1
+
+accepted : (k : tie.After-known-told) → Accepted (grid k)
+accepted k = chose _ _ _ (grid k) (on-grid k) .accepted
+
+-- the tables, once their lengths are right
+abbrev first : tie.Else2 → List ℕ
+first k = now (k .before .before .before .before .before .before .before .before .before .args .table)
+
+abbrev second : tie.Else2 → List ℕ
+second k = now (k .before .before .before .before .before .before .before .before .before .args .second)
+
+numbers : (k : tie.Else2) → 5 * k .before .before .bins .result ≡ 5 * binsOf (grid (k .before .before .before))
+numbers k = ap (λ (n : ℕ). 5 * n) (k .before .before .bins .ensures)
+
+first-table : (k : tie.Else2) → TableOf (grid (k .before .before .before)) (first k)
+first-table k = record { accepted = accepted (k .before .before .before); lent = k .before .if1 .left ∙ numbers k }
+
+second-table : (k : tie.Else2) → TableOf (grid (k .before .before .before)) (second k)
+second-table k = record { accepted = accepted (k .before .before .before); lent = k .if2 .left ∙ numbers k }
+
+-- the totals, once both tables are sound
+abbrev had : tie.After-known-told2 → ℕ
+had k = k .before .had .given .0 .0
+
+abbrev more : tie.After-known-told3 → ℕ
+more k = k .before .more .given .0 .0
+
+first-sound : (k : tie.After-known-told2) → (sound limit (grid (k .before .before .before .before .before .before .before .before)) (wide (first (k .before .before .before .before .before))) ≡ true) × (had k ≡ total (grid (k .before .before .before .before .before .before .before .before)) (wide (first (k .before .before .before .before .before))))
+first-sound k =
+    weighed-total limit _ _ (had k) (sym (k .before .before .before .weigh .ensures) ∙ k .before .had .given .1)
+
+under : (k : tie.After-known-told2) → had k ≤ limit
+under k =
+    let f = first-sound k in
+    omega (arith, f .1, sound-total {v = wide (first (k .before .before .before .before .before))} (record { holds = f .0 }))
+
+second-sound : (k : tie.After-known-told3) → (sound limit (grid (k .before .before .before .before .before .before .before .before .before .before .before .before)) (wide (second (k .before .before .before .before .before .before .before .before .before))) ≡ true) × (more k ≡ total (grid (k .before .before .before .before .before .before .before .before .before .before .before .before)) (wide (second (k .before .before .before .before .before .before .before .before .before))))
+second-sound k =
+    weighed-total limit _ _ (more k) (sym (k .before .before .before .weigh2 .ensures) ∙ k .before .more .given .1)
+
+-- a merge whose total fits leaves no number that a u64 can't hold
+room : (g : Grid) (t s : List ℕ) → Accepted g → sound limit g (wide t) ≡ true → sound limit g (wide s) ≡ true → total g (wide t) + total g (wide s) ≤ limit → (p j : ℕ) → p < binsOf g → j < 5 → wide t p j + wide s p j < 2 ^ 64
+unfolding merged
+room g t s a u v l p j h k =
+    lt-trans (number-below a (merge-sound (record { holds = u }) (record { holds = v }) l) p h (omega arith) j k) (lit< tt)
+
+grid-of-requires : tie.Need-grid-of-requires
+grid-of-requires c κs = search needs
+
+enum-known-g : tie.Need-enum-known-g
+enum-known-g c = search needs
+
+enum-told : tie.Need-enum-told
+enum-told c = search needs
+
+returns : tie.Need-returns
+returns c = let a = c .before .before .before .before .before .args in merge-no-grid (a .b1) (a .b2) (a .b3) (now (a .table)) (now (a .second)) (sym (c .before .before .grid-of .ensures) ∙ c .enum-told .given .1)
+
+bins-requires : tie.Need-bins-requires
+bins-requires c κs = accepted c
+
+mul-numbers : tie.Need-mul-numbers
+mul-numbers c = omega (arith, c .bins .ensures, bins-high (accepted (c .before)))
+
+returns-2 : tie.Need-returns-2
+returns-2 c =
+    let a = c .before .before .before .before .before .before .before .before .args in
+    merge-first-length (a .b1) (a .b2) (a .b3) (now (a .table)) (now (a .second)) (on-grid (c .before .before))
+    (λ e. c .if1 .taken (e ∙ ap (λ (n : ℕ). 5 * n) (sym (c .before .bins .ensures))))
+
+returns-3 : tie.Need-returns-3
+returns-3 c =
+    let a = c .before .before .before .before .before .before .before .before .before .args in
+    let size = ap (λ (n : ℕ). 5 * n) (c .before .before .bins .ensures) in
+    merge-second-length (a .b1) (a .b2) (a .b3) (now (a .table)) (now (a .second)) (on-grid (c .before .before .before)) (c .before .if1 .left ∙ size)
+    (λ e. c .if2 .taken (e ∙ sym size))
+
+weigh-requires : tie.Need-weigh-requires
+weigh-requires c κs = first-table (c .before)
+
+enum-known-had : tie.Need-enum-known-had
+enum-known-had c = search needs
+
+enum-told-2 : tie.Need-enum-told-2
+enum-told-2 c = search needs
+
+same-length : tie.Need-same-length
+same-length c = search needs
+
+returns-4 : tie.Need-returns-4
+returns-4 c =
+    let a = c .before .before .before .before .before .before .before .before .before .before .before .before .before .args in
+    let k = c .before .before .before .before in
+    merge-first-unsound (a .b1) (a .b2) (a .b3) (now (a .table)) (now (a .second)) (on-grid (k .before .before .before)) (first-table k .lent) (second-table k .lent)
+    (weighed-unsound limit _ _ (sym (c .before .before .weigh .ensures) ∙ c .enum-told2 .given .1))
+
+weigh-requires-2 : tie.Need-weigh-requires-2
+weigh-requires-2 c κs = second-table (c .before .before .before .before .before)
+
+enum-known-more : tie.Need-enum-known-more
+enum-known-more c = search needs
+
+enum-told-3 : tie.Need-enum-told-3
+enum-told-3 c = search needs
+
+same-length-2 : tie.Need-same-length-2
+same-length-2 c = search needs
+
+returns-5 : tie.Need-returns-5
+returns-5 c =
+    let a = c .before .before .before .before .before .before .before .before .before .before .before .before .before .before .before .before .before .args in
+    let k = c .before .before .before .before .before .before .before .before in
+    merge-second-unsound (a .b1) (a .b2) (a .b3) (now (a .table)) (now (a .second)) (on-grid (k .before .before .before)) (first-table k .lent) (second-table k .lent)
+    (first-sound (c .before .before .before) .0)
+    (weighed-unsound limit _ _ (sym (c .before .before .weigh2 .ensures) ∙ c .enum-told3 .given .1))
+
+sub-if3 : tie.Need-sub-if3
+sub-if3 c = under (c .before .before .before .before)
+
+same-length-3 : tie.Need-same-length-3
+same-length-3 c = search needs
+
+returns-6 : tie.Need-returns-6
+returns-6 c =
+    let a = c .before .before .before .before .before .before .before .before .before .before .before .before .before .before .before .before .before .before .before .args in
+    let k = c .before .before .before .before .before .before .before .before .before .before in
+    let f = first-sound (c .before .before .before .before .before) in
+    let s = second-sound (c .before) in
+    merge-over (a .b1) (a .b2) (a .b3) (now (a .table)) (now (a .second)) (on-grid (k .before .before .before)) (first-table k .lent) (second-table k .lent)
+    (f .0) (s .0) (omega (arith, f .1, s .1, c .if3 .taken))
+
+add-cells-requires : tie.Need-add-cells-requires
+add-cells-requires c κs =
+    let k = c .before .before .before .before .before .before .before .before .before .before .before in
+    let f = first-sound (c .before .before .before .before .before .before) in
+    let s = second-sound (c .before .before) in (
+      (first-table k, second-table k),
+      room (grid (k .before .before .before)) (first k) (second k) (accepted (k .before .before .before)) (f .0) (s .0) (omega (arith, f .1, s .1, c .before .if3 .left, under (c .before .before .before .before .before .before))),
+    )
+
+same-length-4 : tie.Need-same-length-4
+same-length-4 c = search needs
+
+returns-7 : tie.Need-returns-7
+returns-7 c =
+    let a = c .before .before .before .before .before .before .before .before .before .before .before .before .before .before .before .before .before .before .before .before .before .before .before .args in
+    let k = c .before .before .before .before .before .before .before .before .before .before .before .before .before .before in
+    let f = first-sound (c .before .before .before .before .before .before .before .before .before) in
+    let s = second-sound (c .before .before .before .before .before) in
+    merge-done (a .b1) (a .b2) (a .b3) (now (a .table)) (now (a .second)) (on-grid (k .before .before .before)) (first-table k .lent) (second-table k .lent)
+    (f .0) (s .0) (omega (arith, f .1, s .1, c .before .before .before .before .if3 .left, under (c .before .before .before .before .before .before .before .before .before))) (c .before .before .add-cells .ensures)
+
+pub merge-spec : {M : Type 1} → statement M
+merge-spec =
+    tie.close
+    (tie.spec
+    grid-of-requires
+    enum-known-g
+    enum-told
+    returns
+    bins-requires
+    mul-numbers
+    returns-2
+    returns-3
+    weigh-requires
+    enum-known-had
+    enum-told-2
+    same-length
+    returns-4
+    weigh-requires-2
+    enum-known-more
+    enum-told-3
+    same-length-2
+    returns-5
+    sub-if3
+    same-length-3
+    returns-6
+    add-cells-requires
+    same-length-4
+    returns-7)

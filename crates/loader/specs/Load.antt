@@ -1,0 +1,72 @@
+-- Loading (document 01, "Load" and "Numbers a caller gets back"). Definitions only.
+use mathlib.Core.Bool.{Bool, not, _&&_, cond}
+use mathlib.Core.List.{List, [], _∷_}
+use Prim.Native.Nat.{ℕ, zero, suc, _+_, _*_, _/_, _%_}
+use lib.Dec.{eqb, ltb}
+use lib.ListN.{length, getD}
+use Rattle.grid.specs.declared.Grid.{Grid}
+use Rattle.grid.specs.declared.Rgb.{Rgb}
+use Rattle.grid.specs.Answer.{refuse, whenDone}
+use Rattle.grid.specs.Range.{listFrom}
+use Rattle.grid.specs.Grid.{gridOf, onGrid, numberOn, binsOf, colourAt, colourPlace}
+use Rattle.table.specs.Cell.{View, wide, wideList}
+use Rattle.table.specs.Sound.{limit, total, sound}
+
+-- a colour with a weight as large as wanted
+pub record Weighted : Type 0 where
+  pub colour : Rgb
+  pub weight : ℕ
+
+-- "Each colour adds its weight w to n, w·c to each sum, w·(c1²+c2²+c3²) to the squares"
+unfoldable pub share : Weighted → ℕ → ℕ
+share c zero = c .weight
+share c (suc zero) = c .weight * c .colour .c1
+share c (suc (suc zero)) = c .weight * c .colour .c2
+share c (suc (suc (suc zero))) = c .weight * c .colour .c3
+share c (suc (suc (suc (suc j)))) =
+    c .weight * (c .colour .c1 * c .colour .c1 + c .colour .c2 * c .colour .c2 + c .colour .c3 * c .colour .c3)
+
+-- that, to its own bin
+unfoldable pub adds : Grid → Weighted → View
+adds g c p j = cond (eqb (colourPlace g (c .colour)) p) (share c j) 0
+
+unfoldable pub sumOver : List Weighted → (Weighted → ℕ) → ℕ
+sumOver [] f = 0
+sumOver (c ∷ cs) f = f c + sumOver cs f
+
+unfoldable pub weightOf : List Weighted → ℕ
+weightOf cs = sumOver cs (λ c. c .weight)
+
+-- a view after a list of colours is loaded
+unfoldable pub loaded : Grid → List Weighted → View → View
+loaded g cs v p j = v p j + sumOver cs (λ c. adds g c p j)
+
+-- colour i of a batch: "its weight (.. 1 when none is given, whatever list is lent)"
+unfoldable pub weightedAt : List ℕ → Bool → List ℕ → ℕ → Weighted
+weightedAt colours given weights i =
+    record { colour = colourAt colours i; weight = cond given (getD weights i 0) 1 }
+
+-- the colours of a batch
+unfoldable pub batchOf : List ℕ → Bool → List ℕ → List Weighted
+batchOf colours given weights = listFrom 0 (length colours / 3) (weightedAt colours given weights)
+
+-- the number of a load on an accepted grid
+unfoldable pub loadNumberOn : ℕ → Grid → List ℕ → List ℕ → Bool → List ℕ → ℕ
+loadNumberOn most g t colours given weights =
+    refuse (not (eqb (length colours % 3) 0)) 3
+    (refuse (given && not (eqb (length weights) (length colours / 3))) 4
+    (refuse (not (eqb (length t) (5 * binsOf g))) 5
+    (refuse (not (sound most g (wide t))) 6
+    (refuse (ltb most (total g (wide t) + weightOf (batchOf colours given weights))) 7 0))))
+
+unfoldable pub loadNumber : ℕ → ℕ → ℕ → List ℕ → List ℕ → Bool → List ℕ → ℕ
+loadNumber b1 b2 b3 t colours given weights =
+    numberOn (gridOf b1 b2 b3) (λ g. loadNumberOn limit g t colours given weights)
+
+-- the table after a load: "A refusal .. writes nothing"
+unfoldable pub loadLater : ℕ → ℕ → ℕ → List ℕ → List ℕ → Bool → List ℕ → List ℕ
+loadLater b1 b2 b3 t colours given weights =
+    onGrid (gridOf b1 b2 b3) t
+    (λ g. whenDone (loadNumberOn limit g t colours given weights)
+    (wideList (binsOf g) (loaded g (batchOf colours given weights) (wide t)))
+    t)

@@ -1,0 +1,31 @@
+-- Merging (document 01, "Merge" and "Numbers a caller gets back"). Definitions only.
+use mathlib.Core.Bool.{not, _&&_}
+use mathlib.Core.List.{List}
+use Prim.Native.Nat.{ℕ, _+_, _*_}
+use lib.Dec.{eqb, ltb}
+use lib.ListN.{length}
+use Rattle.grid.specs.declared.Grid.{Grid}
+use Rattle.grid.specs.Answer.{refuse, whenDone}
+use Rattle.grid.specs.Grid.{gridOf, onGrid, numberOn, binsOf}
+use Rattle.table.specs.Cell.{View, wide, wideList}
+use Rattle.table.specs.Sound.{limit, total, sound}
+
+-- "Merge adds a second table into a first, number by number"
+unfoldable pub merged : View → View → View
+merged v u p j = v p j + u p j
+
+-- the number of a merge on an accepted grid; "either table unsound is 6"
+unfoldable pub mergeNumberOn : ℕ → Grid → List ℕ → List ℕ → ℕ
+mergeNumberOn most g t s =
+    refuse (not (eqb (length t) (5 * binsOf g) && eqb (length s) (5 * binsOf g))) 5
+    (refuse (not (sound most g (wide t) && sound most g (wide s))) 6
+    (refuse (ltb most (total g (wide t) + total g (wide s))) 7 0))
+
+unfoldable pub mergeNumber : ℕ → ℕ → ℕ → List ℕ → List ℕ → ℕ
+mergeNumber b1 b2 b3 t s = numberOn (gridOf b1 b2 b3) (λ g. mergeNumberOn limit g t s)
+
+-- the first table after a merge
+unfoldable pub mergeLater : ℕ → ℕ → ℕ → List ℕ → List ℕ → List ℕ
+mergeLater b1 b2 b3 t s =
+    onGrid (gridOf b1 b2 b3) t
+    (λ g. whenDone (mergeNumberOn limit g t s) (wideList (binsOf g) (merged (wide t) (wide s))) t)

@@ -1,0 +1,29 @@
+-- The steps of loading and merging, as the crate's own functions are told. Definitions only.
+use mathlib.Core.Path.{_≡_}
+use mathlib.Core.Bool.{Bool, true}
+use mathlib.Core.List.{List}
+use Prim.Native.Nat.{ℕ, _+_, _*_, _/_, _^_, _≤_, _<_}
+use lib.ListN.{length}
+use Rattle.grid.specs.declared.Grid.{Grid}
+use Rattle.grid.specs.Grid.{colourPlace}
+use Rattle.table.specs.declared.Cell.{Cell}
+use Rattle.table.specs.Cell.{wide, numberOf, cellOf, plusCell, putAt, TableOf}
+use Rattle.table.specs.Sound.{limit, sound, total}
+use Rattle.loader.specs.Load.{Weighted, share, weightOf, batchOf}
+
+-- a table with one colour added
+unfoldable pub withColour : Grid → List ℕ → Weighted → List ℕ
+withColour g t c =
+    putAt t (colourPlace g (c .colour)) (plusCell (cellOf (wide t (colourPlace g (c .colour)))) (cellOf (share c)))
+
+-- a cell can be added at a place
+pub record Adds (t : List ℕ) (p : ℕ) (c : Cell) : Type 0 where
+  pub cell : 5 * p + 5 ≤ length t
+  pub fits : (j : ℕ) → j < 5 → wide t p j + numberOf c j < 2 ^ 64
+
+-- a batch can be added to a sound table: one weight a colour where weights are given, and the total fits
+pub record Fits (g : Grid) (t colours : List ℕ) (given : Bool) (weights : List ℕ) : Type 0 where
+  pub table : TableOf g t
+  pub is-sound : sound limit g (wide t) ≡ true
+  pub one-each : given ≡ true → length weights ≡ length colours / 3
+  pub under : total g (wide t) + weightOf (batchOf colours given weights) ≤ limit
