@@ -1,0 +1,147 @@
+-- Palette and counts: the mean of a component, and one box after the other.
+-- Assumes nothing.
+use mathlib.Core.Path.{_≡_, refl, sym, ap, _∙_}
+use mathlib.Core.List.{List, [], _∷_, _++_, append-assoc}
+use Prim.Native.Nat.{ℕ, suc, _+_, _*_, _/_, _≤_, _<_}
+use native.Mathlib.Nat.{zero-add, suc-add, div-mul-le-self, lt-div-mul-add, div-lt-iff-lt-mul, add-mul, one-mul}
+use native.Mathlib.Numerals.{add-one}
+use native.Mathlib.Omega.{arith}
+use borrow.Author.Tests.{le-ltb}
+use lib.ListN.{length, getD, take, drop, set, length-append, length-drop, length-map}
+use lib.Seq.{drop-cons, take-at, set-at}
+use Rattle.grid.specs.declared.Grid.{Grid}
+use Rattle.grid.specs.declared.Rgb.{Rgb}
+use Rattle.table.specs.Cell.{View}
+use Rattle.table.specs.Sound.{limit}
+use Rattle.table.proofs.Soundness.{Sound}
+use Rattle.sums.specs.declared.Bounds.{Bounds}
+use Rattle.sums.specs.Box.{boxSum, statsOf, Within}
+use Rattle.sums.proofs.Laws.{box-sums-high}
+use Rattle.cutter.specs.Palette.{meanOf, colourOf, countOf, bytesOf, coloursOf, countsOf, paletteLater, countsLater, frontOf, statsColour, Coloured, withColourAt}
+
+-- ---- the mean
+-- colour·n ≤ sum < (colour + 1)·n
+pub mean-low : (sum n : ℕ) → meanOf sum n * n ≤ sum
+unfolding meanOf
+mean-low sum n = div-mul-le-self sum n
+
+pub mean-high : (sum n : ℕ) → 0 < n → sum < (meanOf sum n + 1) * n
+unfolding meanOf
+mean-high sum n h = omega (arith, lt-div-mul-add {a = sum} {b = n} h, add-mul (sum / n) 1 n, one-mul n)
+
+pub mean-byte : (sum n : ℕ) → 0 < n → sum ≤ 255 * n → meanOf sum n < 256
+unfolding meanOf
+mean-byte sum n h l = div-lt-iff-lt-mul {k = n} {x = sum} {y = 256} h .1 (omega arith)
+
+-- ---- the statistics of a box
+pub stats-colour : (g : Grid) (v : View) (x : Bounds) → statsColour (statsOf g v x) ≡ colourOf g v x
+unfolding statsColour statsOf colourOf
+stats-colour g v x = refl
+
+pub stats-count : (g : Grid) (v : View) (x : Bounds) → statsOf g v x .weight ≡ countOf g v x
+unfolding statsOf countOf
+stats-count g v x = refl
+
+-- those of a box of a sound table that is not empty give a colour
+pub stats-coloured : {g : Grid} {v : View} → Sound limit g v → {x : Bounds} → Within g x → 0 < boxSum g v x 0 → Coloured (statsOf g v x)
+unfolding statsOf
+stats-coloured s w h =
+    record {
+      some = h;
+      one = box-sums-high s w 0 (omega arith);
+      two = box-sums-high s w 1 (omega arith);
+      three = box-sums-high s w 2 (omega arith);
+    }
+
+-- ---- lists
+set-past : (xs ys : List ℕ) (k a : ℕ) → set (xs ++ ys) (length xs + k) a ≡ xs ++ set ys k a
+set-past [] ys k a = ap (λ (n : ℕ). set ys n a) (zero-add k)
+set-past (x ∷ xs) ys k a =
+    ap (λ (n : ℕ). set (x ∷ (xs ++ ys)) n a) (suc-add (length xs) k) ∙ ap (λ (l : List ℕ). x ∷ l) (set-past xs ys k a)
+
+-- the three bytes of place n, and those after them
+three-bytes : (old : List ℕ) (n : ℕ) → 3 * n + 3 ≤ length old → drop (3 * n) old ≡ getD old (3 * n) 0 ∷ getD old (suc (3 * n)) 0 ∷ getD old (suc (suc (3 * n))) 0 ∷ drop (3 * (n + 1)) old
+three-bytes old n h =
+    drop-cons old (3 * n) 0 (omega arith)
+    ∙ ap (λ (l : List ℕ). getD old (3 * n) 0 ∷ l)
+    (drop-cons old (suc (3 * n)) 0 (omega arith)
+    ∙ ap (λ (l : List ℕ). getD old (suc (3 * n)) 0 ∷ l)
+    (drop-cons old (suc (suc (3 * n))) 0 (omega arith)
+    ∙ ap (λ (k : ℕ). getD old (suc (suc (3 * n))) 0 ∷ drop k old) (after n)))
+  where
+    after : (n : ℕ) → suc (suc (suc (3 * n))) ≡ 3 * (n + 1)
+    after n = omega arith
+
+-- a colour in the place of three bytes
+three-set : (front : List ℕ) (i a b d : ℕ) (after : List ℕ) (c : Rgb) → length front ≡ 3 * i → withColourAt (front ++ (a ∷ b ∷ d ∷ after)) i c ≡ front ++ (bytesOf c ++ after)
+unfolding withColourAt bytesOf
+three-set front i a b d after c e =
+    rw (← e)
+    (ap (λ (l : List ℕ). set (set l (length front + 1) (c .c2)) (length front + 2) (c .c3)) (set-at front a (b ∷ d ∷ after) (c .c1) (length front) refl)
+    ∙ ap (λ (l : List ℕ). set l (length front + 2) (c .c3)) (set-past front (c .c1 ∷ b ∷ d ∷ after) 1 (c .c2))
+    ∙ set-past front (c .c1 ∷ c .c2 ∷ d ∷ after) 2 (c .c3))
+
+module _ (g : Grid) (v : View) where
+  pub length-colours : (xs : List Bounds) → length (coloursOf g v xs) ≡ 3 * length xs
+  unfolding coloursOf bytesOf
+  length-colours [] = refl
+  length-colours (x ∷ xs) = omega (arith, length-colours xs)
+
+  pub length-counts : (xs : List Bounds) → length (countsOf g v xs) ≡ length xs
+  unfolding countsOf
+  length-counts xs = length-map xs (countOf g v)
+
+  colours-of-more : (xs : List Bounds) (x : Bounds) → coloursOf g v (xs ++ (x ∷ [])) ≡ coloursOf g v xs ++ bytesOf (colourOf g v x)
+  unfolding coloursOf bytesOf
+  colours-of-more [] x = refl
+  colours-of-more (y ∷ xs) x = ap (λ (l : List ℕ). bytesOf (colourOf g v y) ++ l) (colours-of-more xs x)
+
+  counts-of-more : (xs : List Bounds) (x : Bounds) → countsOf g v (xs ++ (x ∷ [])) ≡ countsOf g v xs ++ (countOf g v x ∷ [])
+  unfolding countsOf
+  counts-of-more [] x = refl
+  counts-of-more (y ∷ xs) x = ap (λ (l : List ℕ). countOf g v y ∷ l) (counts-of-more xs x)
+
+  -- ---- one box more
+  pub palette-none : (old : List ℕ) → paletteLater g v [] old ≡ old
+  unfolding paletteLater coloursOf
+  palette-none old = refl
+
+  pub palette-more : (xs : List Bounds) (x : Bounds) (old : List ℕ) → 3 * length xs + 3 ≤ length old → paletteLater g v (xs ++ (x ∷ [])) old ≡ withColourAt (paletteLater g v xs old) (length xs) (colourOf g v x)
+  unfolding paletteLater
+  palette-more xs x old h =
+      (λ k. colours-of-more xs x k ++ drop (3 * length-append xs (x ∷ []) k) old)
+      ∙ append-assoc (coloursOf g v xs) (bytesOf (colourOf g v x)) (drop (3 * (length xs + 1)) old)
+      ∙ sym (three-set (coloursOf g v xs) (length xs) _ _ _ (drop (3 * (length xs + 1)) old) (colourOf g v x) (length-colours xs))
+      ∙ ap (λ (l : List ℕ). withColourAt (coloursOf g v xs ++ l) (length xs) (colourOf g v x)) (sym (three-bytes old (length xs) h))
+
+  pub length-palette : (xs : List Bounds) (old : List ℕ) → 3 * length xs ≤ length old → length (paletteLater g v xs old) ≡ length old
+  unfolding paletteLater
+  length-palette xs old h = simp (length-append, length-drop, length-colours) (omega arith)
+
+  pub counts-none : (old : List ℕ) → countsLater g v [] old ≡ old
+  unfolding countsLater countsOf
+  counts-none old = refl
+
+  pub counts-more : (xs : List Bounds) (x : Bounds) (old : List ℕ) → length xs < length old → countsLater g v (xs ++ (x ∷ [])) old ≡ set (countsLater g v xs old) (length xs) (countOf g v x)
+  unfolding countsLater
+  counts-more xs x old h =
+      (λ k. counts-of-more xs x k ++ drop (length-append xs (x ∷ []) k) old)
+      ∙ append-assoc (countsOf g v xs) (countOf g v x ∷ []) (drop (length xs + 1) old)
+      ∙ ap (λ (n : ℕ). countsOf g v xs ++ (countOf g v x ∷ drop n old)) (add-one (length xs))
+      ∙ sym (set-at (countsOf g v xs) (getD old (length xs) 0) (drop (suc (length xs)) old) (countOf g v x) (length xs) (length-counts xs))
+      ∙ ap (λ (l : List ℕ). set (countsOf g v xs ++ l) (length xs) (countOf g v x)) (sym (drop-cons old (length xs) 0 h))
+
+  pub length-counts-later : (xs : List Bounds) (old : List ℕ) → length xs ≤ length old → length (countsLater g v xs old) ≡ length old
+  unfolding countsLater
+  length-counts-later xs old h = simp (length-append, length-drop, length-counts) (omega arith)
+
+  taken : (xs : List Bounds) (old : List ℕ) → take (3 * length xs) (paletteLater g v xs old) ≡ coloursOf g v xs
+  unfolding paletteLater
+  taken xs old = take-at (coloursOf g v xs) (drop (3 * length xs) old) (3 * length xs) (length-colours xs)
+
+  -- the filled front is the colours of the boxes
+  pub front-filled : (xs : List Bounds) (old : List ℕ) → 3 * length xs ≤ length old → frontOf (paletteLater g v xs old) (length xs) ≡ coloursOf g v xs
+  unfolding frontOf
+  front-filled xs old h =
+      rw (le-ltb (length (paletteLater g v xs old)) (3 * length xs) (omega (arith, length-palette xs old h)))
+      (taken xs old)

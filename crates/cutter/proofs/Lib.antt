@@ -1,0 +1,4 @@
+pub mod Held
+pub mod Filled
+pub mod Maps
+pub mod Colours
