@@ -2,15 +2,16 @@
 -- Assumes nothing.
 use mathlib.Core.Path.{_≡_, refl, sym, ap, _∙_}
 use mathlib.Core.List.{List, [], _∷_, _++_, append-assoc}
-use Prim.Native.Nat.{ℕ, suc, _+_, _*_, _/_, _≤_, _<_}
+use Prim.Native.Nat.{ℕ, zero, suc, _+_, _*_, _/_, _≤_, _<_}
 use native.Mathlib.Nat.{zero-add, suc-add, div-mul-le-self, lt-div-mul-add, div-lt-iff-lt-mul, add-mul, one-mul}
 use native.Mathlib.Numerals.{add-one}
 use native.Mathlib.Omega.{arith}
 use borrow.Author.Tests.{le-ltb}
 use lib.ListN.{length, getD, take, drop, set, length-append, length-drop, length-map}
-use lib.Seq.{drop-cons, take-at, set-at}
+use lib.Seq.{drop-cons, take-at, set-at, getD-append-add, getD-drop}
 use Rattle.grid.specs.declared.Grid.{Grid}
 use Rattle.grid.specs.declared.Rgb.{Rgb}
+use Rattle.grid.specs.Grid.{colourAt}
 use Rattle.table.specs.Cell.{View}
 use Rattle.table.specs.Sound.{limit}
 use Rattle.table.proofs.Soundness.{Sound}
@@ -145,3 +146,69 @@ module _ (g : Grid) (v : View) where
   front-filled xs old h =
       rw (le-ltb (length (paletteLater g v xs old)) (3 * length xs) (omega (arith, length-palette xs old h)))
       (taken xs old)
+
+  -- ---- what stands where
+  colour-first : (c : Rgb) (rest : List ℕ) → colourAt (bytesOf c ++ rest) 0 ≡ c
+  unfolding colourAt bytesOf
+  colour-first c rest = refl
+
+  colour-next : (c : Rgb) (rest : List ℕ) (i : ℕ) → colourAt (bytesOf c ++ rest) (suc i) ≡ colourAt rest i
+  unfolding colourAt bytesOf
+  colour-next c rest i =
+      λ k.
+      record {
+        c1 = getD (c .c1 ∷ c .c2 ∷ c .c3 ∷ rest) (three i k) 0;
+        c2 = getD (c .c1 ∷ c .c2 ∷ c .c3 ∷ rest) (four i k) 0;
+        c3 = getD (c .c1 ∷ c .c2 ∷ c .c3 ∷ rest) (five i k) 0;
+      }
+    where
+      three : (i : ℕ) → 3 * suc i ≡ suc (suc (suc (3 * i)))
+      three i = omega arith
+
+      four : (i : ℕ) → 3 * suc i + 1 ≡ suc (suc (suc (3 * i + 1)))
+      four i = omega arith
+
+      five : (i : ℕ) → 3 * suc i + 2 ≡ suc (suc (suc (3 * i + 2)))
+      five i = omega arith
+
+  colour-in : (xs : List Bounds) (rest : List ℕ) (i : ℕ) (none : Bounds) → i < length xs → colourAt (coloursOf g v xs ++ rest) i ≡ colourOf g v (getD xs i none)
+  unfolding coloursOf
+  colour-in [] rest i none h = absurd (omega arith)
+  colour-in (x ∷ xs) rest zero none h =
+      ap (λ (l : List ℕ). colourAt l 0) (append-assoc (bytesOf (colourOf g v x)) (coloursOf g v xs) rest)
+      ∙ colour-first (colourOf g v x) (coloursOf g v xs ++ rest)
+  colour-in (x ∷ xs) rest (suc i) none h =
+      ap (λ (l : List ℕ). colourAt l (suc i)) (append-assoc (bytesOf (colourOf g v x)) (coloursOf g v xs) rest)
+      ∙ colour-next (colourOf g v x) (coloursOf g v xs ++ rest) i
+      ∙ colour-in xs rest i none (omega arith)
+
+  -- colour i of the palette is that of box i
+  pub palette-at : (xs : List Bounds) (old : List ℕ) (i : ℕ) (none : Bounds) → i < length xs → colourAt (paletteLater g v xs old) i ≡ colourOf g v (getD xs i none)
+  unfolding paletteLater
+  palette-at xs old i none h = colour-in xs (drop (3 * length xs) old) i none h
+
+  -- "Places past the filled front of palette and counts stay"
+  pub palette-past : (xs : List Bounds) (old : List ℕ) (k : ℕ) → getD (paletteLater g v xs old) (3 * length xs + k) 0 ≡ getD old (3 * length xs + k) 0
+  unfolding paletteLater
+  palette-past xs old k =
+      ap (λ (n : ℕ). getD (coloursOf g v xs ++ drop (3 * length xs) old) (n + k) 0) (sym (length-colours xs))
+      ∙ getD-append-add (coloursOf g v xs) (drop (3 * length xs) old) k 0
+      ∙ getD-drop (3 * length xs) old k 0
+
+  count-in : (xs : List Bounds) (rest : List ℕ) (i : ℕ) (none : Bounds) → i < length xs → getD (countsOf g v xs ++ rest) i 0 ≡ countOf g v (getD xs i none)
+  unfolding countsOf
+  count-in [] rest i none h = absurd (omega arith)
+  count-in (x ∷ xs) rest zero none h = refl
+  count-in (x ∷ xs) rest (suc i) none h = count-in xs rest i none (omega arith)
+
+  -- count i is that of box i
+  pub counts-at : (xs : List Bounds) (old : List ℕ) (i : ℕ) (none : Bounds) → i < length xs → getD (countsLater g v xs old) i 0 ≡ countOf g v (getD xs i none)
+  unfolding countsLater
+  counts-at xs old i none h = count-in xs (drop (length xs) old) i none h
+
+  pub counts-past : (xs : List Bounds) (old : List ℕ) (k : ℕ) → getD (countsLater g v xs old) (length xs + k) 0 ≡ getD old (length xs + k) 0
+  unfolding countsLater
+  counts-past xs old k =
+      ap (λ (n : ℕ). getD (countsOf g v xs ++ drop (length xs) old) (n + k) 0) (sym (length-counts xs))
+      ∙ getD-append-add (countsOf g v xs) (drop (length xs) old) k 0
+      ∙ getD-drop (length xs) old k 0

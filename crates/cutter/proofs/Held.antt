@@ -9,8 +9,9 @@ use borrow.Author.Tests.{le-leb, lt-ltb, leb-true, ltb-true}
 use lib.Dec.{leb, ltb}
 use Rattle.grid.specs.declared.Grid.{Grid}
 use Rattle.grid.specs.Range.{allFrom}
-use Rattle.grid.specs.Grid.{choose, binAt}
-use Rattle.grid.proofs.Range.{and-left, and-right, all-at}
+use Rattle.grid.specs.Grid.{Accepted, choose, sizeAt, binsOf, binAt}
+use Rattle.grid.proofs.Range.{and-left, and-right, all-true, all-at}
+use Rattle.grid.proofs.Places.{bin-at-below}
 use Rattle.sums.specs.declared.Bounds.{Bounds}
 use Rattle.sums.specs.Box.{minAt, maxAt, lowSide, highSide, InBox}
 use Rattle.sums.proofs.Laws.{in-low, in-high}
@@ -62,6 +63,13 @@ module _ (g : Grid) (x : Bounds) (p : ℕ) where
   in-holds i =
       rw (lies-by (x .r0) (x .r1) (binAt g 0 p) (i .one .0) (i .one .1), lies-by (x .g0) (x .g1) (binAt g 1 p) (i .two .0) (i .two .1), lies-by (x .b0) (x .b1) (binAt g 2 p) (i .three .0) (i .three .1))
       refl
+
+-- a box that reaches over all sizes holds every place
+pub whole-holds : {g : Grid} → Accepted g → (x : Bounds) → ((d : ℕ) → minAt x d ≡ 0) → ((d : ℕ) → maxAt x d ≡ sizeAt g d) → (p : ℕ) → p < binsOf g → holds g x p ≡ true
+unfolding holds
+whole-holds {g} a x low high p h =
+    all-true 0 3 (λ d. lies (minAt x d) (maxAt x d) (binAt g d p))
+    (λ d i l. lies-by (minAt x d) (maxAt x d) (binAt g d p) (omega (arith, low d)) (omega (arith, high d, bin-at-below a p d h)))
 
 -- ---- the two sides of a cut
 low-below : (x : Bounds) {r gr b : ℕ} (d c : ℕ) → InBox (lowSide x d c) r gr b → choose d r gr b < c

@@ -2,3 +2,4 @@ pub mod Held
 pub mod Filled
 pub mod Maps
 pub mod Colours
+pub mod Worked

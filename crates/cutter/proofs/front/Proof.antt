@@ -1,19 +1,15 @@
 -- `cutter::front` meets its contract: a third of the length is below the number of boxes just where the length is below three bytes each.
 -- Assumes nothing.
-use Prim.Native.Nat.{ℕ, _*_, _/_, _≤_, _<_}
+use Prim.Native.Nat.{_*_, _≤_, _<_}
 use native.Mathlib.Nat.{sub-zero}
 use native.Mathlib.Omega.{arith}
 use borrow.Author.Needs.{needs}
 use borrow.Author.Tests.{lt-ltb, le-ltb}
+use denote.Ref.{now}
+use lib.ListN.{length}
 use Rattle.cutter.specs.Palette.{frontOf}
 use Rattle.cutter.proofs.front.Statement.{statement}
 use Rattle.cutter.proofs.front.Tie as tie
-
-short : (n boxes : ℕ) → n / 3 < boxes → n < 3 * boxes
-short n boxes h = omega arith
-
-long : (n boxes : ℕ) → boxes ≤ n / 3 → 3 * boxes ≤ n
-long n boxes h = omega arith
 
 sub-result : tie.Need-sub-result
 sub-result c = search needs
@@ -26,7 +22,10 @@ part-result-end c = search needs
 
 returns : tie.Need-returns
 unfolding frontOf
-returns c = simp (lt-ltb _ _ (short _ _ (c .before .if1 .taken)))
+returns c =
+    let s = c .before .before in
+    let short : length (now (s .args .palette)) < 3 * s .args .boxes = omega arith in
+    simp (lt-ltb _ _ short)
 
 mul-end : tie.Need-mul-end
 mul-end c = search needs
@@ -42,7 +41,10 @@ part-result-end-2 c = search needs
 
 returns-2 : tie.Need-returns-2
 unfolding frontOf
-returns-2 c = simp (sub-zero, le-ltb _ _ (long _ _ (c .before .if1 .left)))
+returns-2 c =
+    let s = c .before .before in
+    let long : 3 * s .args .boxes ≤ length (now (s .args .palette)) = omega arith in
+    simp (sub-zero, le-ltb _ _ long)
 
 pub front-spec : {M : Type 1} → statement M
 front-spec =
