@@ -16,9 +16,10 @@ use Rattle.table.specs.Cell.{View}
 use Rattle.table.specs.Sound.{limit}
 use Rattle.table.proofs.Soundness.{Sound}
 use Rattle.sums.specs.declared.Bounds.{Bounds}
-use Rattle.sums.specs.Box.{boxSum, statsOf, Within}
-use Rattle.sums.proofs.Laws.{box-sums-high}
-use Rattle.cutter.specs.Palette.{meanOf, colourOf, countOf, bytesOf, coloursOf, countsOf, paletteLater, countsLater, frontOf, statsColour, Coloured, withColourAt}
+use Rattle.sums.specs.declared.Stats.{Stats}
+use Rattle.sums.specs.Box.{statsOf}
+use Rattle.sums.proofs.Laws.{box-sums-high, box-weight-high}
+use Rattle.cutter.specs.Palette.{meanOf, colourOf, countOf, bytesOf, coloursOf, countsOf, paletteLater, countsLater, frontOf, statsColour, withColourAt, Coloured, Occupied}
 
 -- ---- the mean
 -- colour·n ≤ sum < (colour + 1)·n
@@ -35,24 +36,30 @@ unfolding meanOf
 mean-byte sum n h l = div-lt-iff-lt-mul {k = n} {x = sum} {y = 256} h .1 (omega arith)
 
 -- ---- the statistics of a box
-pub stats-colour : (g : Grid) (v : View) (x : Bounds) → statsColour (statsOf g v x) ≡ colourOf g v x
+pub stats-colour : (g : Grid) (v : View) (x : Bounds) {s : Stats} → s ≡ statsOf g v x → statsColour s ≡ colourOf g v x
 unfolding statsColour statsOf colourOf
-stats-colour g v x = refl
+stats-colour g v x e = ap statsColour e
 
-pub stats-count : (g : Grid) (v : View) (x : Bounds) → statsOf g v x .weight ≡ countOf g v x
+pub stats-count : (g : Grid) (v : View) (x : Bounds) {s : Stats} → s ≡ statsOf g v x → s .weight ≡ countOf g v x
 unfolding statsOf countOf
-stats-count g v x = refl
+stats-count g v x e = ap (λ (s : Stats). s .weight) e
 
--- those of a box of a sound table that is not empty give a colour
-pub stats-coloured : {g : Grid} {v : View} → Sound limit g v → {x : Bounds} → Within g x → 0 < boxSum g v x 0 → Coloured (statsOf g v x)
-unfolding statsOf
-stats-coloured s w h =
-    record {
-      some = h;
-      one = box-sums-high s w 0 (omega arith);
-      two = box-sums-high s w 1 (omega arith);
-      three = box-sums-high s w 2 (omega arith);
-    }
+-- those of an occupied box of a sound table give a colour and a count
+module _ {g : Grid} {v : View} (sound : Sound limit g v) {x : Bounds} (o : Occupied g v x) {s : Stats} (e : s ≡ statsOf g v x) where
+  pub stats-coloured : Coloured s
+  unfolding statsOf
+  stats-coloured =
+      rw e
+      (record {
+        some = o .some;
+        one = box-sums-high sound (o .within) 0 (omega arith);
+        two = box-sums-high sound (o .within) 1 (omega arith);
+        three = box-sums-high sound (o .within) 2 (omega arith);
+      })
+
+  pub stats-fits : s .weight ≤ limit
+  unfolding statsOf
+  stats-fits = rw e (box-weight-high sound (o .within))
 
 -- ---- lists
 set-past : (xs ys : List ℕ) (k a : ℕ) → set (xs ++ ys) (length xs + k) a ≡ xs ++ set ys k a

@@ -133,7 +133,7 @@ module _ (g : Grid) (x : Bounds) (d c : ℕ) (h : minAt x d ≤ c) (l : c ≤ ma
       go (lower e f) = rw (e, f) (sym (mathlib.Core.Bool.or-false _))
       go (upper e f) = rw (e, f) refl
 
-  -- "each bin of the grid lies in exactly one box": a cut keeps the number of boxes that hold a place
+  -- a cut keeps the number of boxes that hold a place
   pub cut-holding : cond (holds g x p) 1 0 ≡ cond (holds g (lowSide x d c) p) 1 0 + cond (holds g (highSide x d c) p) 1 0
   cut-holding = go side
     where

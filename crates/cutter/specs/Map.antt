@@ -33,7 +33,7 @@ unfoldable pub holding : Grid → List Bounds → ℕ → ℕ
 holding g [] p = 0
 holding g (x ∷ xs) p = cond (holds g x p) 1 0 + holding g xs p
 
--- "each bin of the grid lies in exactly one box"
+-- boxes that tile the grid: each bin lies in exactly one of them
 pub record Tiles (g : Grid) (xs : List Bounds) : Type 0 where
   pub once : (p : ℕ) → p < binsOf g → holding g xs p ≡ 1
 

@@ -9,7 +9,7 @@ use Rattle.grid.specs.declared.Rgb.{Rgb}
 use Rattle.table.specs.Cell.{View}
 use Rattle.sums.specs.declared.Bounds.{Bounds}
 use Rattle.sums.specs.declared.Stats.{Stats}
-use Rattle.sums.specs.Box.{boxSum}
+use Rattle.sums.specs.Box.{boxSum, Within}
 
 -- a "sum divided by n, rounded down"
 unfoldable pub meanOf : ℕ → ℕ → ℕ
@@ -53,7 +53,7 @@ unfoldable pub frontOf : List ℕ → ℕ → List ℕ
 frontOf palette boxes = cond (ltb (length palette) (3 * boxes)) [] (take (3 * boxes) palette)
 
 -- ---- one box
--- the colour that statistics give
+-- the colour of a box with these statistics
 unfoldable pub statsColour : Stats → Rgb
 statsColour s =
     record {
@@ -68,6 +68,11 @@ pub record Coloured (s : Stats) : Type 0 where
   pub one : s .sum1 ≤ 255 * s .weight
   pub two : s .sum2 ≤ 255 * s .weight
   pub three : s .sum3 ≤ 255 * s .weight
+
+-- a box of the grid with some weight
+pub record Occupied (g : Grid) (v : View) (x : Bounds) : Type 0 where
+  pub within : Within g x
+  pub some : 0 < boxSum g v x 0
 
 -- a palette with a colour at place i
 unfoldable pub withColourAt : List ℕ → ℕ → Rgb → List ℕ

@@ -3,13 +3,16 @@ use grid::Grid;
 use grid::place;
 use sums::Bounds;
 use sums::Stats;
+use sums::box_sum;
 ghost use mathlib.Core.Path.{_≡_};
 ghost use Prim.Native.Nat.{_+_, _*_, _≤_, _<_};
 ghost use lib.ListN.{length, set};
 ghost use Rattle.grid.specs.Grid.{binsOf};
+ghost use Rattle.table.specs.Cell.{wide};
 ghost use Rattle.table.specs.Sound.{limit};
 ghost use Rattle.sums.specs.Box.{Within};
-ghost use Rattle.cutter.specs.Palette.{meanOf, statsColour, withColourAt, frontOf, Coloured};
+ghost use Rattle.sums.specs.Moments.{Worked};
+ghost use Rattle.cutter.specs.Palette.{meanOf, colourOf, countOf, frontOf, statsColour, withColourAt, Coloured, Occupied};
 ghost use Rattle.cutter.specs.Map.{lies, holds, slice, fillWhere, fillOf, Plane};
 
 // ---- Palette and counts
@@ -39,6 +42,26 @@ fn put_count(counts: &mut [u32], i: usize, weight: u64)
     ensures { λ r. ⌜ now (counts .exit) ≡ set (now (counts .entry)) i weight ⌝ }
 {
     counts[i] = weight as u32;
+}
+
+// Writes colour and count of a box at place i (`cube_color_and_count`).
+fn put_result(
+    table: &[u64],
+    work: &[u64],
+    g: Grid,
+    x: Bounds,
+    i: usize,
+    palette: &mut [u8],
+    counts: &mut [u32],
+)
+    requires { ⌜ Worked g (now table) (now work) × Occupied g (wide (now table)) x ⌝ }
+    requires { ⌜ (3 * i + 2 < length (now palette)) × (i < length (now counts)) ⌝ }
+    ensures { λ r. ⌜ now (palette .exit) ≡ withColourAt (now (palette .entry)) i (colourOf g (wide (now (table .entry))) x) ⌝ }
+    ensures { λ r. ⌜ now (counts .exit) ≡ set (now (counts .entry)) i (countOf g (wide (now (table .entry))) x) ⌝ }
+{
+    let s = box_sum(table, work, g, x);
+    put_colour(palette, i, s);
+    put_count(counts, i, s.weight);
 }
 
 // The filled front of a palette.
