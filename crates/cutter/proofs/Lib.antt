@@ -2,4 +2,5 @@ pub mod Held
 pub mod Filled
 pub mod Maps
 pub mod Colours
+pub mod Turns
 pub mod Worked
