@@ -15,9 +15,9 @@ use Rattle.cutter.specs.Map.{holds, indexFrom, mapOf, holding, Tiles, fi
 use Rattle.cutter.proofs.Filled.{length-fill, fill-at}
 
 module _ (g : Grid) where
-  pub length-map : (xs : List Bounds) → length (mapOf g xs) ≡ binsOf g
+  pub map-length : (xs : List Bounds) → length (mapOf g xs) ≡ binsOf g
   unfolding mapOf
-  length-map xs = length-list 0 (binsOf g) (indexFrom g 0 xs)
+  map-length xs = length-list 0 (binsOf g) (indexFrom g 0 xs)
 
   pub map-at : (xs : List Bounds) (p : ℕ) → p < binsOf g → getD (mapOf g xs) p 0 ≡ indexFrom g 0 xs p
   unfolding mapOf
