@@ -1,0 +1,115 @@
+-- The whole map: boxes filled one after the other, each bin in one of them.
+-- Assumes nothing.
+use mathlib.Core.Path.{_≡_, refl, sym, ap, _∙_}
+use mathlib.Core.Bool.{Bool, true, false, cond}
+use mathlib.Core.List.{List, [], _∷_, _++_}
+use Prim.Native.Nat.{ℕ, zero, suc, _+_, _≤_, _<_}
+use native.Mathlib.Nat.{zero-add, add-zero, add-suc, suc-add}
+use native.Mathlib.Omega.{arith}
+use lib.ListN.{length, getD}
+use Rattle.grid.specs.declared.Grid.{Grid}
+use Rattle.grid.specs.Grid.{binsOf}
+use Rattle.grid.proofs.Range.{length-list, list-at, list-is}
+use Rattle.sums.specs.declared.Bounds.{Bounds}
+use Rattle.cutter.specs.Map.{holds, indexFrom, mapOf, holding, Tiles, fillWhere, fillOf, fillFrom}
+use Rattle.cutter.proofs.Filled.{length-fill, fill-at}
+
+module _ (g : Grid) where
+  pub map-length : (xs : List Bounds) → length (mapOf g xs) ≡ binsOf g
+  unfolding mapOf
+  map-length xs = length-list 0 (binsOf g) (indexFrom g 0 xs)
+
+  pub map-at : (xs : List Bounds) (p : ℕ) → p < binsOf g → getD (mapOf g xs) p 0 ≡ indexFrom g 0 xs p
+  unfolding mapOf
+  map-at xs p h = list-at 0 (binsOf g) (indexFrom g 0 xs) p 0 h ∙ ap (indexFrom g 0 xs) (zero-add p)
+
+  pub length-filled : (i : ℕ) (xs : List Bounds) (old : List ℕ) → length (fillFrom g i xs old) ≡ length old
+  unfolding fillFrom fillOf
+  length-filled i [] old = refl
+  length-filled i (x ∷ xs) old =
+      length-filled (suc i) xs (fillOf g x i old) ∙ length-fill (holds g x) i old
+
+  pub filled-none : (i : ℕ) (old : List ℕ) → fillFrom g i [] old ≡ old
+  unfolding fillFrom
+  filled-none i old = refl
+
+  -- one box more
+  pub filled-more : (i : ℕ) (xs : List Bounds) (x : Bounds) (old : List ℕ) → fillFrom g i (xs ++ (x ∷ [])) old ≡ fillOf g x (i + length xs) (fillFrom g i xs old)
+  unfolding fillFrom
+  filled-more i [] x old = ap (λ (n : ℕ). fillOf g x n old) (sym (add-zero i))
+  filled-more i (y ∷ xs) x old =
+      filled-more (suc i) xs x (fillOf g y i old)
+      ∙ ap (λ (n : ℕ). fillOf g x n (fillFrom g (suc i) xs (fillOf g y i old))) (suc-add i (length xs) ∙ sym (add-suc i (length xs)))
+
+  -- what no box holds stays
+  stays : (i : ℕ) (xs : List Bounds) (old : List ℕ) (p : ℕ) → p < length old → holding g xs p ≡ 0 → getD (fillFrom g i xs old) p 0 ≡ getD old p 0
+  unfolding fillFrom fillOf holding
+  stays i [] old p h e = refl
+  stays i (x ∷ xs) old p h e =
+      stays (suc i) xs (fillOf g x i old) p (rw (length-fill (holds g x) i old) h) (go (holds g x p) e)
+      ∙ fill-at (holds g x) i old p h
+      ∙ kept (holds g x p) e
+    where
+      go : (b : Bool) → cond b 1 0 + holding g xs p ≡ 0 → holding g xs p ≡ 0
+      go b e = omega arith
+
+      kept : (b : Bool) → cond b 1 0 + holding g xs p ≡ 0 → cond b i (getD old p 0) ≡ getD old p 0
+      kept true e = absurd (omega arith)
+      kept false e = refl
+
+  -- what one box holds gets its index
+  gets : (i : ℕ) (xs : List Bounds) (old : List ℕ) (p : ℕ) → p < length old → holding g xs p ≡ 1 → getD (fillFrom g i xs old) p 0 ≡ indexFrom g i xs p
+  unfolding fillFrom fillOf holding indexFrom
+  gets i [] old p h e = absurd (omega arith)
+  gets i (x ∷ xs) old p h e = go (holds g x p) refl e (gets (suc i) xs (fillWhere (holds g x) i old) p there)
+    where
+      there : p < length (fillWhere (holds g x) i old)
+      there = rw (length-fill (holds g x) i old) h
+
+      go : (b : Bool) → holds g x p ≡ b → cond b 1 0 + holding g xs p ≡ 1 → (holding g xs p ≡ 1 → getD (fillFrom g (suc i) xs (fillWhere (holds g x) i old)) p 0 ≡ indexFrom g (suc i) xs p) → getD (fillFrom g (suc i) xs (fillWhere (holds g x) i old)) p 0 ≡ cond b i (indexFrom g (suc i) xs p)
+      go true q e later =
+          stays (suc i) xs (fillWhere (holds g x) i old) p there (omega arith)
+          ∙ fill-at (holds g x) i old p h
+          ∙ ap (λ (b : Bool). cond b i (getD old p 0)) q
+      go false q e later = later (omega arith)
+
+  -- boxes that tile the grid, filled in order over any map of the grid
+  pub filled-map : (xs : List Bounds) → Tiles g xs → (old : List ℕ) → length old ≡ binsOf g → fillFrom g 0 xs old ≡ mapOf g xs
+  unfolding mapOf
+  filled-map xs t old e =
+      list-is (binsOf g) (indexFrom g 0 xs) (fillFrom g 0 xs old) 0 (length-filled 0 xs old ∙ e)
+      (λ p h. gets 0 xs old p (rw e h) (t .once p h))
+
+  -- "every bin of it gets index i in the map"
+  holds-once : (xs : List Bounds) (i : ℕ) (none : Bounds) (p : ℕ) → i < length xs → holds g (getD xs i none) p ≡ true → 1 ≤ holding g xs p
+  unfolding holding
+  holds-once [] i none p h e = absurd (omega arith)
+  holds-once (x ∷ xs) zero none p h e = rw e (omega arith)
+  holds-once (x ∷ xs) (suc i) none p h e = omega (arith, holds-once xs i none p (omega arith) e)
+
+  index-is : (k : ℕ) (xs : List Bounds) (i : ℕ) (none : Bounds) (p : ℕ) → i < length xs → holding g xs p ≡ 1 → holds g (getD xs i none) p ≡ true → indexFrom g k xs p ≡ k + i
+  unfolding holding indexFrom
+  index-is k [] i none p h o e = absurd (omega arith)
+  index-is k (x ∷ xs) zero none p h o e = rw e (sym (add-zero k))
+  index-is k (x ∷ xs) (suc i) none p h o e = go (holds g x p) o (λ n. index-is (suc k) xs i none p (omega arith) n e)
+    where
+      go : (b : Bool) → cond b 1 0 + holding g xs p ≡ 1 → (holding g xs p ≡ 1 → indexFrom g (suc k) xs p ≡ suc k + i) → cond b k (indexFrom g (suc k) xs p) ≡ k + suc i
+      go true o later = absurd (omega (arith, holds-once xs i none p (omega arith) e))
+      go false o later = later (omega arith) ∙ suc-add k i ∙ sym (add-suc k i)
+
+  pub index-of-box : (xs : List Bounds) → Tiles g xs → (i : ℕ) (none : Bounds) (p : ℕ) → i < length xs → p < binsOf g → holds g (getD xs i none) p ≡ true → getD (mapOf g xs) p 0 ≡ i
+  index-of-box xs t i none p h l e =
+      map-at xs p l ∙ index-is 0 xs i none p h (t .once p l) e ∙ zero-add i
+
+  -- and no other index stands in it
+  index-below : (k : ℕ) (xs : List Bounds) (p : ℕ) → holding g xs p ≡ 1 → indexFrom g k xs p < k + length xs
+  unfolding holding indexFrom
+  index-below k [] p o = absurd (omega arith)
+  index-below k (x ∷ xs) p o = go (holds g x p) o (index-below (suc k) xs p)
+    where
+      go : (b : Bool) → cond b 1 0 + holding g xs p ≡ 1 → (holding g xs p ≡ 1 → indexFrom g (suc k) xs p < suc k + length xs) → cond b k (indexFrom g (suc k) xs p) < k + suc (length xs)
+      go true o later = omega arith
+      go false o later = omega (arith, later (omega arith))
+
+  pub map-below : (xs : List Bounds) → Tiles g xs → (p : ℕ) → p < binsOf g → getD (mapOf g xs) p 0 < length xs
+  map-below xs t p h = omega (arith, map-at xs p h, index-below 0 xs p (t .once p h))

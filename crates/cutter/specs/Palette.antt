@@ -1,0 +1,79 @@
+-- Palette and counts of a list of boxes (document 01, "Results"). Definitions only.
+use mathlib.Core.Bool.{cond}
+use mathlib.Core.List.{List, [], _∷_, _++_, map}
+use Prim.Native.Nat.{ℕ, _+_, _*_, _/_, _≤_, _<_}
+use lib.Dec.{ltb}
+use lib.ListN.{length, take, drop, set}
+use Rattle.grid.specs.declared.Grid.{Grid}
+use Rattle.grid.specs.declared.Rgb.{Rgb}
+use Rattle.table.specs.Cell.{View}
+use Rattle.sums.specs.declared.Bounds.{Bounds}
+use Rattle.sums.specs.declared.Stats.{Stats}
+use Rattle.sums.specs.Box.{boxSum, Within}
+
+-- a "sum divided by n, rounded down"
+unfoldable pub meanOf : ℕ → ℕ → ℕ
+meanOf sum n = sum / n
+
+-- "Its palette colour is each sum divided by n, rounded down"
+unfoldable pub colourOf : Grid → View → Bounds → Rgb
+colourOf g v x =
+    record {
+      c1 = meanOf (boxSum g v x 1) (boxSum g v x 0);
+      c2 = meanOf (boxSum g v x 2) (boxSum g v x 0);
+      c3 = meanOf (boxSum g v x 3) (boxSum g v x 0);
+    }
+
+-- "its count is n"
+unfoldable pub countOf : Grid → View → Bounds → ℕ
+countOf g v x = boxSum g v x 0
+
+-- the three bytes of a colour
+unfoldable pub bytesOf : Rgb → List ℕ
+bytesOf c = c .c1 ∷ c .c2 ∷ c .c3 ∷ []
+
+-- the colours of boxes, one after the other
+unfoldable pub coloursOf : Grid → View → List Bounds → List ℕ
+coloursOf g v [] = []
+coloursOf g v (x ∷ xs) = bytesOf (colourOf g v x) ++ coloursOf g v xs
+
+-- and their counts
+unfoldable pub countsOf : Grid → View → List Bounds → List ℕ
+countsOf g v xs = map (countOf g v) xs
+
+-- "Places past the filled front of palette and counts stay"
+unfoldable pub paletteLater : Grid → View → List Bounds → List ℕ → List ℕ
+paletteLater g v xs old = coloursOf g v xs ++ drop (3 * length xs) old
+
+unfoldable pub countsLater : Grid → View → List Bounds → List ℕ → List ℕ
+countsLater g v xs old = countsOf g v xs ++ drop (length xs) old
+
+-- "the filled front of the lent palette as a part of it; if the palette is too short for that number, the part is empty"
+unfoldable pub frontOf : List ℕ → ℕ → List ℕ
+frontOf palette boxes = cond (ltb (length palette) (3 * boxes)) [] (take (3 * boxes) palette)
+
+-- ---- one box
+-- the colour of a box with these statistics
+unfoldable pub statsColour : Stats → Rgb
+statsColour s =
+    record {
+      c1 = meanOf (s .sum1) (s .weight);
+      c2 = meanOf (s .sum2) (s .weight);
+      c3 = meanOf (s .sum3) (s .weight);
+    }
+
+-- statistics with some weight, whose means are bytes
+pub record Coloured (s : Stats) : Type 0 where
+  pub some : 0 < s .weight
+  pub one : s .sum1 ≤ 255 * s .weight
+  pub two : s .sum2 ≤ 255 * s .weight
+  pub three : s .sum3 ≤ 255 * s .weight
+
+-- a box of the grid with some weight
+pub record Occupied (g : Grid) (v : View) (x : Bounds) : Type 0 where
+  pub within : Within g x
+  pub some : 0 < boxSum g v x 0
+
+-- a palette with a colour at place i
+unfoldable pub withColourAt : List ℕ → ℕ → Rgb → List ℕ
+withColourAt palette i c = set (set (set palette (3 * i) (c .c1)) (3 * i + 1) (c .c2)) (3 * i + 2) (c .c3)
