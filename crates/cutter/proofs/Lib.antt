@@ -4,3 +4,5 @@ pub mod Maps
 pub mod Colours
 pub mod Turns
 pub mod Worked
+pub mod Listed
+pub mod Refusals

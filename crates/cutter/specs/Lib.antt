@@ -1,2 +1,3 @@
 pub mod Palette
 pub mod Map
+pub mod Cut

@@ -1,19 +1,29 @@
-// Palette, counts and map of the boxes of a cut, and the filled front of a palette.
+// The call cut: boxes, palette, counts and map; and the filled front of a palette.
+use grid::Chosen;
 use grid::Grid;
+use grid::bins;
+use grid::grid_of;
 use grid::place;
+use rounds::BoxSpread;
+use rounds::Boxes;
+use rounds::cut_boxes;
 use sums::Bounds;
 use sums::Stats;
 use sums::box_sum;
+use sums::moments;
+use table::Weighed;
+use table::weigh;
 ghost use mathlib.Core.Path.{_≡_};
 ghost use Prim.Native.Nat.{_+_, _*_, _≤_, _<_};
 ghost use lib.ListN.{length, set};
-ghost use Rattle.grid.specs.Grid.{binsOf};
+ghost use Rattle.grid.specs.Grid.{Accepted, binsOf};
 ghost use Rattle.table.specs.Cell.{wide};
 ghost use Rattle.table.specs.Sound.{limit};
 ghost use Rattle.sums.specs.Box.{Within};
 ghost use Rattle.sums.specs.Moments.{Worked};
-ghost use Rattle.cutter.specs.Palette.{meanOf, colourOf, countOf, frontOf, statsColour, withColourAt, Coloured, Occupied};
-ghost use Rattle.cutter.specs.Map.{lies, holds, slice, fillWhere, fillOf, Plane};
+ghost use Rattle.cutter.specs.Palette.{meanOf, colourOf, countOf, paletteLater, countsLater, frontOf, statsColour, withColourAt, Coloured, Occupied};
+ghost use Rattle.cutter.specs.Map.{lies, holds, slice, fillWhere, fillOf, fillFrom, Plane};
+ghost use Rattle.cutter.specs.Cut.{longEnough, cutNumberOn, refusedRecord, doneRecord, boundsOf, listOf, Found};
 
 // ---- Palette and counts
 
@@ -116,4 +126,159 @@ fn fill_box(map: &mut [u8], g: Grid, x: Bounds, index: u8)
         fill_plane(map, g, x, r, index);
         r = r + 1;
     }
+}
+
+// ---- Every box
+
+// The box of a place of the record.
+fn bounds_of(x: BoxSpread) -> Bounds
+    ensures { λ r. ⌜ r ≡ boundsOf x ⌝ }
+{
+    Bounds {
+        r0: x.r0,
+        r1: x.r1,
+        g0: x.g0,
+        g1: x.g1,
+        b0: x.b0,
+        b1: x.b1,
+    }
+}
+
+// Writes colours and counts of all boxes.
+fn put_results(
+    table: &[u64],
+    work: &[u64],
+    g: Grid,
+    b: Boxes,
+    palette: &mut [u8],
+    counts: &mut [u32],
+)
+    requires { ⌜ Worked g (now table) (now work) × Found g (wide (now table)) b ⌝ }
+    requires { ⌜ (3 * b .found ≤ length (now palette)) × (b .found ≤ length (now counts)) ⌝ }
+    ensures { λ r. ⌜ now (palette .exit) ≡ paletteLater g (wide (now (table .entry))) (listOf b) (now (palette .entry)) ⌝ }
+    ensures { λ r. ⌜ now (counts .exit) ≡ countsLater g (wide (now (table .entry))) (listOf b) (now (counts .entry)) ⌝ }
+{
+    let n = b.found;
+    let mut i = 0;
+    while i < n {
+        let x = bounds_of(b.places[i]);
+        put_result(table, work, g, x, i, palette, counts);
+        i = i + 1;
+    }
+}
+
+// Writes the index of each box at its bins.
+fn fill_boxes(table: &[u64], g: Grid, b: Boxes, map: &mut [u8])
+    requires { ⌜ Found g (wide (now table)) b × (length (now map) ≡ binsOf g) ⌝ }
+    ensures { λ r. ⌜ now (map .exit) ≡ fillFrom g 0 (listOf b) (now (map .entry)) ⌝ }
+{
+    let n = b.found;
+    let mut i = 0;
+    while i < n {
+        let x = bounds_of(b.places[i]);
+        fill_box(map, g, x, i as u8);
+        i = i + 1;
+    }
+}
+
+// ---- The call
+
+// What a cut hands back: its number, the number of boxes, and a place for each box with its spread.
+pub struct CutRecord {
+    pub number: u8,
+    pub boxes: usize,
+    pub places: [BoxSpread; 256],
+}
+
+// The record of a refusal.
+fn refused(number: u8) -> CutRecord
+    ensures { λ r. ⌜ r ≡ refusedRecord number ⌝ }
+{
+    let none = BoxSpread {
+        r0: 0,
+        r1: 0,
+        g0: 0,
+        g1: 0,
+        b0: 0,
+        b1: 0,
+        spread: 0.0,
+    };
+    let places = [none; 256];
+    CutRecord {
+        number,
+        boxes: 0,
+        places,
+    }
+}
+
+// The record of a cut that is done.
+fn done(b: Boxes) -> CutRecord
+    ensures { λ r. ⌜ r ≡ doneRecord b ⌝ }
+{
+    let places = b.places;
+    CutRecord {
+        number: 0,
+        boxes: b.found,
+        places,
+    }
+}
+
+// Whether the lengths of what is lent are right for a k within its bounds.
+fn long_enough(
+    g: Grid,
+    k: usize,
+    table: usize,
+    work: usize,
+    palette: usize,
+    counts: usize,
+    map: usize,
+) -> bool
+    requires { ⌜ Accepted g × (k ≤ 256) ⌝ }
+    ensures { λ r. ⌜ r ≡ longEnough g k table (record { work = work; palette = palette; counts = counts; map = map }) ⌝ }
+{
+    let n = bins(g);
+    if table != 5 * n {
+        return false;
+    }
+    if work != 5 * n {
+        return false;
+    }
+    if palette < 3 * k {
+        return false;
+    }
+    if counts < k {
+        return false;
+    }
+    map == n
+}
+
+// The number of a cut on an accepted grid.
+fn number_on(
+    g: Grid,
+    k: usize,
+    table: &[u64],
+    work: usize,
+    palette: usize,
+    counts: usize,
+    map: usize,
+) -> u8
+    requires { ⌜ Accepted g ⌝ }
+    ensures { λ r. ⌜ r ≡ cutNumberOn limit g k (now (table .entry)) (record { work = work; palette = palette; counts = counts; map = map }) ⌝ }
+{
+    if k < 1 {
+        return 2;
+    }
+    if 256 < k {
+        return 2;
+    }
+    if !long_enough(g, k, table.len(), work, palette, counts, map) {
+        return 5;
+    }
+    let Weighed::Total(total) = weigh(table, g) else {
+        return 6;
+    };
+    if total == 0 {
+        return 8;
+    }
+    0
 }

@@ -1,0 +1,113 @@
+-- The number of a cut, test by test, and what a cut that nothing refuses is given.
+-- Assumes nothing.
+use mathlib.Core.Path.{_≡_, refl, sym, ap, _∙_}
+use mathlib.Core.Bool.{Bool, true, false, not, _&&_, true≢false}
+use mathlib.Core.List.{List}
+use Prim.Native.Nat.{ℕ, zero, suc, _*_, _≤_, _<_}
+use native.Mathlib.Nat.{lt-of-not-le}
+use native.Mathlib.Omega.{arith}
+use borrow.Author.Tests.{eq-eqb, ne-eqb, le-leb, lt-leb, leb-true, eqb-true, eqb-false, not-true, not-false}
+use lib.Dec.{eqb, leb}
+use lib.ListN.{length}
+use Rattle.grid.specs.declared.Grid.{Grid}
+use Rattle.grid.specs.Answer.{refuse}
+use Rattle.grid.specs.Grid.{binsOf}
+use Rattle.table.specs.Cell.{wide}
+use Rattle.table.specs.Sound.{limit, total, sound}
+use Rattle.cutter.specs.Cut.{Lengths, longEnough, cutNumberOn, CanCut}
+
+-- ---- the lengths
+module _ (g : Grid) (k table : ℕ) (l : Lengths) where
+  pub table-wrong : (table ≡ 5 * binsOf g → ⊥) → longEnough g k table l ≡ false
+  unfolding longEnough
+  table-wrong n = simp (ne-eqb _ _ n)
+
+  module _ (t : table ≡ 5 * binsOf g) where
+    pub work-wrong : (l .work ≡ 5 * binsOf g → ⊥) → longEnough g k table l ≡ false
+    unfolding longEnough
+    work-wrong n = simp (eq-eqb _ _ t, ne-eqb _ _ n)
+
+    module _ (w : l .work ≡ 5 * binsOf g) where
+      pub palette-short : l .palette < 3 * k → longEnough g k table l ≡ false
+      unfolding longEnough
+      palette-short n = simp (eq-eqb _ _ t, eq-eqb _ _ w, lt-leb _ _ n)
+
+      module _ (p : 3 * k ≤ l .palette) where
+        pub counts-short : l .counts < k → longEnough g k table l ≡ false
+        unfolding longEnough
+        counts-short n = simp (eq-eqb _ _ t, eq-eqb _ _ w, le-leb _ _ p, lt-leb _ _ n)
+
+        pub only-map : k ≤ l .counts → longEnough g k table l ≡ eqb (l .map) (binsOf g)
+        unfolding longEnough
+        only-map c = simp (eq-eqb _ _ t, eq-eqb _ _ w, le-leb _ _ p, le-leb _ _ c)
+
+-- ---- the chain
+module _ (g : Grid) (k : ℕ) (t : List ℕ) (l : Lengths) where
+  pub k-low : k < 1 → cutNumberOn limit g k t l ≡ 2
+  unfolding cutNumberOn refuse
+  k-low n = simp (lt-leb _ _ n)
+
+  pub k-high : 256 < k → cutNumberOn limit g k t l ≡ 2
+  unfolding cutNumberOn refuse
+  k-high n = simp (le-leb 1 k (omega arith), lt-leb _ _ n)
+
+  module _ (a : 1 ≤ k) (b : k ≤ 256) where
+    pub too-short : longEnough g k (length t) l ≡ false → cutNumberOn limit g k t l ≡ 5
+    unfolding cutNumberOn refuse
+    too-short n = simp (le-leb _ _ a, le-leb _ _ b, n)
+
+    module _ (e : longEnough g k (length t) l ≡ true) where
+      pub not-sound : sound limit g (wide t) ≡ false → cutNumberOn limit g k t l ≡ 6
+      unfolding cutNumberOn refuse
+      not-sound n = simp (le-leb _ _ a, le-leb _ _ b, e, n)
+
+      module _ (s : sound limit g (wide t) ≡ true) where
+        pub no-total : total g (wide t) ≡ 0 → cutNumberOn limit g k t l ≡ 8
+        unfolding cutNumberOn refuse
+        no-total n = simp (le-leb _ _ a, le-leb _ _ b, e, s, eq-eqb _ _ n)
+
+        pub accepts : (total g (wide t) ≡ 0 → ⊥) → cutNumberOn limit g k t l ≡ 0
+        unfolding cutNumberOn refuse
+        accepts n = simp (le-leb _ _ a, le-leb _ _ b, e, s, ne-eqb _ _ n)
+
+-- ---- a cut that nothing refuses
+both-true : (a b : Bool) → (a && b) ≡ true → (a ≡ true) × (b ≡ true)
+both-true true b e = (refl, e)
+both-true false b e = absurd (true≢false (sym e))
+
+not-refused : (b : Bool) (n rest : ℕ) → refuse b (suc n) rest ≡ 0 → (b ≡ false) × (rest ≡ 0)
+unfolding refuse
+not-refused true n rest e = absurd (omega arith)
+not-refused false n rest e = (refl, e)
+
+pub lent-table : (g : Grid) (k table : ℕ) (l : Lengths) → longEnough g k table l ≡ true → table ≡ 5 * binsOf g
+unfolding longEnough
+lent-table g k table l e = eqb-true _ _ (both-true _ _ e .0)
+
+pub can-cut : {g : Grid} {k : ℕ} {t : List ℕ} {l : Lengths} → cutNumberOn limit g k t l ≡ 0 → CanCut g k t l
+unfolding cutNumberOn longEnough
+can-cut {g} {k} {t} {l} e =
+    let size = not-refused _ 1 _ e in
+    let long = not-refused _ 4 _ (size .1) in
+    let good = not-refused _ 5 _ (long .1) in
+    let some = not-refused _ 7 _ (good .1) in
+    let bounds = both-true _ _ (not-false _ (size .0)) in
+    let one = both-true _ _ (not-false _ (long .0)) in
+    let two = both-true _ _ (one .1) in
+    let three = both-true _ _ (two .1) in
+    let four = both-true _ _ (three .1) in
+    let weight = eqb-false _ _ (some .0) in
+    record {
+      least = leb-true _ _ (bounds .0);
+      most = leb-true _ _ (bounds .1);
+      table = eqb-true _ _ (one .0);
+      work = eqb-true _ _ (two .0);
+      palette = leb-true _ _ (three .0);
+      counts = leb-true _ _ (four .0);
+      map = eqb-true _ _ (four .1);
+      is-sound = not-false _ (good .0);
+      some = positive _ weight;
+    }
+  where
+    positive : (n : ℕ) → (n ≡ 0 → ⊥) → 0 < n
+    positive n h = omega arith

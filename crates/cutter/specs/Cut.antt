@@ -1,0 +1,105 @@
+-- The call cut (document 01, "Results" and "Numbers a caller gets back"). Definitions only.
+use mathlib.Core.Path.{_≡_}
+use mathlib.Core.Bool.{Bool, true, not, _&&_}
+use mathlib.Core.List.{List, map}
+use Prim.Native.Nat.{ℕ, _*_, _≤_, _<_}
+use lib.Dec.{eqb, leb}
+use lib.ListN.{length, getD, take, replicate}
+use Rattle.grid.specs.declared.Grid.{Grid}
+use Rattle.grid.specs.Answer.{refuse, whenDone}
+use Rattle.grid.specs.Grid.{gridOf, onGrid, numberOn, binsOf}
+use Rattle.table.specs.Cell.{View, wide, wideList}
+use Rattle.table.specs.Sound.{limit, total, sound}
+use Rattle.sums.specs.declared.Bounds.{Bounds}
+use Rattle.sums.specs.Moments.{momentsOf}
+use Rattle.rounds.specs.declared.BoxSpread.{BoxSpread}
+use Rattle.rounds.specs.declared.Boxes.{Boxes}
+use Rattle.rounds.specs.Loop.{noBox, spent, boxSpread, boxesOf}
+use Rattle.cutter.specs.declared.CutRecord.{CutRecord}
+use Rattle.cutter.specs.Palette.{paletteLater, countsLater, Occupied}
+use Rattle.cutter.specs.Map.{mapOf}
+
+-- the lengths of what is lent
+pub record Lengths : Type 0 where
+  pub work : ℕ
+  pub palette : ℕ
+  pub counts : ℕ
+  pub map : ℕ
+
+-- "table and work table exactly 5·bins; map exactly bins; palette at least 3·k bytes and counts (u32) at least k"
+unfoldable pub longEnough : Grid → ℕ → ℕ → Lengths → Bool
+longEnough g k table l =
+    eqb table (5 * binsOf g) && (eqb (l .work) (5 * binsOf g) && (leb (3 * k) (l .palette) && (leb k (l .counts) && eqb (l .map) (binsOf g))))
+
+-- the number of a cut on an accepted grid
+unfoldable pub cutNumberOn : ℕ → Grid → ℕ → List ℕ → Lengths → ℕ
+cutNumberOn most g k t l =
+    refuse (not (leb 1 k && leb k 256)) 2
+    (refuse (not (longEnough g k (length t) l)) 5
+    (refuse (not (sound most g (wide t))) 6
+    (refuse (eqb (total g (wide t)) 0) 8 0)))
+
+unfoldable pub cutNumber : ℕ → ℕ → ℕ → ℕ → List ℕ → Lengths → ℕ
+cutNumber b1 b2 b3 k t l = numberOn (gridOf b1 b2 b3) (λ g. cutNumberOn limit g k t l)
+
+-- ---- the record: "its number, the number of boxes, and the boxes with their spreads in order; places past the last box are all zeros"
+-- "A refusal returns its number and, from a cut, zero boxes and box places all zero"
+unfoldable pub refusedRecord : ℕ → CutRecord
+refusedRecord n = record { number = n; boxes = 0; places = replicate 256 (boxSpread (spent noBox)) }
+
+unfoldable pub doneRecord : Boxes → CutRecord
+doneRecord b = record { number = 0; boxes = b .found; places = b .places }
+
+unfoldable pub recordOn : Grid → ℕ → List ℕ → Lengths → CutRecord
+recordOn g k t l = let n = cutNumberOn limit g k t l in whenDone n (doneRecord (boxesOf g (wide t) k)) (refusedRecord n)
+
+unfoldable pub cutRecord : ℕ → ℕ → ℕ → ℕ → List ℕ → Lengths → CutRecord
+cutRecord b1 b2 b3 k t l = onGrid (gridOf b1 b2 b3) (refusedRecord 1) (λ g. recordOn g k t l)
+
+-- ---- what was lent, afterwards: "A refusal .. writes nothing"
+unfoldable pub afterCut : {A : Type 0} → ℕ → ℕ → ℕ → ℕ → List ℕ → Lengths → A → (Grid → A) → A
+afterCut b1 b2 b3 k t l old done = onGrid (gridOf b1 b2 b3) old (λ g. whenDone (cutNumberOn limit g k t l) (done g) old)
+
+-- the box of a place of the record
+unfoldable pub boundsOf : BoxSpread → Bounds
+boundsOf x = record { r0 = x .r0; r1 = x .r1; g0 = x .g0; g1 = x .g1; b0 = x .b0; b1 = x .b1 }
+
+-- the boxes found, in order
+unfoldable pub listOf : Boxes → List Bounds
+listOf b = map boundsOf (take (b .found) (b .places))
+
+-- the boxes of a cut
+unfoldable pub boxList : Grid → List ℕ → ℕ → List Bounds
+boxList g t k = listOf (boxesOf g (wide t) k)
+
+-- "the work table holds the moments of the whole table"
+unfoldable pub workDone : Grid → List ℕ → List ℕ
+workDone g t = wideList (binsOf g) (momentsOf g (wide t))
+
+unfoldable pub paletteDone : Grid → List ℕ → ℕ → List ℕ → List ℕ
+paletteDone g t k old = paletteLater g (wide t) (boxList g t k) old
+
+unfoldable pub countsDone : Grid → List ℕ → ℕ → List ℕ → List ℕ
+countsDone g t k old = countsLater g (wide t) (boxList g t k) old
+
+unfoldable pub mapDone : Grid → List ℕ → ℕ → List ℕ
+mapDone g t k = mapOf g (boxList g t k)
+
+-- ---- what the code is given
+-- a call that nothing refuses
+pub record CanCut (g : Grid) (k : ℕ) (t : List ℕ) (l : Lengths) : Type 0 where
+  pub least : 1 ≤ k
+  pub most : k ≤ 256
+  pub table : length t ≡ 5 * binsOf g
+  pub work : l .work ≡ 5 * binsOf g
+  pub palette : 3 * k ≤ l .palette
+  pub counts : k ≤ l .counts
+  pub map : l .map ≡ binsOf g
+  pub is-sound : sound limit g (wide t) ≡ true
+  pub some : 0 < total g (wide t)
+
+-- boxes of the grid, each with some weight, in a record of 256 places
+pub record Found (g : Grid) (v : View) (b : Boxes) : Type 0 where
+  pub few : b .found ≤ 256
+  pub long : length (b .places) ≡ 256
+  pub occupied : (i : ℕ) → i < b .found → Occupied g v (getD (listOf b) i noBox)
