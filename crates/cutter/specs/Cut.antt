@@ -19,12 +19,24 @@ use Rattle.cutter.specs.declared.CutRecord.{CutRecord}
 use Rattle.cutter.specs.Palette.{paletteLater, countsLater, Occupied}
 use Rattle.cutter.specs.Map.{mapOf}
 
--- the lengths of what is lent
+-- what is lent to be written, and its lengths
+pub record Buffers : Type 0 where
+  pub work : List ℕ
+  pub palette : List ℕ
+  pub counts : List ℕ
+  pub map : List ℕ
+
+abbrev pub buffers : List ℕ → List ℕ → List ℕ → List ℕ → Buffers
+buffers work palette counts map = record { work = work; palette = palette; counts = counts; map = map }
+
 pub record Lengths : Type 0 where
   pub work : ℕ
   pub palette : ℕ
   pub counts : ℕ
   pub map : ℕ
+
+abbrev pub lengthsOf : Buffers → Lengths
+lengthsOf b = record { work = length (b .work); palette = length (b .palette); counts = length (b .counts); map = length (b .map) }
 
 -- "table and work table exactly 5·bins; map exactly bins; palette at least 3·k bytes and counts (u32) at least k"
 unfoldable pub longEnough : Grid → ℕ → ℕ → Lengths → Bool
@@ -39,8 +51,8 @@ cutNumberOn most g k t l =
     (refuse (not (sound most g (wide t))) 6
     (refuse (eqb (total g (wide t)) 0) 8 0)))
 
-unfoldable pub cutNumber : ℕ → ℕ → ℕ → ℕ → List ℕ → Lengths → ℕ
-cutNumber b1 b2 b3 k t l = numberOn (gridOf b1 b2 b3) (λ g. cutNumberOn limit g k t l)
+unfoldable pub cutNumber : ℕ → ℕ → ℕ → ℕ → List ℕ → Buffers → ℕ
+cutNumber b1 b2 b3 k t b = numberOn (gridOf b1 b2 b3) (λ g. cutNumberOn limit g k t (lengthsOf b))
 
 -- ---- the record: "its number, the number of boxes, and the boxes with their spreads in order; places past the last box are all zeros"
 -- "A refusal returns its number and, from a cut, zero boxes and box places all zero"
@@ -53,13 +65,10 @@ doneRecord b = record { number = 0; boxes = b .found; places = b .places }
 unfoldable pub recordOn : Grid → ℕ → List ℕ → Lengths → CutRecord
 recordOn g k t l = let n = cutNumberOn limit g k t l in whenDone n (doneRecord (boxesOf g (wide t) k)) (refusedRecord n)
 
-unfoldable pub cutRecord : ℕ → ℕ → ℕ → ℕ → List ℕ → Lengths → CutRecord
-cutRecord b1 b2 b3 k t l = onGrid (gridOf b1 b2 b3) (refusedRecord 1) (λ g. recordOn g k t l)
+unfoldable pub cutRecord : ℕ → ℕ → ℕ → ℕ → List ℕ → Buffers → CutRecord
+cutRecord b1 b2 b3 k t b = onGrid (gridOf b1 b2 b3) (refusedRecord 1) (λ g. recordOn g k t (lengthsOf b))
 
--- ---- what was lent, afterwards: "A refusal .. writes nothing"
-unfoldable pub afterCut : {A : Type 0} → ℕ → ℕ → ℕ → ℕ → List ℕ → Lengths → A → (Grid → A) → A
-afterCut b1 b2 b3 k t l old done = onGrid (gridOf b1 b2 b3) old (λ g. whenDone (cutNumberOn limit g k t l) (done g) old)
-
+-- ---- what was lent, afterwards
 -- the box of a place of the record
 unfoldable pub boundsOf : BoxSpread → Bounds
 boundsOf x = record { r0 = x .r0; r1 = x .r1; g0 = x .g0; g1 = x .g1; b0 = x .b0; b1 = x .b1 }
@@ -72,18 +81,19 @@ listOf b = map boundsOf (take (b .found) (b .places))
 unfoldable pub boxList : Grid → List ℕ → ℕ → List Bounds
 boxList g t k = listOf (boxesOf g (wide t) k)
 
--- "the work table holds the moments of the whole table"
-unfoldable pub workDone : Grid → List ℕ → List ℕ
-workDone g t = wideList (binsOf g) (momentsOf g (wide t))
+-- "the work table holds the moments of the whole table"; palette and counts are filled in front; the map is full
+unfoldable pub laterOn : Grid → ℕ → List ℕ → Buffers → Buffers
+laterOn g k t b =
+    record {
+      work = wideList (binsOf g) (momentsOf g (wide t));
+      palette = paletteLater g (wide t) (boxList g t k) (b .palette);
+      counts = countsLater g (wide t) (boxList g t k) (b .counts);
+      map = mapOf g (boxList g t k);
+    }
 
-unfoldable pub paletteDone : Grid → List ℕ → ℕ → List ℕ → List ℕ
-paletteDone g t k old = paletteLater g (wide t) (boxList g t k) old
-
-unfoldable pub countsDone : Grid → List ℕ → ℕ → List ℕ → List ℕ
-countsDone g t k old = countsLater g (wide t) (boxList g t k) old
-
-unfoldable pub mapDone : Grid → List ℕ → ℕ → List ℕ
-mapDone g t k = mapOf g (boxList g t k)
+-- "A refusal .. writes nothing"
+unfoldable pub cutLater : ℕ → ℕ → ℕ → ℕ → List ℕ → Buffers → Buffers
+cutLater b1 b2 b3 k t b = onGrid (gridOf b1 b2 b3) b (λ g. whenDone (cutNumberOn limit g k t (lengthsOf b)) (laterOn g k t b) b)
 
 -- ---- what the code is given
 -- a call that nothing refuses

@@ -23,7 +23,8 @@ ghost use Rattle.sums.specs.Box.{Within};
 ghost use Rattle.sums.specs.Moments.{Worked};
 ghost use Rattle.cutter.specs.Palette.{meanOf, colourOf, countOf, paletteLater, countsLater, frontOf, statsColour, withColourAt, Coloured, Occupied};
 ghost use Rattle.cutter.specs.Map.{lies, holds, slice, fillWhere, fillOf, fillFrom, Plane};
-ghost use Rattle.cutter.specs.Cut.{longEnough, cutNumberOn, refusedRecord, doneRecord, boundsOf, listOf, Found};
+ghost use Rattle.rounds.specs.Loop.{boxesOf};
+ghost use Rattle.cutter.specs.Cut.{buffers, lengthsOf, longEnough, cutNumberOn, refusedRecord, doneRecord, cutRecord, boundsOf, listOf, laterOn, cutLater, CanCut, Found};
 
 // ---- Palette and counts
 
@@ -281,4 +282,59 @@ fn number_on(
         return 8;
     }
     0
+}
+
+// A cut that nothing refuses.
+fn cut_on(
+    g: Grid,
+    k: usize,
+    table: &[u64],
+    work: &mut [u64],
+    palette: &mut [u8],
+    counts: &mut [u32],
+    map: &mut [u8],
+) -> CutRecord
+    requires { ⌜ Accepted g × CanCut g k (now table) (lengthsOf (buffers (now work) (now palette) (now counts) (now map))) ⌝ }
+    ensures { λ r. ⌜ r ≡ doneRecord (boxesOf g (wide (now (table .entry))) k) ⌝ }
+    ensures { λ r. ⌜ buffers (now (work .exit)) (now (palette .exit)) (now (counts .exit)) (now (map .exit)) ≡ laterOn g k (now (table .entry)) (buffers (now (work .entry)) (now (palette .entry)) (now (counts .entry)) (now (map .entry))) ⌝ }
+{
+    moments(table, g, work);
+    let b = cut_boxes(table, work, g, k);
+    put_results(table, work, g, b, palette, counts);
+    fill_boxes(table, g, b, map);
+    done(b)
+}
+
+// Cuts a table into at most k boxes: their colours go into the palette, their weights into the counts, and the index of
+// the box of each bin into the map.
+pub fn cut(
+    b1: usize,
+    b2: usize,
+    b3: usize,
+    k: usize,
+    table: &[u64],
+    work: &mut [u64],
+    palette: &mut [u8],
+    counts: &mut [u32],
+    map: &mut [u8],
+) -> CutRecord
+    ensures { λ r. ⌜ r ≡ cutRecord b1 b2 b3 k (now (table .entry)) (buffers (now (work .entry)) (now (palette .entry)) (now (counts .entry)) (now (map .entry))) ⌝ }
+    ensures { λ r. ⌜ buffers (now (work .exit)) (now (palette .exit)) (now (counts .exit)) (now (map .exit)) ≡ cutLater b1 b2 b3 k (now (table .entry)) (buffers (now (work .entry)) (now (palette .entry)) (now (counts .entry)) (now (map .entry))) ⌝ }
+{
+    let Chosen::Of(g) = grid_of(b1, b2, b3) else {
+        return refused(1);
+    };
+    let number = number_on(
+        g,
+        k,
+        table,
+        work.len(),
+        palette.len(),
+        counts.len(),
+        map.len(),
+    );
+    if number != 0 {
+        return refused(number);
+    }
+    cut_on(g, k, table, work, palette, counts, map)
 }

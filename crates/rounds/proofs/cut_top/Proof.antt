@@ -1,6 +1,6 @@
 -- `rounds::cut_top` meets its contract: no position puts the box back, and a position puts in its two sides.
 -- Assumes nothing.
-use mathlib.Core.Path.{_≡_, sym, ap, _∙_}
+use mathlib.Core.Path.{_≡_, sym, ap, subst, _∙_}
 use Prim.Native.Nat.{_+_}
 use native.Mathlib.Omega.{arith}
 use borrow.Author.Needs.{needs}
@@ -62,7 +62,7 @@ high-side-requires c κs = search needs
 put-itself-requires : tie.Need-put-itself-requires
 put-itself-requires c κs =
     let s = c .before .before .before .before .before .before .before .before .before .before in (
-      (s .pre .0 .0, rw (c .before .before .before .low-side .ensures) (low-box (view s) (s .pre .0 .1) (sym (c .before .before .before .before .before .before .before .best-cut .ensures) ∙ c .before .before .before .before .before .dimension .given .1))),
+      (s .pre .0 .0, subst (Within (s .args .g)) (sym (c .before .before .before .low-side .ensures)) (low-box (view s) (s .pre .0 .1) (sym (c .before .before .before .before .before .before .before .best-cut .ensures) ∙ c .before .before .before .before .before .dimension .given .1))),
       (s .pre .1 .0, omega (arith, s .pre .1 .1)),
     )
 
@@ -72,7 +72,7 @@ add-put-itself c = record { fits = omega (arith, c .before .before .before .befo
 put-itself-requires-2 : tie.Need-put-itself-requires-2
 put-itself-requires-2 c κs =
     let s = c .before .before .before .before .before .before .before .before .before .before .before .before .before in (
-      (s .pre .0 .0, rw (c .before .before .before .before .before .high-side .ensures) (high-box (view s) (s .pre .0 .1) (sym (c .before .before .before .before .before .before .before .before .before .before .best-cut .ensures) ∙ c .before .before .before .before .before .before .before .before .dimension .given .1))),
+      (s .pre .0 .0, subst (Within (s .args .g)) (sym (c .before .before .before .before .before .high-side .ensures)) (high-box (view s) (s .pre .0 .1) (sym (c .before .before .before .before .before .before .before .before .before .before .best-cut .ensures) ∙ c .before .before .before .before .before .before .before .before .dimension .given .1))),
       (c .before .before .put-itself .ensures .1, s .pre .1 .1),
     )
 
