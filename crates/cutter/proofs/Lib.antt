@@ -4,3 +4,4 @@ pub mod Maps
 pub mod Colours
 pub mod Turns
 pub mod Worked
+pub mod Tiling
