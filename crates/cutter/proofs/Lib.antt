@@ -6,3 +6,5 @@ pub mod Turns
 pub mod Worked
 pub mod Listed
 pub mod Refusals
+pub mod Tiling
+pub mod Finding

@@ -70,7 +70,7 @@ itself-equal (inf false) n = refl
 itself-equal (fin true m e) n = rw (eq-eqb (m * up e * down e) (m * up e * down e) refl) refl
 itself-equal (fin false m e) n = rw (eq-eqb (m * up e * down e) (m * up e * down e) refl) refl
 
-of-cold : (s : Float) → s ≢ nan → goesOn s ≡ false → lt zeroOf s ≡ false
+pub of-cold : (s : Float) → s ≢ nan → goesOn s ≡ false → lt zeroOf s ≡ false
 unfolding goesOn
 of-cold s n e = go (lt zeroOf s) e
   where

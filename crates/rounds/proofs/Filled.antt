@@ -74,8 +74,11 @@ each-round {g} {v} {P} k {h} {n} e l =
     two m = omega arith
 
 -- the places in use alone
+any-kept : (g : Grid) (v : View) → Kept g v (λ x. Unit {0})
+any-kept g v = record { spent-too = λ x p q. tt; sides-too = λ x p q. (tt, tt) }
+
 pub in-use-round : (g : Grid) (v : View) {h : Room Bounds} {n : ℕ} → InUse h n → n < 256 → InUse (roundRoom g v h n) (roundUsed g v h n)
-in-use-round g v {h} {n} u l = each-round {P = λ x. Unit {0}} (record { spent-too = λ x p q. tt; sides-too = λ x p q. (tt, tt) }) {h = h} {n = n} (record { in-use = u; each = λ p m. tt }) l .in-use
+in-use-round g v {h} {n} u l = each-round (any-kept g v) {h = h} {n = n} (record { in-use = u; each = λ p m. tt }) l .in-use
 
 -- all rounds
 pub each-rounds : {g : Grid} {v : View} {P : Item Bounds → Type 0} → Kept g v P → (k f : ℕ) → k ≤ 256 → (h : Heap) → Each P (h .room) (h .used) → Each P (rounds f g v k h .room) (rounds f g v k h .used)
@@ -143,6 +146,10 @@ start-fit {g} {v} a l =
 pub heap-fit : {g : Grid} {v : View} → Accepted g → 0 < total g v → (k : ℕ) → k ≤ 256 → Each (Fit g v) (heapOf g v k .room) (heapOf g v k .used)
 unfolding heapOf start
 heap-fit {g} {v} a l k most = each-rounds (fit-kept g v) k (2 * k) most (start g) (start-fit a l)
+
+pub heap-in-use : (g : Grid) (v : View) (k : ℕ) → k ≤ 256 → InUse (heapOf g v k .room) (heapOf g v k .used)
+unfolding heapOf start
+heap-in-use g v k most = each-rounds (any-kept g v) k (2 * k) most (start g) (record { in-use = start-in-use g; each = λ p m. tt }) .in-use
 
 -- no more than k boxes
 round-most : (g : Grid) (v : View) (h : Room Bounds) (n : ℕ) → 0 < n → roundUsed g v h n ≤ n + 1

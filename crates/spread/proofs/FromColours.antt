@@ -1,31 +1,29 @@
 -- A table loaded from colours: where two bins of a box are occupied, two of its colours differ, so the computed spread is above 0.
 -- Assumes nothing.
-use mathlib.Core.Path.{_≡_, refl, sym, ap, ap₂, _∙_}
-use mathlib.Core.Logic.{_⊎_, inl, inr}
+use mathlib.Core.Path.{_≡_, refl, sym, ap, ap₂, subst, _∙_}
+use mathlib.Core.Logic.{inl, inr}
 use mathlib.Core.Bool.{Bool, true, false, cond, _&&_}
-use mathlib.Core.List.{List, [], _∷_, List·Memᴰ, List·Memᴰ·head, List·Memᴰ·tail}
+use mathlib.Core.List.{List, [], _∷_, List·Memᴰ, List·Memᴰ·head, List·Memᴰ·tail, List·Memᴰ·not-nil, List·Memᴰ·cases-cons}
 use Prim.Native.Nat.{ℕ, _+_, _-_, _*_, _≤_, _<_}
-use native.Mathlib.Decide.{ℕ-discrete}
 use native.Mathlib.Nat.{le-trans, zero-add, zero-mul, mul-one, pos-of-ne-zero}
 use native.Mathlib.Omega.{arith}
 use borrow.Author.Tests.{eqb-true, ltb-true, ltb-false, le-leb, lt-ltb}
 use lib.Dec.{eqb, ltb, lit<, lit≤}
 use Rattle.grid.specs.declared.Grid.{Grid}
 use Rattle.grid.specs.Size.{binOf}
-use Rattle.grid.specs.Grid.{Accepted, Inside, choose, componentAt, binsOf, placeOf, colourPlace}
-use Rattle.grid.proofs.Range.{and-left, and-right, hit, hit-no, hit-yes}
+use Rattle.grid.specs.Grid.{Accepted, choose, componentAt, binsOf, placeOf, colourPlace}
+use Rattle.grid.proofs.Range.{and-left, and-right}
 use Rattle.grid.proofs.Places.{Bytes, colour-inside, place-lt, place-once}
 use Rattle.table.specs.Cell.{View, wide}
 use Rattle.table.specs.Sound.{limit}
-use Rattle.loader.specs.Load.{Weighted, share, adds, sumOver, weightOf, loaded}
-use Rattle.loader.proofs.Loading.{AllBytes, share-weight, share-sum, share-squares, load-sound, loaded-at, adds-at, over-none, over-more}
+use Rattle.loader.specs.Load.{Weighted, share, sumOver, weightOf, loaded}
+use Rattle.loader.proofs.Loading.{AllBytes, share-weight, share-sum, share-squares, load-sound, over-none, over-more}
 use Rattle.loader.proofs.Order.{tableOf, table-holds}
 use Rattle.table.proofs.Soundness.{zeros, zeros-total, zeros-sound}
 use Rattle.sums.specs.declared.Bounds.{Bounds}
 use Rattle.sums.specs.Box.{boxSum, Within, InBox}
-use Rattle.sums.proofs.Corners.{sides}
-use Rattle.sums.proofs.Laws.{bins-empty}
-use Rattle.sums.proofs.Loaded.{among, lies, loaded-box}
+use Rattle.sums.proofs.Laws.{bins-empty, bin-inside}
+use Rattle.sums.proofs.Loaded.{among, lies, loaded-box, ColourAt, occupied-colour}
 use Rattle.sums.proofs.Same.{stats-same}
 use Rattle.spread.specs.Spread.{oneBin, SpreadsAbove}
 use Rattle.spread.proofs.Above.{box-above}
@@ -76,6 +74,20 @@ module _ (g : Grid) (x : Bounds) where
       go : (t : Bool) → isPoint c ≡ t → Positive (points cs) → Positive (cond t (pointOf c ∷ points cs) (points cs))
       go true e rest = (ltb-true 0 (c .weight) (and-right (lies g x c) (ltb 0 (c .weight)) e), rest)
       go false e rest = rest
+
+  -- each of those colours is among them
+  point-in : (cs : List Weighted) {c : Weighted} → List·Memᴰ c cs → isPoint c ≡ true → List·Memᴰ (pointOf c) (points cs)
+  unfolding points
+  point-in [] m h = absurd (List·Memᴰ·not-nil m)
+  point-in (d ∷ cs) {c} m h =
+      elim (List·Memᴰ·cases-cons m) [
+        | inl e ↦ rw (ap isPoint (sym e) ∙ h) (List·Memᴰ·head (ap pointOf e))
+        | inr k ↦ kept (isPoint d) (point-in cs k h)
+      ]
+    where
+      kept : (t : Bool) → List·Memᴰ (pointOf c) (points cs) → List·Memᴰ (pointOf c) (cond t (pointOf d ∷ points cs) (points cs))
+      kept true m = List·Memᴰ·tail m
+      kept false m = m
 
   -- what the colours have in the box is what its points have
   module _ (f : Point → ℕ) where
@@ -141,20 +153,19 @@ record Found (g : Grid) (l : List Point) (r gr b : ℕ) : Type 0 where
 among-in : (i n q : ℕ) → (i ≤ q) × (q < n) → among i (n - i) q ≡ true
 among-in i n q h = rw (le-leb i q (h .0), lt-ltb q (i + (n - i)) (omega (arith, h .0, h .1)))
 
+bytes-of : (cs : List Weighted) → AllBytes cs → {c : Weighted} → List·Memᴰ c cs → Bytes (c .colour)
+bytes-of [] b m = absurd (List·Memᴰ·not-nil m)
+bytes-of (d ∷ cs) b m = elim (List·Memᴰ·cases-cons m) [ inl e ↦ subst (λ (c : Weighted). Bytes (c .colour)) (sym e) (b .0) | inr k ↦ bytes-of cs (b .1) k ]
+
 module _ {g : Grid} {x : Bounds} (w : Within g x) {r gr b : ℕ} (i : InBox x r gr b) where
   abbrev place : ℕ
   place = placeOf g r gr b
-
-  inside : Inside g r gr b
-  inside =
-      let e = sides w in
-      record { accepted = w .accepted; one = omega (arith, i .one .1, e .one-fits); two = omega (arith, i .two .1, e .two-fits); three = omega (arith, i .three .1, e .three-fits) }
 
   -- a colour of that place
   bins-of : (c : Weighted) → Bytes (c .colour) → colourPlace g (c .colour) ≡ place → Binned g (pointOf c) r gr b
   unfolding colourPlace choose
   bins-of c k e =
-      let same = place-once (colour-inside (w .accepted) k) inside e in
+      let same = place-once (colour-inside (w .accepted) k) (bin-inside w i) e in
       record { one = same 0; two = same 1; three = same 2 }
 
   lies-in : (c : Weighted) → Binned g (pointOf c) r gr b → lies g x c ≡ true
@@ -162,37 +173,11 @@ module _ {g : Grid} {x : Bounds} (w : Within g x) {r gr b : ℕ} (i : InBox x r 
   lies-in c e =
       rw (e .one, e .two, e .three, among-in (x .r0) (x .r1) r (i .one), among-in (x .g0) (x .g1) gr (i .two), among-in (x .b0) (x .b1) b (i .three))
 
-  -- one colour either is a point with those bins, or adds no weight there
-  here-or-none : (c : Weighted) → Bytes (c .colour) → ((isPoint g x c ≡ true) × Binned g (pointOf c) r gr b) ⊎ (adds g c place 0 ≡ 0)
-  here-or-none c k = go (ℕ-discrete (colourPlace g (c .colour)) place) (ℕ-discrete (c .weight) 0)
-    where
-      adds-is : adds g c place 0 ≡ hit (colourPlace g (c .colour)) place (c .weight)
-      adds-is = adds-at g c place 0 ∙ ap (hit (colourPlace g (c .colour)) place) (share-weight c)
-
-      go : Dec (colourPlace g (c .colour) ≡ place) → Dec (c .weight ≡ 0) → ((isPoint g x c ≡ true) × Binned g (pointOf c) r gr b) ⊎ (adds g c place 0 ≡ 0)
-      go (no n) z = inr (adds-is ∙ hit-no (colourPlace g (c .colour)) place (c .weight) n)
-      go (yes e) (yes z) = inr (adds-is ∙ hit-yes (colourPlace g (c .colour)) place (c .weight) e ∙ z)
-      go (yes e) (no z) = inl (rw (lies-in c (bins-of c k e), lt-ltb 0 (c .weight) (pos-of-ne-zero z)), bins-of c k e)
-
-  found : (cs : List Weighted) → AllBytes cs → (sumOver cs (λ c. adds g c place 0) ≡ 0 → ⊥) → Found g (points g x cs) r gr b
-  unfolding points
-  found [] k o = absurd (o (over-none (λ c. adds g c place 0)))
-  found (c ∷ cs) k o =
-      elim (here-or-none c (k .0)) [
-        | inl h ↦ record { point = pointOf c; member = rw (h .0) (List·Memᴰ·head refl); binned = h .1 }
-        | inr z ↦ later (found cs (k .1) (λ e. o (over-more c cs (λ d. adds g d place 0) ∙ ap₂ (λ (m n : ℕ). m + n) z e)))
-      ]
-    where
-      kept : {p : Point} → (t : Bool) → List·Memᴰ p (points g x cs) → List·Memᴰ p (cond t (pointOf c ∷ points g x cs) (points g x cs))
-      kept true m = List·Memᴰ·tail m
-      kept false m = m
-
-      later : Found g (points g x cs) r gr b → Found g (add g x c (points g x cs)) r gr b
-      later f = record { point = f .point; member = kept (isPoint g x c) (f .member); binned = f .binned }
-
--- where no colour adds weight there is none
-no-weight : (g : Grid) (cs : List Weighted) (p : ℕ) → sumOver cs (λ c. adds g c p 0) ≡ 0 → loaded g cs zeros p 0 ≡ 0
-no-weight g cs p e = loaded-at g cs zeros p 0 ∙ zero-add (sumOver cs (λ c. adds g c p 0)) ∙ e
+  found : (cs : List Weighted) → AllBytes cs → ColourAt g cs place → Found g (points g x cs) r gr b
+  found cs k o =
+      let c = o .colour in
+      let there = bins-of c (bytes-of cs k (o .among-them)) (o .there) in
+      record { point = pointOf c; member = point-in g x cs (o .among-them) (rw (lies-in c there) (lt-ltb 0 (c .weight) (o .weighs))); binned = there }
 
 -- points of different bins are not alike
 unlike : {g : Grid} {p q : Point} {r gr b r' gr' b' : ℕ} → Binned g p r gr b → Binned g q r' gr' b' → (placeOf g r gr b ≡ placeOf g r' gr' b' → ⊥) → Alike p q → ⊥
@@ -212,7 +197,7 @@ spreads-same {g} {v} {u} same s =
     }
   where
     at : {x : Bounds} → Within g x → {r gr b : ℕ} → InBox x r gr b → v (placeOf g r gr b) 0 ≡ u (placeOf g r gr b) 0
-    at w {r} {gr} {b} i = same (placeOf g r gr b) 0 (place-lt (inside w i)) (lit< tt)
+    at w {r} {gr} {b} i = same (placeOf g r gr b) 0 (place-lt (bin-inside w i)) (lit< tt)
 
 -- ---- the theorem
 module _ {g : Grid} (a : Accepted g) (cs : List Weighted) (b : AllBytes cs) where
@@ -223,8 +208,8 @@ module _ {g : Grid} (a : Accepted g) (cs : List Weighted) (b : AllBytes cs) wher
         above = λ x w r gr z r' gr' z' i k o o' n.
             let v = loaded g cs zeros in
             let sound = load-sound a cs b (zeros-sound limit g) (omega (arith, zeros-total g)) in
-            let p = found w i cs b (λ e. o (no-weight g cs (placeOf g r gr z) e)) in
-            let q = found w k cs b (λ e. o' (no-weight g cs (placeOf g r' gr' z') e)) in
+            let p = found w i cs b (occupied-colour g (placeOf g r gr z) cs o) in
+            let q = found w k cs b (occupied-colour g (placeOf g r' gr' z') cs o') in
             box-above sound w (pos-of-ne-zero (λ e. o (bins-empty g v x e r gr z i))) (not-one g i k n)
             (rw (weight-is w cs b, sum1-is w cs b, sum2-is w cs b, sum3-is w cs b, squares-is w cs b)
             (colours-half (points g x cs) (points-positive g x cs)

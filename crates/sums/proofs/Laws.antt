@@ -5,7 +5,7 @@ use Prim.Native.Nat.{ℕ, zero, suc, _+_, _-_, _*_, _≤_, _<_}
 use native.Mathlib.Nat.{le-trans, le-of-lt}
 use native.Mathlib.Omega.{arith}
 use Rattle.grid.specs.declared.Grid.{Grid}
-use Rattle.grid.specs.Grid.{Accepted, choose, sizeAt, binsOf, placeOf}
+use Rattle.grid.specs.Grid.{Accepted, Inside, choose, sizeAt, binsOf, placeOf}
 use Rattle.grid.proofs.Places.{place-lt}
 use Rattle.table.specs.declared.Cell.{Cell}
 use Rattle.table.specs.Cell.{View, minusCell, AtLeast}
@@ -204,3 +204,9 @@ unfolding minAt maxAt choose
 in-box i zero = i .one
 in-box i (suc zero) = i .two
 in-box i (suc (suc d)) = i .three
+
+-- a bin of a box is one of the grid
+pub bin-inside : {g : Grid} {x : Bounds} → Within g x → {r gr b : ℕ} → InBox x r gr b → Inside g r gr b
+bin-inside w i =
+    let e = sides w in
+    record { accepted = w .accepted; one = omega (arith, i .one .1, e .one-fits); two = omega (arith, i .two .1, e .two-fits); three = omega (arith, i .three .1, e .three-fits) }

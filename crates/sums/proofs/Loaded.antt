@@ -1,11 +1,12 @@
 -- What a box of a loaded table holds, by the loaded colours.
 -- Assumes nothing.
 use mathlib.Core.Path.{_≡_, refl, sym, ap, _∙_}
+use mathlib.Core.Logic.{inl, inr}
 use mathlib.Core.Bool.{Bool, true, false, cond, _&&_}
-use mathlib.Core.List.{List, [], _∷_}
+use mathlib.Core.List.{List, [], _∷_, List·Memᴰ, List·Memᴰ·head, List·Memᴰ·tail, List·Memᴰ·not-nil, List·Memᴰ·cases-cons}
 use Prim.Native.Nat.{ℕ, _+_, _-_, _≤_, _<_}
 use native.Mathlib.Decide.{ℕ-discrete, decLe}
-use native.Mathlib.Nat.{zero-add, lt-of-not-le}
+use native.Mathlib.Nat.{zero-add, lt-of-not-le, pos-of-ne-zero}
 use native.Mathlib.Omega.{arith}
 use borrow.Author.Tests.{le-leb, lt-leb, lt-ltb, le-ltb}
 use lib.Dec.{leb, ltb}
@@ -16,7 +17,7 @@ use Rattle.grid.specs.Grid.{Inside, choose, placeOf, colourPlace}
 use Rattle.grid.proofs.Range.{hit, hit-yes, hit-no, sum-hit, sum-zero, sum-same}
 use Rattle.grid.proofs.Places.{Bytes, colour-inside, place-once}
 use Rattle.loader.specs.Load.{Weighted, share, adds, sumOver, loaded}
-use Rattle.loader.proofs.Loading.{AllBytes, loaded-at, adds-at, over-none, over-more}
+use Rattle.loader.proofs.Loading.{AllBytes, share-weight, loaded-at, adds-at, over-none, over-more}
 use Rattle.table.proofs.Soundness.{zeros}
 use Rattle.sums.specs.declared.Bounds.{Bounds}
 use Rattle.sums.specs.Box.{sum3, binSum, boxSum, Within}
@@ -127,3 +128,47 @@ module _ {g : Grid} {x : Bounds} (w : Within g x) (j : ℕ) where
       sum3-same (x .r0) (x .r1 - x .r0) (x .g0) (x .g1 - x .g0) (x .b0) (x .b1 - x .b0) _ _
       (λ r gr z h i k. loaded-at g cs zeros (placeOf g r gr z) j ∙ zero-add (sumOver cs (λ c. adds g c (placeOf g r gr z) j)))
       ∙ over-box cs b
+
+-- ---- the occupied bins of a loaded table
+-- a loaded colour of weight above 0, at a place
+pub record ColourAt (g : Grid) (cs : List Weighted) (p : ℕ) : Type 0 where
+  pub colour : Weighted
+  pub among-them : List·Memᴰ colour cs
+  pub weighs : 0 < colour .weight
+  pub there : colourPlace g (colour .colour) ≡ p
+
+module _ (g : Grid) (p : ℕ) where
+  adds-weight : (c : Weighted) → adds g c p 0 ≡ hit (colourPlace g (c .colour)) p (c .weight)
+  adds-weight c = adds-at g c p 0 ∙ ap (hit (colourPlace g (c .colour)) p) (share-weight c)
+
+  weight-at : (cs : List Weighted) → loaded g cs zeros p 0 ≡ sumOver cs (λ c. adds g c p 0)
+  weight-at cs = loaded-at g cs zeros p 0 ∙ zero-add (sumOver cs (λ c. adds g c p 0))
+
+  some-colour : (cs : List Weighted) → (sumOver cs (λ c. adds g c p 0) ≡ 0 → ⊥) → ColourAt g cs p
+  some-colour [] o = absurd (o (over-none (λ c. adds g c p 0)))
+  some-colour (c ∷ cs) o = go (ℕ-discrete (colourPlace g (c .colour)) p) (ℕ-discrete (c .weight) 0) (λ n. some-colour cs n)
+    where
+      later : adds g c p 0 ≡ 0 → ((sumOver cs (λ d. adds g d p 0) ≡ 0 → ⊥) → ColourAt g cs p) → ColourAt g (c ∷ cs) p
+      later z rest =
+          let f = rest (λ e. o (over-more c cs (λ d. adds g d p 0) ∙ (λ i. z i + e i))) in
+          record { colour = f .colour; among-them = List·Memᴰ·tail (f .among-them); weighs = f .weighs; there = f .there }
+
+      go : Dec (colourPlace g (c .colour) ≡ p) → Dec (c .weight ≡ 0) → ((sumOver cs (λ d. adds g d p 0) ≡ 0 → ⊥) → ColourAt g cs p) → ColourAt g (c ∷ cs) p
+      go (no n) d rest = later (adds-weight c ∙ hit-no (colourPlace g (c .colour)) p (c .weight) n) rest
+      go (yes e) (yes z) rest = later (adds-weight c ∙ hit-yes (colourPlace g (c .colour)) p (c .weight) e ∙ z) rest
+      go (yes e) (no z) rest = record { colour = c; among-them = List·Memᴰ·head refl; weighs = pos-of-ne-zero z; there = e }
+
+  its-weight : (cs : List Weighted) {c : Weighted} → List·Memᴰ c cs → colourPlace g (c .colour) ≡ p → c .weight ≤ sumOver cs (λ d. adds g d p 0)
+  its-weight [] m h = absurd (List·Memᴰ·not-nil m)
+  its-weight (d ∷ cs) {c} m h =
+      elim (List·Memᴰ·cases-cons m) [
+        | inl e ↦ (let same : c .weight ≡ adds g d p 0 = sym (adds-weight c ∙ hit-yes (colourPlace g (c .colour)) p (c .weight) h) ∙ ap (λ (x : Weighted). adds g x p 0) e in omega (arith, same, over-more d cs (λ x. adds g x p 0)))
+        | inr k ↦ omega (arith, its-weight cs k h, over-more d cs (λ x. adds g x p 0))
+      ]
+
+  -- a place has weight exactly where there is a loaded colour of weight above 0
+  pub occupied-colour : (cs : List Weighted) → (loaded g cs zeros p 0 ≡ 0 → ⊥) → ColourAt g cs p
+  occupied-colour cs o = some-colour cs (λ e. o (weight-at cs ∙ e))
+
+  pub colour-occupies : (cs : List Weighted) → ColourAt g cs p → loaded g cs zeros p 0 ≡ 0 → ⊥
+  colour-occupies cs c e = omega (arith, c .weighs, its-weight cs (c .among-them) (c .there), weight-at cs)

@@ -1,0 +1,108 @@
+-- The boxes of a loop as a list: each bin of the grid lies in exactly one of them, none is empty, and their counts add up to the total.
+-- Assumes nothing.
+use mathlib.Core.Path.{_≡_, refl, sym, ap, _∙_}
+use mathlib.Core.Bool.{cond}
+use mathlib.Core.List.{List, [], _∷_, map}
+use Prim.Native.Nat.{ℕ, zero, suc, _+_, _≤_, _<_}
+use native.Mathlib.Nat.{pos-of-ne-zero}
+use native.Mathlib.Omega.{arith}
+use lib.ListN.{length, getD, take, length-map, List·getD-map}
+use lib.Seq.{getD-take, length-take-le}
+use Rattle.grid.specs.declared.Grid.{Grid}
+use Rattle.grid.specs.Range.{sumFrom}
+use Rattle.grid.specs.Grid.{Accepted, choose, sizeAt}
+use Rattle.grid.proofs.Range.{sum-shift}
+use Rattle.table.specs.Cell.{View}
+use Rattle.table.specs.Sound.{total}
+use Rattle.table.proofs.Soundness.{total-is}
+use Rattle.sums.specs.declared.Bounds.{Bounds}
+use Rattle.sums.specs.Box.{minAt, maxAt, boxSum}
+use Rattle.sums.proofs.Laws.{cut-sum}
+use Rattle.heap.specs.Heap.{Item, Room, item, sumItems}
+use Rattle.rounds.specs.Loop.{noBox, noItem, wholeOf, heapOf}
+use Rattle.rounds.proofs.Grids.{whole-sum}
+use Rattle.rounds.proofs.Filled.{heap-fit, heap-in-use}
+use Rattle.rounds.proofs.Cover.{over, over-heap}
+use Rattle.cutter.specs.Palette.{countOf, countsOf, Occupied}
+use Rattle.cutter.specs.Map.{holds, holding, Tiles}
+use Rattle.cutter.proofs.Held.{whole-holds, cut-holding}
+
+-- the boxes of the first n places of a room
+abbrev pub boxesIn : Room Bounds → ℕ → List Bounds
+boxesIn h n = map (λ (i : Item Bounds). i .box) (take n h)
+
+-- "Box i is the heap's place i": the boxes of a loop
+abbrev pub boxesFound : Grid → View → ℕ → List Bounds
+boxesFound g v k = boxesIn (heapOf g v k .room) (heapOf g v k .used)
+
+-- ---- one box after the other
+holding-sum : (g : Grid) (p : ℕ) (h : Room Bounds) → holding g (map (λ (i : Item Bounds). i .box) h) p ≡ sumItems (λ i. cond (holds g (i .box) p) 1 0) h
+unfolding holding sumItems
+holding-sum g p [] = refl
+holding-sum g p (x ∷ h) = ap (λ (n : ℕ). cond (holds g (x .box) p) 1 0 + n) (holding-sum g p h)
+
+counts-sum : (g : Grid) (v : View) (h : Room Bounds)
+    → sumFrom 0 (length h) (λ i. getD (countsOf g v (map (λ (x : Item Bounds). x .box) h)) i 0) ≡ sumItems (λ x. boxSum g v (x .box) 0) h
+unfolding countsOf countOf sumFrom sumItems
+counts-sum g v [] = refl
+counts-sum g v (x ∷ h) = ap (λ (n : ℕ). boxSum g v (x .box) 0 + n) (sum-shift 1 0 (length h) count ∙ (λ j. sumFrom 0 (length h) (λ i. count (next i j))) ∙ counts-sum g v h)
+  where
+    count : ℕ → ℕ
+    count i = getD (countsOf g v (map (λ (y : Item Bounds). y .box) (x ∷ h))) i 0
+
+    next : (i : ℕ) → 1 + i ≡ suc i
+    next i = omega arith
+
+-- ---- the whole grid
+whole-low : (g : Grid) (d : ℕ) → minAt (wholeOf g) d ≡ 0
+unfolding minAt wholeOf choose
+whole-low g zero = refl
+whole-low g (suc zero) = refl
+whole-low g (suc (suc d)) = refl
+
+whole-high : (g : Grid) (d : ℕ) → maxAt (wholeOf g) d ≡ sizeAt g d
+unfolding maxAt wholeOf sizeAt
+whole-high g d = refl
+
+module _ (g : Grid) (v : View) (k : ℕ) (most : k ≤ 256) where
+  abbrev room : Room Bounds
+  room = heapOf g v k .room
+
+  abbrev used : ℕ
+  used = heapOf g v k .used
+
+  in-room : used ≤ length room
+  in-room = let u = heap-in-use g v k most in omega (arith, u .long, u .most)
+
+  pub boxes-long : length (boxesFound g v k) ≡ used
+  boxes-long = length-map (take used room) (λ (i : Item Bounds). i .box) ∙ length-take-le used room in-room
+
+  pub box-at : (i : ℕ) → i < used → getD (boxesFound g v k) i noBox ≡ item noItem room i .box
+  box-at i h = List·getD-map (λ (x : Item Bounds). x .box) (take used room) i noItem ∙ ap (λ (x : Item Bounds). x .box) (getD-take used room i noItem h)
+
+  -- "each bin of the grid lies in exactly one box"
+  pub tiles : Accepted g → Tiles g (boxesFound g v k)
+  unfolding over
+  tiles a =
+      record {
+        once = λ p h.
+            holding-sum g p (take used room)
+            ∙ over-heap {f = λ x. cond (holds g x p) 1 0} (record { adds = λ x d c l m. cut-holding g x d c l m p }) g v k most
+            ∙ rw (whole-holds a (wholeOf g) (whole-low g) (whole-high g) p h) refl;
+      }
+
+  -- "no box is empty"
+  pub all-occupied : Accepted g → 0 < total g v → (i : ℕ) → i < used → Occupied g v (getD (boxesFound g v k) i noBox)
+  all-occupied a some i h =
+      let fit = heap-fit a some k most .each i h in
+      rw (box-at i h) (record { within = fit .within; some = pos-of-ne-zero (fit .some) })
+
+  -- "counts add up to the total"
+  pub counts-total : sumFrom 0 used (λ i. getD (countsOf g v (boxesFound g v k)) i 0) ≡ total g v
+  unfolding over
+  counts-total =
+      ap (λ (n : ℕ). sumFrom 0 n (λ i. getD (countsOf g v (boxesFound g v k)) i 0)) (sym (length-take-le used room in-room))
+      ∙ counts-sum g v (take used room)
+      ∙ over-heap {f = λ x. boxSum g v x 0} (record { adds = λ x d c h l. cut-sum g v x d c 0 h l }) g v k most
+      ∙ whole-sum g v 0
+      ∙ sym (total-is g v)
