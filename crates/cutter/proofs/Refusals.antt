@@ -10,11 +10,14 @@ use borrow.Author.Tests.{eq-eqb, ne-eqb, le-leb, lt-leb, leb-true, eqb-true, eqb
 use lib.Dec.{eqb, leb}
 use lib.ListN.{length}
 use Rattle.grid.specs.declared.Grid.{Grid}
-use Rattle.grid.specs.Answer.{refuse}
-use Rattle.grid.specs.Grid.{binsOf}
+use Rattle.grid.specs.declared.Chosen.the-variants as chosen
+use Rattle.grid.specs.Answer.{refuse, whenDone}
+use Rattle.grid.specs.Grid.{gridOf, onGrid, binsOf}
 use Rattle.table.specs.Cell.{wide}
 use Rattle.table.specs.Sound.{limit, total, sound}
-use Rattle.cutter.specs.Cut.{Lengths, longEnough, cutNumberOn, CanCut}
+use Rattle.rounds.specs.Loop.{boxesOf}
+use Rattle.cutter.specs.declared.CutRecord.{CutRecord}
+use Rattle.cutter.specs.Cut.{Buffers, Lengths, lengthsOf, longEnough, cutNumberOn, refusedRecord, doneRecord, recordOn, cutRecord, laterOn, cutLater, CanCut}
 
 -- ---- the lengths
 module _ (g : Grid) (k table : ℕ) (l : Lengths) where
@@ -111,3 +114,25 @@ can-cut {g} {k} {t} {l} e =
   where
     positive : (n : ℕ) → (n ≡ 0 → ⊥) → 0 < n
     positive n h = omega arith
+
+-- ---- the call: what it hands back, and what it leaves behind
+module _ (b1 b2 b3 k : ℕ) (t : List ℕ) (b : Buffers) where
+  abbrev Ends : CutRecord → Buffers → Type 0
+  Ends r e = (r ≡ cutRecord b1 b2 b3 k t b) × (e ≡ cutLater b1 b2 b3 k t b)
+
+  pub cut-no-grid : gridOf b1 b2 b3 ≡ chosen.Refused → {r : CutRecord} → r ≡ refusedRecord 1 → Ends r b
+  unfolding cutRecord cutLater onGrid
+  cut-no-grid e q = (q ∙ rw e refl, rw e refl)
+
+  module _ {g : Grid} (e : gridOf b1 b2 b3 ≡ chosen.Of g) where
+    pub cut-refused : {n : ℕ} → n ≡ cutNumberOn limit g k t (lengthsOf b) → (n ≡ 0 → ⊥) → {r : CutRecord} → r ≡ refusedRecord n → Ends r b
+    unfolding cutRecord cutLater recordOn onGrid whenDone
+    cut-refused {n} p h {r} q = (q ∙ rw (e, ← p) (kept n h (refusedRecord n) _), rw (e, ← p) (kept n h b _))
+      where
+        kept : {A : Type 0} (n : ℕ) → (n ≡ 0 → ⊥) → (x y : A) → x ≡ whenDone n y x
+        kept zero h x y = absurd (h refl)
+        kept (suc n) h x y = refl
+
+    pub cut-done : cutNumberOn limit g k t (lengthsOf b) ≡ 0 → {r : CutRecord} → r ≡ doneRecord (boxesOf g (wide t) k) → {l : Buffers} → l ≡ laterOn g k t b → Ends r l
+    unfolding cutRecord cutLater recordOn onGrid whenDone
+    cut-done p q s = (q ∙ rw (e, p) refl, s ∙ rw (e, p) refl)
