@@ -1,30 +1,36 @@
 -- The boxes of a loop as a list: each bin of the grid lies in exactly one of them, none is empty, and their counts add up to the total.
 -- Assumes nothing.
 use mathlib.Core.Path.{_≡_, refl, sym, ap, _∙_}
-use mathlib.Core.Bool.{cond}
+use mathlib.Core.Bool.{cond, _&&_, and-true}
 use mathlib.Core.List.{List, [], _∷_, map}
-use Prim.Native.Nat.{ℕ, zero, suc, _+_, _≤_, _<_}
-use native.Mathlib.Nat.{pos-of-ne-zero}
+use Prim.Native.Nat.{ℕ, zero, suc, _+_, _-_, _≤_, _<_}
+use native.Mathlib.Nat.{pos-of-ne-zero, le-of-lt}
 use native.Mathlib.Omega.{arith}
+use lib.Dec.{leb, ltb}
 use lib.ListN.{length, getD, take, length-map, List·getD-map}
 use lib.Seq.{getD-take, length-take-le}
 use Rattle.grid.specs.declared.Grid.{Grid}
-use Rattle.grid.specs.Range.{sumFrom}
-use Rattle.grid.specs.Grid.{Accepted, choose, sizeAt}
+use Rattle.grid.specs.declared.Rgb.{Rgb}
+use Rattle.grid.specs.Range.{sumFrom, allFrom}
+use Rattle.grid.specs.Size.{binOf}
+use Rattle.grid.specs.Grid.{Accepted, choose, sizeAt, shiftAt, componentAt, binAt, colourPlace}
 use Rattle.grid.proofs.Range.{sum-shift}
+use Rattle.grid.proofs.Places.{Bytes, colour-bin}
 use Rattle.table.specs.Cell.{View}
 use Rattle.table.specs.Sound.{total}
 use Rattle.table.proofs.Soundness.{total-is}
 use Rattle.sums.specs.declared.Bounds.{Bounds}
-use Rattle.sums.specs.Box.{minAt, maxAt, boxSum}
+use Rattle.sums.specs.Box.{minAt, maxAt, boxSum, Within}
+use Rattle.sums.proofs.Corners.{sides}
 use Rattle.sums.proofs.Laws.{cut-sum}
+use Rattle.sums.proofs.Loaded.{among}
 use Rattle.heap.specs.Heap.{Item, Room, item, sumItems}
 use Rattle.rounds.specs.Loop.{noBox, noItem, wholeOf, heapOf}
 use Rattle.rounds.proofs.Grids.{whole-sum}
 use Rattle.rounds.proofs.Filled.{heap-fit, heap-in-use}
 use Rattle.rounds.proofs.Cover.{over, over-heap}
 use Rattle.cutter.specs.Palette.{countOf, countsOf, Occupied}
-use Rattle.cutter.specs.Map.{holds, holding, Tiles}
+use Rattle.cutter.specs.Map.{lies, holds, holding, Tiles}
 use Rattle.cutter.proofs.Held.{whole-holds, cut-holding}
 
 -- the boxes of the first n places of a room
@@ -106,3 +112,22 @@ module _ (g : Grid) (v : View) (k : ℕ) (most : k ≤ 256) where
       ∙ over-heap {f = λ x. boxSum g v x 0} (record { adds = λ x d c h l. cut-sum g v x d c 0 h l }) g v k most
       ∙ whole-sum g v 0
       ∙ sym (total-is g v)
+
+-- ---- the bin of a colour lies in a box where the box holds its place
+run-lies : (low end n : ℕ) → low ≤ end → lies low end n ≡ among low (end - low) n
+unfolding lies
+run-lies low end n h = ap (λ (m : ℕ). leb low n && ltb n m) there
+  where
+    there : end ≡ low + (end - low)
+    there = omega arith
+
+pub holds-colour : {g : Grid} {x : Bounds} → Within g x → {c : Rgb} → Bytes c
+    → holds g x (colourPlace g c)
+    ≡ (among (x .r0) (x .r1 - x .r0) (binOf (g .s1) (c .c1)) && (among (x .g0) (x .g1 - x .g0) (binOf (g .s2) (c .c2)) && among (x .b0) (x .b1 - x .b0) (binOf (g .s3) (c .c3))))
+unfolding holds allFrom minAt maxAt shiftAt componentAt choose
+holds-colour {g} {x} w {c} b =
+    let s = sides w in
+    let bin = colour-bin (w .accepted) b in
+    let run : (d low end : ℕ) → low < end → lies low end (binAt g d (colourPlace g c)) ≡ among low (end - low) (binOf (shiftAt g d) (componentAt c d)) =
+    λ d low end h. run-lies low end _ (le-of-lt h) ∙ ap (among low (end - low)) (bin d) in
+    λ i. run 0 (x .r0) (x .r1) (s .one) i && (run 1 (x .g0) (x .g1) (s .two) i && (and-true (lies (x .b0) (x .b1) (binAt g 2 (colourPlace g c))) ∙ run 2 (x .b0) (x .b1) (s .three)) i)
