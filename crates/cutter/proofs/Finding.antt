@@ -17,12 +17,10 @@ use Rattle.table.specs.Cell.{View}
 use Rattle.table.specs.Sound.{total}
 use Rattle.sums.specs.declared.Bounds.{Bounds}
 use Rattle.heap.specs.Heap.{Room, item}
-use Rattle.rounds.specs.declared.BoxSpread.{BoxSpread}
 use Rattle.rounds.specs.Loop.{noBox, noItem, spent, heapOf, boxSpread, placesOf, boxesOf}
 use Rattle.rounds.proofs.Filled.{heap-in-use}
 use Rattle.cutter.specs.Map.{Tiles}
-use Rattle.cutter.specs.Cut.{boundsOf, listOf, Found}
-use Rattle.cutter.proofs.Listed.{pastPlaces}
+use Rattle.cutter.specs.Cut.{boundsOf, pastPlaces, listOf, Found}
 use Rattle.cutter.proofs.Tiling.{boxesFound, boxes-long, box-at, tiles, all-occupied}
 
 -- a place in front has its box

@@ -1,13 +1,14 @@
 -- `cutter::fill_boxes` meets its contract: after each box, the map is filled by the boxes so far.
 -- Assumes nothing.
-use mathlib.Core.Path.{_≡_, sym, ap, _∙_}
+use mathlib.Core.Path.{_≡_, sym, ap, subst, _∙_}
 use mathlib.Core.List.{List}
 use Prim.Native.Nat.{ℕ, _-_, _≤_, _<_}
+use native.Mathlib.Nat.{lt-of-lt-of-le}
 use native.Mathlib.Omega.{arith}
-use borrow.Author.Needs.{needs}
 use denote.Ref.{now}
 use lib.ListN.{length, take}
 use Rattle.sums.specs.declared.Bounds.{Bounds}
+use Rattle.sums.specs.Box.{Within}
 use Rattle.rounds.specs.Loop.{noBox}
 use Rattle.cutter.specs.Map.{fillOf, fillFrom}
 use Rattle.cutter.specs.Cut.{listOf}
@@ -18,50 +19,46 @@ use Rattle.cutter.proofs.fill_boxes.Statement.{statement}
 use Rattle.cutter.proofs.fill_boxes.Tie as tie
 
 abbrev Inv-loop : tie.InvT-loop
-Inv-loop table g map₀ b n i₀ map i = (i ≤ n) × (map ≡ fillFrom g 0 (take i (listOf b)) map₀)
+Inv-loop table g b map₀ n place₀ map place = (place ≤ n) × (map ≡ fillFrom g 0 (take place (listOf b)) map₀)
 
 abbrev μ-loop : tie.MeasureT-loop
-μ-loop table g map₀ b n i₀ map i = n - i
+μ-loop table g b map₀ n place₀ map place = n - place
 
 loop-holds : tie.Need-loop-holds Inv-loop μ-loop
 loop-holds c = (omega arith, sym (filled-none _ 0 _))
 
-mul-bounds-of : tie.Need-mul-bounds-of Inv-loop μ-loop
-mul-bounds-of c = omega (arith, c .loop-test .taken, c .before .before .before .before .pre .0 .few)
+box-at-requires : tie.Need-box-at-requires Inv-loop μ-loop
+box-at-requires c κs = lt-of-lt-of-le (c .loop-test .taken) (c .before .before .before .before .pre .0 .few)
 
-element-copy-out-bounds-of : tie.Need-element-copy-out-bounds-of Inv-loop μ-loop
-element-copy-out-bounds-of c = omega (arith, c .loop-test .taken, c .before .before .before .before .pre .0 .few)
-
-bounds-of-requires : tie.Need-bounds-of-requires Inv-loop μ-loop
-bounds-of-requires c κs = search needs
-
-cast-fill-box : tie.Need-cast-fill-box Inv-loop μ-loop
-cast-fill-box c = omega (arith, c .before .before .before .loop-test .taken, c .before .before .before .before .before .before .before .pre .0 .few)
+cast-index : tie.Need-cast-index Inv-loop μ-loop
+cast-index c = omega (arith, c .before .loop-test .taken, c .before .before .before .before .before .pre .0 .few)
 
 fill-box-requires : tie.Need-fill-box-requires Inv-loop μ-loop
 fill-box-requires c κs =
-    let s = c .before .before .before .before .before .before .before in
-    let l = c .before .before .before .before .loop in
+    let s = c .before .before .before .before .before .before in
+    let l = c .before .before .before .loop in
     let f = s .pre .0 in
-    let t = c .before .before .before .loop-test .taken in
-    (rw (list-item f (l .i) t (c .before .bounds-of .ensures)) (f .occupied (l .i) t .within), ap length (l .inv .1) ∙ length-filled (s .args .g) 0 (take (l .i) (listOf (s .args .t3))) (now (s .args .map)) ∙ s .pre .1)
+    let t = c .before .before .loop-test .taken in (
+      subst (Within (s .args .g)) (sym (list-item f (l .place) t (c .before .box-at .ensures))) (f .occupied (l .place) t .within),
+      ap length (l .inv .1) ∙ length-filled (s .args .g) 0 (take (l .place) (listOf (s .args .b))) (now (s .args .map)) ∙ s .pre .1,
+    )
 
-add-i : tie.Need-add-i Inv-loop μ-loop
-add-i c = omega (arith, c .before .before .before .before .before .before .loop-test .taken, c .before .before .before .before .before .before .before .before .before .before .pre .0 .few)
+add-place : tie.Need-add-place Inv-loop μ-loop
+add-place c = omega (arith, c .before .before .before .before .before .loop-test .taken, c .before .before .before .before .before .before .before .before .before .pre .0 .few)
 
 loop-less : tie.Need-loop-less Inv-loop μ-loop
-loop-less c = omega (arith, c .before .before .before .before .before .before .loop-test .taken)
+loop-less c = omega (arith, c .before .before .before .before .before .loop-test .taken)
 
 loop-again : tie.Need-loop-again Inv-loop μ-loop
 loop-again c =
-    let s = c .before .before .before .before .before .before .before .before .before .before in
-    let l = c .before .before .before .before .before .before .before .loop in
+    let s = c .before .before .before .before .before .before .before .before .before in
+    let l = c .before .before .before .before .before .before .loop in
     let f = s .pre .0 in
-    let t = c .before .before .before .before .before .before .loop-test .taken in
-    let at : l .i < length (listOf (s .args .t3)) = omega (arith, list-length f) in (
+    let t = c .before .before .before .before .before .loop-test .taken in
+    let at : l .place < length (listOf (s .args .b)) = omega (arith, list-length f) in (
       omega arith,
-      filled-next (listOf (s .args .t3)) (l .i) noBox at (s .args .g) (now (s .args .map)) (l .inv .1)
-          (c .before .before .fill-box .ensures ∙ ap (λ (x : Bounds). fillOf (s .args .g) x (l .i) (l .map)) (list-item f (l .i) t (c .before .before .before .before .bounds-of .ensures))),
+      filled-next (listOf (s .args .b)) (l .place) noBox at (s .args .g) (now (s .args .map)) (l .inv .1)
+          (c .before .before .fill-box .ensures ∙ ap (λ (x : Bounds). fillOf (s .args .g) x (l .place) (l .map)) (list-item f (l .place) t (c .before .before .before .before .box-at .ensures))),
     )
 
 same-length : tie.Need-same-length Inv-loop μ-loop
@@ -71,7 +68,7 @@ returns : tie.Need-returns Inv-loop μ-loop
 returns c =
     let s = c .before .before .before .before in
     let l = c .before .loop in
-    l .inv .1 ∙ ap (λ (xs : List Bounds). fillFrom (s .args .g) 0 xs (now (s .args .map))) (take-listed (s .pre .0) {i = l .i} (omega (arith, l .inv .0, c .loop-test .left)))
+    l .inv .1 ∙ ap (λ (xs : List Bounds). fillFrom (s .args .g) 0 xs (now (s .args .map))) (take-listed (s .pre .0) {i = l .place} (omega (arith, l .inv .0, c .loop-test .left)))
 
 pub fill-boxes-spec : {M : Type 1} → statement M
 fill-boxes-spec =
@@ -80,12 +77,10 @@ fill-boxes-spec =
     Inv-loop
     μ-loop
     loop-holds
-    mul-bounds-of
-    element-copy-out-bounds-of
-    bounds-of-requires
-    cast-fill-box
+    box-at-requires
+    cast-index
     fill-box-requires
-    add-i
+    add-place
     loop-less
     loop-again
     same-length

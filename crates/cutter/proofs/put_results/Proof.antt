@@ -1,17 +1,16 @@
 -- `cutter::put_results` meets its contract: after each box, colours and counts are those of the boxes so far.
 -- Assumes nothing.
-use mathlib.Core.Path.{_≡_, sym, ap, _∙_}
+use mathlib.Core.Path.{_≡_, sym, ap, subst, _∙_}
 use mathlib.Core.List.{List}
 use Prim.Native.Nat.{ℕ, _-_, _*_, _≤_, _<_}
-use native.Mathlib.Nat.{le-of-lt}
+use native.Mathlib.Nat.{le-of-lt, lt-of-lt-of-le}
 use native.Mathlib.Omega.{arith}
-use borrow.Author.Needs.{needs}
 use denote.Ref.{now}
 use lib.ListN.{length, take, set}
 use Rattle.table.specs.Cell.{wide}
 use Rattle.sums.specs.declared.Bounds.{Bounds}
 use Rattle.rounds.specs.Loop.{noBox}
-use Rattle.cutter.specs.Palette.{colourOf, countOf, withColourAt, paletteLater, countsLater}
+use Rattle.cutter.specs.Palette.{colourOf, countOf, withColourAt, paletteLater, countsLater, Occupied}
 use Rattle.cutter.specs.Cut.{listOf}
 use Rattle.cutter.proofs.Colours.{palette-none, counts-none}
 use Rattle.cutter.proofs.Turns.{palette-next, counts-next}
@@ -20,31 +19,25 @@ use Rattle.cutter.proofs.put_results.Statement.{statement}
 use Rattle.cutter.proofs.put_results.Tie as tie
 
 abbrev Inv-loop : tie.InvT-loop
-Inv-loop table work g palette₀ counts₀ b n i₀ palette counts i =
+Inv-loop table work g b palette₀ counts₀ n i₀ palette counts i =
     (i ≤ n) × (palette ≡ paletteLater g (wide table) (take i (listOf b)) palette₀) × (counts ≡ countsLater g (wide table) (take i (listOf b)) counts₀)
 
 abbrev μ-loop : tie.MeasureT-loop
-μ-loop table work g palette₀ counts₀ b n i₀ palette counts i = n - i
+μ-loop table work g b palette₀ counts₀ n i₀ palette counts i = n - i
 
 loop-holds : tie.Need-loop-holds Inv-loop μ-loop
 loop-holds c = (omega arith, sym (palette-none _ _ _), sym (counts-none _ _ _))
 
-mul-bounds-of : tie.Need-mul-bounds-of Inv-loop μ-loop
-mul-bounds-of c = omega (arith, c .loop-test .taken, c .before .before .before .before .before .before .pre .0 .1 .few)
-
-element-copy-out-bounds-of : tie.Need-element-copy-out-bounds-of Inv-loop μ-loop
-element-copy-out-bounds-of c = omega (arith, c .loop-test .taken, c .before .before .before .before .before .before .pre .0 .1 .few)
-
-bounds-of-requires : tie.Need-bounds-of-requires Inv-loop μ-loop
-bounds-of-requires c κs = search needs
+box-at-requires : tie.Need-box-at-requires Inv-loop μ-loop
+box-at-requires c κs = lt-of-lt-of-le (c .loop-test .taken) (c .before .before .before .before .before .before .pre .0 .1 .few)
 
 put-result-requires : tie.Need-put-result-requires Inv-loop μ-loop
 put-result-requires c κs =
-    let s = c .before .before .before .before .before .before .before .before .before .before in
-    let l = c .before .before .before .before .before .loop in
+    let s = c .before .before .before .before .before .before .before .before .before in
+    let l = c .before .before .before .before .loop in
     let f = s .pre .0 .1 in
-    let t = c .before .before .before .before .loop-test .taken in (
-      (s .pre .0 .0, rw (list-item f (l .i) t (c .before .before .bounds-of .ensures)) (f .occupied (l .i) t)),
+    let t = c .before .before .before .loop-test .taken in (
+      (s .pre .0 .0, subst (Occupied (s .args .g) (wide (now (s .args .table)))) (sym (list-item f (l .i) t (c .before .before .box-at .ensures))) (f .occupied (l .i) t)),
       (
         omega (arith, ap length (l .inv .1), palette-long f (l .i) (le-of-lt t) (now (s .args .palette)) (s .pre .1 .0), s .pre .1 .0),
         omega (arith, ap length (l .inv .2), counts-long f (l .i) (le-of-lt t) (now (s .args .counts)) (s .pre .1 .1), s .pre .1 .1),
@@ -52,24 +45,24 @@ put-result-requires c κs =
     )
 
 add-i : tie.Need-add-i Inv-loop μ-loop
-add-i c = omega (arith, c .before .before .before .before .before .before .before .before .before .loop-test .taken, c .before .before .before .before .before .before .before .before .before .before .before .before .before .before .before .pre .0 .1 .few)
+add-i c = omega (arith, c .before .before .before .before .before .before .before .before .loop-test .taken, c .before .before .before .before .before .before .before .before .before .before .before .before .before .before .pre .0 .1 .few)
 
 loop-less : tie.Need-loop-less Inv-loop μ-loop
-loop-less c = omega (arith, c .before .before .before .before .before .before .before .before .before .loop-test .taken)
+loop-less c = omega (arith, c .before .before .before .before .before .before .before .before .loop-test .taken)
 
 loop-again : tie.Need-loop-again Inv-loop μ-loop
 loop-again c =
-    let s = c .before .before .before .before .before .before .before .before .before .before .before .before .before .before .before in
-    let l = c .before .before .before .before .before .before .before .before .before .before .loop in
+    let s = c .before .before .before .before .before .before .before .before .before .before .before .before .before .before in
+    let l = c .before .before .before .before .before .before .before .before .before .loop in
     let f = s .pre .0 .1 in
-    let t = c .before .before .before .before .before .before .before .before .before .loop-test .taken in
-    let at : l .i < length (listOf (s .args .t4)) = omega (arith, list-length f) in
-    let same = list-item f (l .i) t (c .before .before .before .before .before .before .before .bounds-of .ensures) in
+    let t = c .before .before .before .before .before .before .before .before .loop-test .taken in
+    let at : l .i < length (listOf (s .args .b)) = omega (arith, list-length f) in
+    let same = list-item f (l .i) t (c .before .before .before .before .before .before .before .box-at .ensures) in
     let e = c .before .before .before .before .put-result .ensures in (
       omega arith,
-      palette-next (listOf (s .args .t4)) (l .i) noBox at (s .args .g) (wide (now (s .args .table))) (now (s .args .palette)) (omega (arith, list-length f, s .pre .1 .0)) (l .inv .1)
+      palette-next (listOf (s .args .b)) (l .i) noBox at (s .args .g) (wide (now (s .args .table))) (now (s .args .palette)) (omega (arith, list-length f, s .pre .1 .0)) (l .inv .1)
           (e .0 ∙ ap (λ (x : Bounds). withColourAt (l .palette) (l .i) (colourOf (s .args .g) (wide (now (s .args .table))) x)) same),
-      counts-next (listOf (s .args .t4)) (l .i) noBox at (s .args .g) (wide (now (s .args .table))) (now (s .args .counts)) (omega (arith, list-length f, s .pre .1 .1)) (l .inv .2)
+      counts-next (listOf (s .args .b)) (l .i) noBox at (s .args .g) (wide (now (s .args .table))) (now (s .args .counts)) (omega (arith, list-length f, s .pre .1 .1)) (l .inv .2)
           (e .1 ∙ ap (λ (x : Bounds). set (l .counts) (l .i) (countOf (s .args .g) (wide (now (s .args .table))) x)) same),
     )
 
@@ -89,8 +82,7 @@ returns : tie.Need-returns Inv-loop μ-loop
 returns c =
     let s = c .before .before .before .before .before .before in
     let l = c .before .loop in
-    let f = s .pre .0 .1 in
-    let all = take-listed f {i = l .i} (omega (arith, l .inv .0, c .loop-test .left)) in (
+    let all = take-listed (s .pre .0 .1) {i = l .i} (omega (arith, l .inv .0, c .loop-test .left)) in (
       l .inv .1 ∙ ap (λ (xs : List Bounds). paletteLater (s .args .g) (wide (now (s .args .table))) xs (now (s .args .palette))) all,
       l .inv .2 ∙ ap (λ (xs : List Bounds). countsLater (s .args .g) (wide (now (s .args .table))) xs (now (s .args .counts))) all,
     )
@@ -102,9 +94,7 @@ put-results-spec =
     Inv-loop
     μ-loop
     loop-holds
-    mul-bounds-of
-    element-copy-out-bounds-of
-    bounds-of-requires
+    box-at-requires
     put-result-requires
     add-i
     loop-less
