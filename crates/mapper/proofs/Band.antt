@@ -1,14 +1,14 @@
 -- A band written over a list: its places, what one more place adds, and a part that is handed on and put back.
 -- Assumes nothing.
 use mathlib.Core.Path.{_≡_, refl, sym, ap, subst, _∙_}
-use mathlib.Core.Bool.{Bool, true, false, cond, _&&_}
+use mathlib.Core.Bool.{Bool, true, false, cond}
 use mathlib.Core.List.{List, _++_}
-use Prim.Native.Nat.{ℕ, _+_, _-_, _*_, _≤_, _<_}
-use native.Mathlib.Nat.{zero-add, le-of-lt}
+use Prim.Native.Nat.{ℕ, _+_, _-_, _≤_, _<_}
+use native.Mathlib.Nat.{zero-add}
 use native.Mathlib.Omega.{arith}
 use native.Mathlib.Decide.{ℕ-discrete}
 use borrow.Author.Tests.{le-leb, lt-leb, lt-ltb, le-ltb, leb-true, leb-false, ltb-true, ltb-false}
-use borrow.Rule.Slice.PartMut.{midOf, putMid, same-len-mid, mid-len, take-put, drop-put}
+use borrow.Rule.Slice.PartMut.{putMid, same-len-mid, mid-len, take-put, drop-put}
 use lib.Dec.{leb, ltb}
 use lib.ListN.{length, getD, set, take, drop, length-set, List·getD-append}
 use lib.Seq.{getD-take, getD-drop, getD-append-add, length-take-le, getD-set-same, getD-set-other}
@@ -88,6 +88,16 @@ module _ (f : ℕ → ℕ) (old : List ℕ) where
       go : (i : ℕ) → i < length old → i < 0 + (n + 1) → Dec (i ≡ n) → getD (set (writeBand 0 n f old) n (f n)) i 0 ≡ f i
       go i l b (yes e) = rw e (getD-set-same (writeBand 0 n f old) n (f n) 0 (rw (band-length 0 n f old) h))
       go i l b (no d) = getD-set-other (writeBand 0 n f old) n i (f n) 0 d ∙ band-within 0 n f old i l (omega arith) (omega arith)
+
+  pub band-three : (n : ℕ) → n + 2 < length old → set (set (set (writeBand 0 n f old) n (f n)) (n + 1) (f (n + 1))) (n + 2) (f (n + 2)) ≡ writeBand 0 (n + 3) f old
+  band-three n h =
+      let two : (n + 1) + 1 ≡ n + 2 = omega arith in
+      let three : (n + 2) + 1 ≡ n + 3 = omega arith in
+      ap (λ (l : List ℕ). set (set l (n + 1) (f (n + 1))) (n + 2) (f (n + 2))) (band-more n (omega arith))
+      ∙ ap (λ (l : List ℕ). set l (n + 2) (f (n + 2))) (band-more (n + 1) (omega arith))
+      ∙ ap (λ (k : ℕ). set (writeBand 0 k f old) (n + 2) (f (n + 2))) two
+      ∙ band-more (n + 2) h
+      ∙ ap (λ (k : ℕ). writeBand 0 k f old) three
 
   pub band-whole : writeBand 0 (length old) f old ≡ listFrom 0 (length old) f
   band-whole =

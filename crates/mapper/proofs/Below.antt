@@ -4,13 +4,15 @@ use mathlib.Core.Path.{_≡_, refl, sym, ap, _∙_}
 use mathlib.Core.Bool.{Bool, true, false, _&&_}
 use mathlib.Core.List.{List}
 use Prim.Native.Nat.{ℕ, _+_, _≤_, _<_}
-use native.Mathlib.Nat.{zero-add}
+use native.Mathlib.Nat.{zero-add, lt-of-not-le}
+use native.Mathlib.Decide.{decLe}
 use native.Mathlib.Omega.{arith}
 use borrow.Author.Tests.{ltb-true, lt-ltb}
 use lib.Dec.{ltb}
-use lib.ListN.{getD}
+use lib.ListN.{length, getD, List·getD-eq-default}
 use Rattle.grid.specs.Range.{allFrom}
-use Rattle.grid.proofs.Range.{and-false, all-last}
+use Rattle.grid.proofs.Range.{and-false, all-last, all-at}
+use Rattle.mapper.specs.Band.{allBelow}
 
 -- the first n entries are below c exactly where top is
 abbrev pub Tops : List ℕ → ℕ → ℕ → Type 0
@@ -48,3 +50,14 @@ tops-next map n top h old = tops-more map n top (getD map n 0) (λ c. larger-sec
 
 pub tops-same : (map : List ℕ) (n top : ℕ) → getD map n 0 ≤ top → Tops map n top → Tops map (n + 1) top
 tops-same map n top h old = tops-more map n top top (λ c. larger-first top (getD map n 0) c h) old
+
+-- an entry of a map whose entries are all below c; past the map's end 0 is read
+pub entry-below : (c : ℕ) (map : List ℕ) → 1 ≤ c → allBelow c map ≡ true → (p : ℕ) → getD map p 0 < c
+unfolding allBelow
+entry-below c map h e p = go (decLe (length map) p)
+  where
+    go : Dec (length map ≤ p) → getD map p 0 < c
+    go (yes l) = rw (List·getD-eq-default map 0 l) h
+    go (no n) =
+        let here = lt-of-not-le n in
+        ltb-true (getD map p 0) c (all-at 0 (length map) (λ p. ltb (getD map p 0) c) e p (omega arith) (omega arith))

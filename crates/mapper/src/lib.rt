@@ -1,4 +1,4 @@
-// Mapping a band of a frame.
+// Mapping and painting a band of a frame.
 use grid::Chosen;
 use grid::Grid;
 use grid::Rgb;
@@ -12,9 +12,10 @@ ghost use Prim.Native.Nat.{ℕ, _+_, _*_, _/_, _%_, _≤_, _<_};
 ghost use lib.Dec.{ltb};
 ghost use lib.ListN.{length, getD};
 ghost use Rattle.grid.specs.Range.{listFrom};
-ghost use Rattle.grid.specs.Grid.{colourPlace, colourAt, StepsOf};
+ghost use Rattle.grid.specs.Grid.{colourPlace, StepsOf};
 ghost use Rattle.mapper.specs.Band.{indexAt, writeBand, allBelow, MapOf};
 ghost use Rattle.mapper.specs.Map.{mapNumber, mapLater};
+ghost use Rattle.mapper.specs.Paint.{putColour, paintAt, Fits, paintNumber, paintLater};
 
 // The largest entry of a map, or 0.
 fn largest(map: &[u8]) -> u8
@@ -144,5 +145,96 @@ pub fn map(
         return 9;
     }
     map_band(g, map, frame, indices, first, pixels);
+    0
+}
+
+// ---- Painting
+
+// Writes a colour as pixel i of a row of bytes.
+fn put_colour(bytes: &mut [u8], i: usize, x: Rgb)
+    requires { ⌜ 3 * i + 2 < length (now bytes) ⌝ }
+    ensures { λ r. ⌜ now (bytes .exit) ≡ putColour (now (bytes .entry)) i x ⌝ }
+{
+    let at = 3 * i;
+    bytes[at] = x.c1;
+    bytes[at + 1] = x.c2;
+    bytes[at + 2] = x.c3;
+}
+
+// The palette's colour at each pixel's index, in the place of a part of a frame.
+fn paint_part(
+    g: Grid,
+    t1: &[usize; 256],
+    t2: &[usize; 256],
+    t3: &[usize; 256],
+    map: &[u8],
+    palette: &[u8],
+    part: &mut [u8],
+)
+    requires { ⌜ StepsOf g (now t1) (now t2) (now t3) × Fits g (now map) (now palette) ⌝ }
+    requires { ⌜ length (now part) % 3 ≡ 0 ⌝ }
+    ensures { λ r. ⌜ now (part .exit) ≡ listFrom 0 (length (now (part .entry))) (paintAt g (now (map .entry)) (now (palette .entry)) (now (part .entry))) ⌝ }
+{
+    let n = part.len() / 3;
+    let mut i = 0;
+    while i < n {
+        let index = index_of(g, t1, t2, t3, map, colour(part, i));
+        put_colour(part, i, colour(palette, index as usize));
+        i = i + 1;
+    }
+}
+
+// Hands the band of the frame on as a part.
+fn paint_band(g: Grid, map: &[u8], palette: &[u8], frame: &mut [u8], first: usize, pixels: usize)
+    requires { ⌜ Fits g (now map) (now palette) × (3 * (first + pixels) ≤ length (now frame)) ⌝ }
+    ensures { λ r. ⌜ now (frame .exit) ≡ writeBand (3 * first) (3 * pixels) (paintAt g (now (map .entry)) (now (palette .entry)) (now (frame .entry))) (now (frame .entry)) ⌝ }
+{
+    let t1 = steps(g, 0);
+    let t2 = steps(g, 1);
+    let t3 = steps(g, 2);
+    let from = 3 * first;
+    let to = from + 3 * pixels;
+    paint_part(g, &t1, &t2, &t3, map, palette, &mut frame[from..to]);
+}
+
+// The palette's colour at each pixel's index, in the place of a band of a frame.
+pub fn paint(
+    b1: usize,
+    b2: usize,
+    b3: usize,
+    map: &[u8],
+    palette: &[u8],
+    frame: &mut [u8],
+    first: usize,
+    pixels: usize,
+) -> u8
+    ensures { λ r. ⌜ r ≡ paintNumber b1 b2 b3 (now (map .entry)) (now (palette .entry)) (now (frame .entry)) first pixels ⌝ }
+    ensures { λ r. ⌜ now (frame .exit) ≡ paintLater b1 b2 b3 (now (map .entry)) (now (palette .entry)) (now (frame .entry)) first pixels ⌝ }
+{
+    let Chosen::Of(g) = grid_of(b1, b2, b3) else {
+        return 1;
+    };
+    if frame.len() % 3 != 0 {
+        return 3;
+    }
+    if map.len() != bins(g) {
+        return 5;
+    }
+    if palette.len() < 3 {
+        return 5;
+    }
+    if 768 < palette.len() {
+        return 5;
+    }
+    if palette.len() % 3 != 0 {
+        return 5;
+    }
+    if reaches_past(frame.len() / 3, first, pixels) {
+        return 5;
+    }
+    if palette.len() / 3 <= largest(map) as usize {
+        return 9;
+    }
+    paint_band(g, map, palette, frame, first, pixels);
     0
 }

@@ -2,8 +2,7 @@
 -- Assumes nothing.
 use mathlib.Core.Path.{_≡_, refl, sym, _∙_}
 use mathlib.Core.Bool.{false}
-use mathlib.Core.List.{List}
-use Prim.Native.Nat.{ℕ, _+_, _*_, _/_, _%_, _≤_}
+use Prim.Native.Nat.{_+_, _/_, _≤_}
 use native.Mathlib.Omega.{arith}
 use borrow.Author.Tests.{eq-eqb, ne-eqb, le-leb, lt-leb, lt-ltb, le-ltb, ltb-false}
 use borrow.Author.Needs.{needs}
@@ -15,7 +14,7 @@ use Rattle.grid.specs.declared.Grid.{Grid}
 use Rattle.grid.specs.Answer.{refuse, whenDone}
 use Rattle.grid.specs.Grid.{gridOf, Accepted}
 use Rattle.grid.proofs.Places.{chose}
-use Rattle.mapper.specs.Band.{MapOf, allBelow}
+use Rattle.mapper.specs.Band.{MapOf}
 use Rattle.mapper.specs.Map.{mapNumberOn}
 use Rattle.mapper.proofs.Calls.{map-no-grid, map-ends}
 use Rattle.mapper.proofs.map.Statement.{statement}

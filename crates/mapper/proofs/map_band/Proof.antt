@@ -1,11 +1,9 @@
 -- `mapper::map_band` meets its contract: the part that is put back holds the indices of the band, and the rest is as it was.
 -- Assumes nothing.
-use mathlib.Core.Path.{_≡_, sym, _∙_}
-use Prim.Native.Nat.{ℕ, _+_, _-_, _*_, _≤_}
+use Prim.Native.Nat.{_+_, _-_, _*_}
 use native.Mathlib.Omega.{arith}
 use borrow.Rule.Slice.PartMut.{mid-len}
 use denote.Ref.{now}
-use lib.ListN.{length}
 use Rattle.mapper.proofs.Band.{part-length, part-written}
 use Rattle.mapper.proofs.Pixels.{part-index}
 use borrow.Author.Needs.{needs}
