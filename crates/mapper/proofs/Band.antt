@@ -4,13 +4,13 @@ use mathlib.Core.Path.{_≡_, refl, sym, ap, subst, _∙_}
 use mathlib.Core.Bool.{Bool, true, false, cond}
 use mathlib.Core.List.{List, _++_}
 use Prim.Native.Nat.{ℕ, _+_, _-_, _≤_, _<_}
-use native.Mathlib.Nat.{zero-add}
+use native.Mathlib.Nat.{zero-add, lt-of-not-le}
 use native.Mathlib.Omega.{arith}
-use native.Mathlib.Decide.{ℕ-discrete}
+use native.Mathlib.Decide.{ℕ-discrete, decLe}
 use borrow.Author.Tests.{le-leb, lt-leb, lt-ltb, le-ltb, leb-true, leb-false, ltb-true, ltb-false}
 use borrow.Rule.Slice.PartMut.{putMid, same-len-mid, mid-len, take-put, drop-put}
 use lib.Dec.{leb, ltb}
-use lib.ListN.{length, getD, set, take, drop, length-set, List·getD-append}
+use lib.ListN.{length, getD, set, take, drop, length-set, List·getD-append, List·getD-eq-default}
 use lib.Seq.{getD-take, getD-drop, getD-append-add, length-take-le, getD-set-same, getD-set-other}
 use Rattle.grid.specs.Range.{listFrom}
 use Rattle.grid.proofs.Range.{length-list, list-at, list-is}
@@ -62,6 +62,13 @@ module _ (first n : ℕ) (f : ℕ → ℕ) (old : List ℕ) where
 
   pub band-after : (i : ℕ) → i < length old → first + n ≤ i → getD (writeBand first n f old) i 0 ≡ getD old i 0
   band-after i h a = band-at i h ∙ ap (λ (t : Bool). cond t (f i) (getD old i 0)) (among-after first n i a)
+
+  pub band-kept : (i : ℕ) → among first n i ≡ false → getD (writeBand first n f old) i 0 ≡ getD old i 0
+  band-kept i out = go (decLe (length old) i)
+    where
+      go : Dec (length old ≤ i) → getD (writeBand first n f old) i 0 ≡ getD old i 0
+      go (yes l) = List·getD-eq-default (writeBand first n f old) 0 (rw band-length l) ∙ sym (List·getD-eq-default old 0 l)
+      go (no l) = band-at i (lt-of-not-le l) ∙ ap (λ (t : Bool). cond t (f i) (getD old i 0)) out
 
   -- a list with those places is the written band
   pub band-is : (new : List ℕ) → length new ≡ length old → ((i : ℕ) → i < length old → i < first → getD new i 0 ≡ getD old i 0) → ((i : ℕ) → i < length old → first ≤ i → i < first + n → getD new i 0 ≡ f i) → ((i : ℕ) → i < length old → first + n ≤ i → getD new i 0 ≡ getD old i 0) → new ≡ writeBand first n f old

@@ -2,3 +2,5 @@ pub mod Below
 pub mod Band
 pub mod Pixels
 pub mod Calls
+pub mod Laws
+pub mod Bands
