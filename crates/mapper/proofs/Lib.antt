@@ -4,3 +4,4 @@ pub mod Pixels
 pub mod Calls
 pub mod Laws
 pub mod Bands
+pub mod Worked
