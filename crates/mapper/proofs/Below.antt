@@ -11,7 +11,7 @@ use borrow.Author.Tests.{ltb-true, lt-ltb}
 use lib.Dec.{ltb}
 use lib.ListN.{length, getD, List·getD-eq-default}
 use Rattle.grid.specs.Range.{allFrom}
-use Rattle.grid.proofs.Range.{and-false, all-last, all-at}
+use Rattle.grid.proofs.Range.{and-false, all-true, all-last, all-at}
 use Rattle.mapper.specs.Band.{allBelow}
 
 -- the first n entries are below c exactly where top is
@@ -50,6 +50,11 @@ tops-next map n top h old = tops-more map n top (getD map n 0) (λ c. larger-sec
 
 pub tops-same : (map : List ℕ) (n top : ℕ) → getD map n 0 ≤ top → Tops map n top → Tops map (n + 1) top
 tops-same map n top h old = tops-more map n top top (λ c. larger-first top (getD map n 0) c h) old
+
+-- entries that are each below c
+pub all-below : (c : ℕ) (map : List ℕ) → ((p : ℕ) → p < length map → getD map p 0 < c) → allBelow c map ≡ true
+unfolding allBelow
+all-below c map h = all-true 0 (length map) (λ p. ltb (getD map p 0) c) (λ p a b. lt-ltb (getD map p 0) c (h p (omega arith)))
 
 -- an entry of a map whose entries are all below c; past the map's end 0 is read
 pub entry-below : (c : ℕ) (map : List ℕ) → 1 ≤ c → allBelow c map ≡ true → (p : ℕ) → getD map p 0 < c

@@ -21,7 +21,7 @@ use Rattle.mapper.specs.Paint.{paintAt, paintNumberOn, paintNumber, pain
 use Rattle.mapper.proofs.Band.{band-length, band-within, band-kept}
 use Rattle.mapper.proofs.Below.{entry-below}
 use Rattle.mapper.proofs.Pixels.{paint-byte}
-use Rattle.mapper.proofs.Calls.{map-ends}
+use Rattle.mapper.proofs.Calls.{map-ends, paint-ends}
 
 -- ---- map
 module _ (b1 b2 b3 : ℕ) (map : List ℕ) (colours : ℕ) (frame indices : List ℕ) (first pixels : ℕ) where
@@ -41,7 +41,10 @@ module _ (b1 b2 b3 : ℕ) (map : List ℕ) (colours : ℕ) (frame indices : List
     pub g : Grid
     pub chosen : gridOf b1 b2 b3 ≡ chosen.Of g
     pub number-on : mapNumberOn g map colours frame indices first pixels ≡ 0
+    pub threes : length frame % 3 ≡ 0
+    pub lent : length map ≡ binsOf g
     pub some : 1 ≤ colours
+    pub few : colours ≤ 256
     pub one-each : length indices ≡ length frame / 3
     pub inside : first + pixels ≤ length frame / 3
     pub below : allBelow colours map ≡ true
@@ -61,17 +64,26 @@ module _ (b1 b2 b3 : ℕ) (map : List ℕ) (colours : ℕ) (frame indices : List
         g = c .g;
         chosen = c .is;
         number-on = c .number;
+        threes = eqb-true (length frame % 3) 0 (not-false _ (threes .0));
+        lent = eqb-true (length map) (binsOf (c .g)) (not-false _ (lent .0));
         some = leb-true 1 colours (and-left (leb 1 colours) (leb colours 256) (not-false _ (few .0)));
+        few = leb-true colours 256 (and-right (leb 1 colours) (leb colours 256) (not-false _ (few .0)));
         one-each = eqb-true (length indices) (length frame / 3) (not-false _ (one-each .0));
         inside = ltb-false (length frame / 3) (first + pixels) (inside .0);
         below = not-false _ (last .0);
         writes = c .later;
       }
 
-  -- and of a grid that is known
+  -- and the other way round: on a grid that is known, by its number
   pub map-done : {g : Grid} → gridOf b1 b2 b3 ≡ chosen.Of g → mapNumberOn g map colours frame indices first pixels ≡ 0 → (number ≡ 0) × (later ≡ writeBand first pixels (indexAt g map frame) indices)
   unfolding whenDone
   map-done e q = let ends = map-ends b1 b2 b3 map colours frame indices first pixels e q refl in (sym (ends .0), sym (ends .1))
+
+  -- by its tests: "none is given otherwise"
+  pub map-accepts : {g : Grid} → gridOf b1 b2 b3 ≡ chosen.Of g → length frame % 3 ≡ 0 → length map ≡ binsOf g → 1 ≤ colours → colours ≤ 256 → length indices ≡ length frame / 3 → first + pixels ≤ length frame / 3 → allBelow colours map ≡ true → (number ≡ 0) × (later ≡ writeBand first pixels (indexAt g map frame) indices)
+  unfolding mapNumberOn refuse
+  map-accepts e threes lent some few one-each inside below =
+      map-done e (simp (eq-eqb _ _ threes, eq-eqb _ _ lent, le-leb _ _ some, le-leb _ _ few, eq-eqb _ _ one-each, le-ltb _ _ inside, below))
 
   pub map-length : length later ≡ length indices
   map-length =
@@ -122,6 +134,7 @@ module _ (b1 b2 b3 : ℕ) (map palette frame : List ℕ) (first pixels : ℕ) wh
     pub lent : length map ≡ binsOf g
     pub some : 3 ≤ length palette
     pub few : length palette ≤ 768
+    pub whole : length palette % 3 ≡ 0
     pub inside : first + pixels ≤ length frame / 3
     pub below : allBelow (length palette / 3) map ≡ true
     pub writes : paint-later ≡ writeBand (3 * first) (3 * pixels) (paintAt g map palette frame) frame
@@ -145,10 +158,19 @@ module _ (b1 b2 b3 : ℕ) (map palette frame : List ℕ) (first pixels : ℕ) wh
         lent = eqb-true (length map) (binsOf (c .g)) (not-false _ (lent .0));
         some = leb-true 3 (length palette) (and-left low high (not-false _ (size .0)));
         few = leb-true (length palette) 768 (and-right low high (not-false _ (size .0)));
+        whole = eqb-true (length palette % 3) 0 (not-false _ (whole .0));
         inside = ltb-false (length frame / 3) (first + pixels) (inside .0);
         below = not-false _ (last .0);
         writes = c .later;
       }
+
+  -- and the other way round: "none is given otherwise"
+  pub paint-accepts : {g : Grid} → gridOf b1 b2 b3 ≡ chosen.Of g → length frame % 3 ≡ 0 → length map ≡ binsOf g → 3 ≤ length palette → length palette ≤ 768 → length palette % 3 ≡ 0 → first + pixels ≤ length frame / 3 → allBelow (length palette / 3) map ≡ true → (paint-number ≡ 0) × (paint-later ≡ writeBand (3 * first) (3 * pixels) (paintAt g map palette frame) frame)
+  unfolding paintNumberOn refuse whenDone
+  paint-accepts e threes lent some few whole inside below =
+      let ends = paint-ends b1 b2 b3 map palette frame first pixels e {n = 0}
+      (simp (eq-eqb _ _ threes, eq-eqb _ _ lent, le-leb _ _ some, le-leb _ _ few, eq-eqb _ _ whole, le-ltb _ _ inside, below)) refl in
+      (sym (ends .0), sym (ends .1))
 
   pub paint-length : length paint-later ≡ length frame
   paint-length =
@@ -156,16 +178,10 @@ module _ (b1 b2 b3 : ℕ) (map palette frame : List ℕ) (first pixels : ℕ) wh
       (λ e. let d = paint-says e in ap length (d .writes) ∙ band-length (3 * first) (3 * pixels) (paintAt (d .g) map palette frame) frame)
 
   module _ (e : paint-number ≡ 0) (indices : List ℕ) (one-each : length indices ≡ length frame / 3) where
-    maps-on : mapNumberOn (paint-says e .g) map (length palette / 3) frame indices first pixels ≡ 0
-    unfolding mapNumberOn refuse
-    maps-on =
-        let d = paint-says e in
-        let low : 1 ≤ length palette / 3 = omega (arith, d .some) in
-        let high : length palette / 3 ≤ 256 = omega (arith, d .few) in
-        simp (eq-eqb _ _ (d .threes), eq-eqb _ _ (d .lent), le-leb _ _ low, le-leb _ _ high, eq-eqb _ _ one-each, le-ltb _ _ (d .inside), d .below)
-
     mapped : (mapNumber b1 b2 b3 map (length palette / 3) frame indices first pixels ≡ 0) × (mapLater b1 b2 b3 map (length palette / 3) frame indices first pixels ≡ writeBand first pixels (indexAt (paint-says e .g) map frame) indices)
-    mapped = map-done b1 b2 b3 map (length palette / 3) frame indices first pixels (paint-says e .chosen) maps-on
+    mapped =
+        let d = paint-says e in
+        map-accepts b1 b2 b3 map (length palette / 3) frame indices first pixels (d .chosen) (d .threes) (d .lent) (omega (arith, d .some)) (omega (arith, d .few)) one-each (d .inside) (d .below)
 
     -- a frame that is painted can be mapped, with the palette's length in colours
     pub paint-maps : mapNumber b1 b2 b3 map (length palette / 3) frame indices first pixels ≡ 0

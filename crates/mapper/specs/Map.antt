@@ -9,7 +9,8 @@ use Rattle.grid.specs.Answer.{refuse, whenDone}
 use Rattle.grid.specs.Grid.{gridOf, onGrid, numberOn, binsOf}
 use Rattle.mapper.specs.Band.{indexAt, writeBand, allBelow}
 
--- the number of a mapping on an accepted grid
+-- the number of a mapping on an accepted grid: "map exactly bins", the palette's length "in colours, and anything outside
+-- 1..256 gives 5", "index buffer exactly one byte per frame pixel", "a band reaches past the frame"
 unfoldable pub mapNumberOn : Grid → List ℕ → ℕ → List ℕ → List ℕ → ℕ → ℕ → ℕ
 mapNumberOn g map colours frame indices first pixels =
     refuse (not (eqb (length frame % 3) 0)) 3

@@ -25,7 +25,7 @@ pub record Fits (g : Grid) (map palette : List ℕ) : Type 0 where
   pub some : 3 ≤ length palette
   pub below : allBelow (length palette / 3) map ≡ true
 
--- the number of a painting on an accepted grid
+-- the number of a painting on an accepted grid: "the palette for painting 3..768 bytes, a multiple of three"
 unfoldable pub paintNumberOn : Grid → List ℕ → List ℕ → List ℕ → ℕ → ℕ → ℕ
 paintNumberOn g map palette frame first pixels =
     refuse (not (eqb (length frame % 3) 0)) 3
