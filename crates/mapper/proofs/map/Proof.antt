@@ -1,7 +1,7 @@
 -- `mapper::map` meets its contract: the refusals in their order, and then the band is written.
 -- Assumes nothing.
 use mathlib.Core.Path.{_≡_, refl, sym, _∙_}
-use mathlib.Core.Bool.{false}
+use mathlib.Core.Bool.{true, false, not}
 use Prim.Native.Nat.{_+_, _/_, _≤_}
 use native.Mathlib.Omega.{arith}
 use borrow.Author.Tests.{eq-eqb, ne-eqb, le-leb, lt-leb, lt-ltb, le-ltb, ltb-false}
@@ -14,7 +14,7 @@ use Rattle.grid.specs.declared.Grid.{Grid}
 use Rattle.grid.specs.Answer.{refuse, whenDone}
 use Rattle.grid.specs.Grid.{gridOf, Accepted}
 use Rattle.grid.proofs.Places.{chose}
-use Rattle.mapper.specs.Band.{MapOf}
+use Rattle.mapper.specs.Band.{MapOf, allBelow}
 use Rattle.mapper.specs.Map.{mapNumberOn}
 use Rattle.mapper.proofs.Calls.{map-no-grid, map-ends}
 use Rattle.mapper.proofs.map.Statement.{statement}
@@ -37,6 +37,21 @@ accepted k = chose _ _ _ (grid k) (on-grid k) .accepted
 the-map : (k : tie.Else2) → MapOf (grid (k .before .before .before)) (now (start (k .before .before .before) .args .map))
 the-map k = record { accepted = accepted (k .before .before .before); lent = k .if2 .left ∙ k .before .bins .ensures }
 
+-- what is left to test, once every length is right
+abbrev five : tie.Else5 → tie.Start
+five k = start (k .before .before .before .before .before .before)
+
+lengths : (k : tie.Else5) → mapNumberOn (grid (k .before .before .before .before .before .before)) (now (five k .args .map)) (five k .args .colours) (now (five k .args .frame)) (now (five k .args .indices)) (five k .args .first) (five k .args .pixels) ≡ refuse (ltb (length (now (five k .args .frame)) / 3) (five k .args .first + five k .args .pixels)) 5 (refuse (not (allBelow (five k .args .colours) (now (five k .args .map)))) 9 0)
+unfolding mapNumberOn refuse
+lengths k =
+    simp (
+      eq-eqb _ _ (k .before .before .before .before .before .if1 .left),
+      eq-eqb _ _ (the-map (k .before .before .before) .lent),
+      le-leb _ _ (k .before .before .if3 .left),
+      le-leb _ _ (k .before .if4 .left),
+      eq-eqb _ _ (k .if5 .left),
+    )
+
 -- the band, once it lies in the frame
 abbrev band-start : tie.Else6 → tie.Start
 band-start k = start (k .before .before .before .before .before .before .before .before)
@@ -46,6 +61,10 @@ tested k = sym (k .before .reaches-past .ensures) ∙ k .if6 .left
 
 inside : (k : tie.Else6) → band-start k .args .first + band-start k .args .pixels ≤ length (now (band-start k .args .frame)) / 3
 inside k = ltb-false _ _ (tested k)
+
+-- every entry of the map is below the palette's length, once the largest is
+below : (k : tie.Else7) → allBelow (band-start (k .before .before) .args .colours) (now (band-start (k .before .before) .args .map)) ≡ true
+below k = sym (k .before .largest .ensures _ (k .before .before .before .before .before .before .if3 .left)) ∙ lt-ltb _ _ (k .if7 .left)
 
 grid-of-requires : tie.Need-grid-of-requires
 grid-of-requires c κs = search needs
@@ -86,8 +105,8 @@ reaches-past-requires : tie.Need-reaches-past-requires
 reaches-past-requires c κs = search needs
 
 returns-7 : tie.Need-returns-7
-unfolding mapNumberOn refuse whenDone
-returns-7 c = map-ends _ _ _ _ _ _ _ _ _ (on-grid (c .before .before .before .before .before .before .before .before)) (simp (eq-eqb _ _ (c .before .before .before .before .before .before .before .if1 .left), eq-eqb _ _ (the-map (c .before .before .before .before .before) .lent), le-leb _ _ (c .before .before .before .before .if3 .left), le-leb _ _ (c .before .before .before .if4 .left), eq-eqb _ _ (c .before .before .if5 .left), sym (c .before .reaches-past .ensures) ∙ c .if6 .taken)) refl
+unfolding refuse whenDone
+returns-7 c = map-ends _ _ _ _ _ _ _ _ _ (on-grid (c .before .before .before .before .before .before .before .before)) (lengths (c .before .before) ∙ simp (sym (c .before .reaches-past .ensures) ∙ c .if6 .taken)) refl
 
 largest-requires : tie.Need-largest-requires
 largest-requires c κs = search needs
@@ -96,8 +115,8 @@ cast-if7 : tie.Need-cast-if7
 cast-if7 c = search needs
 
 returns-8 : tie.Need-returns-8
-unfolding mapNumberOn refuse whenDone
-returns-8 c = map-ends _ _ _ _ _ _ _ _ _ (on-grid (c .before .before .before .before .before .before .before .before .before .before)) (simp (eq-eqb _ _ (c .before .before .before .before .before .before .before .before .before .if1 .left), eq-eqb _ _ (the-map (c .before .before .before .before .before .before .before) .lent), le-leb _ _ (c .before .before .before .before .before .before .if3 .left), le-leb _ _ (c .before .before .before .before .before .if4 .left), eq-eqb _ _ (c .before .before .before .before .if5 .left), tested (c .before .before), sym (c .before .largest .ensures _ (c .before .before .before .before .before .before .if3 .left)) ∙ le-ltb _ _ (c .if7 .taken))) refl
+unfolding refuse whenDone
+returns-8 c = map-ends _ _ _ _ _ _ _ _ _ (on-grid (c .before .before .before .before .before .before .before .before .before .before)) (lengths (c .before .before .before .before) ∙ simp (tested (c .before .before), sym (c .before .largest .ensures _ (c .before .before .before .before .before .before .if3 .left)) ∙ le-ltb _ _ (c .if7 .taken))) refl
 
 map-band-requires : tie.Need-map-band-requires
 map-band-requires c κs =
@@ -110,8 +129,8 @@ same-length : tie.Need-same-length
 same-length c = search needs
 
 returns-9 : tie.Need-returns-9
-unfolding mapNumberOn refuse whenDone
-returns-9 c = map-ends _ _ _ _ _ _ _ _ _ (on-grid (c .before .before .before .before .before .before .before .before .before .before .before .before .before .before)) (simp (eq-eqb _ _ (c .before .before .before .before .before .before .before .before .before .before .before .before .before .if1 .left), eq-eqb _ _ (the-map (c .before .before .before .before .before .before .before .before .before .before .before) .lent), le-leb _ _ (c .before .before .before .before .before .before .before .before .before .before .if3 .left), le-leb _ _ (c .before .before .before .before .before .before .before .before .before .if4 .left), eq-eqb _ _ (c .before .before .before .before .before .before .before .before .if5 .left), tested (c .before .before .before .before .before .before), sym (c .before .before .before .before .before .largest .ensures _ (c .before .before .before .before .before .before .before .before .before .before .if3 .left)) ∙ lt-ltb _ _ (c .before .before .before .before .if7 .left))) (c .before .before .map-band .ensures)
+unfolding refuse whenDone
+returns-9 c = map-ends _ _ _ _ _ _ _ _ _ (on-grid (c .before .before .before .before .before .before .before .before .before .before .before .before .before .before)) (lengths (c .before .before .before .before .before .before .before .before) ∙ simp (tested (c .before .before .before .before .before .before), below (c .before .before .before .before))) (c .before .before .map-band .ensures)
 
 pub map-spec : {M : Type 1} → statement M
 map-spec =

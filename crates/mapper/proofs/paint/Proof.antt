@@ -1,7 +1,7 @@
 -- `mapper::paint` meets its contract: the refusals in their order, and then the band is painted.
 -- Assumes nothing.
 use mathlib.Core.Path.{_≡_, refl, sym, _∙_}
-use mathlib.Core.Bool.{true, false}
+use mathlib.Core.Bool.{true, false, not}
 use Prim.Native.Nat.{_+_, _/_, _≤_}
 use native.Mathlib.Omega.{arith}
 use borrow.Author.Tests.{eq-eqb, ne-eqb, le-leb, lt-leb, lt-ltb, le-ltb, ltb-false}
@@ -36,6 +36,21 @@ accepted k = chose _ _ _ (grid k) (on-grid k) .accepted
 -- the map, once its length is right
 the-map : (k : tie.Else2) → MapOf (grid (k .before .before .before)) (now (start (k .before .before .before) .args .map))
 the-map k = record { accepted = accepted (k .before .before .before); lent = k .if2 .left ∙ k .before .bins .ensures }
+
+-- what is left to test, once every length is right
+abbrev five : tie.Else5 → tie.Start
+five k = start (k .before .before .before .before .before .before)
+
+lengths : (k : tie.Else5) → paintNumberOn (grid (k .before .before .before .before .before .before)) (now (five k .args .map)) (now (five k .args .palette)) (now (five k .args .frame)) (five k .args .first) (five k .args .pixels) ≡ refuse (ltb (length (now (five k .args .frame)) / 3) (five k .args .first + five k .args .pixels)) 5 (refuse (not (allBelow (length (now (five k .args .palette)) / 3) (now (five k .args .map)))) 9 0)
+unfolding paintNumberOn refuse
+lengths k =
+    simp (
+      eq-eqb _ _ (k .before .before .before .before .before .if1 .left),
+      eq-eqb _ _ (the-map (k .before .before .before) .lent),
+      le-leb _ _ (k .before .before .if3 .left),
+      le-leb _ _ (k .before .if4 .left),
+      eq-eqb _ _ (k .if5 .left),
+    )
 
 -- the band, once it lies in the frame
 abbrev band-start : tie.Else6 → tie.Start
@@ -94,8 +109,8 @@ reaches-past-requires : tie.Need-reaches-past-requires
 reaches-past-requires c κs = search needs
 
 returns-7 : tie.Need-returns-7
-unfolding paintNumberOn refuse whenDone
-returns-7 c = paint-ends _ _ _ _ _ _ _ _ (on-grid (c .before .before .before .before .before .before .before .before)) (simp (eq-eqb _ _ (c .before .before .before .before .before .before .before .if1 .left), eq-eqb _ _ (the-map (c .before .before .before .before .before) .lent), le-leb _ _ (c .before .before .before .before .if3 .left), le-leb _ _ (c .before .before .before .if4 .left), eq-eqb _ _ (c .before .before .if5 .left), sym (c .before .reaches-past .ensures) ∙ c .if6 .taken)) refl
+unfolding refuse whenDone
+returns-7 c = paint-ends _ _ _ _ _ _ _ _ (on-grid (c .before .before .before .before .before .before .before .before)) (lengths (c .before .before) ∙ simp (sym (c .before .reaches-past .ensures) ∙ c .if6 .taken)) refl
 
 largest-requires : tie.Need-largest-requires
 largest-requires c κs = search needs
@@ -104,8 +119,8 @@ cast-if7 : tie.Need-cast-if7
 cast-if7 c = search needs
 
 returns-8 : tie.Need-returns-8
-unfolding paintNumberOn refuse whenDone
-returns-8 c = paint-ends _ _ _ _ _ _ _ _ (on-grid (c .before .before .before .before .before .before .before .before .before .before)) (simp (eq-eqb _ _ (c .before .before .before .before .before .before .before .before .before .if1 .left), eq-eqb _ _ (the-map (c .before .before .before .before .before .before .before) .lent), le-leb _ _ (c .before .before .before .before .before .before .if3 .left), le-leb _ _ (c .before .before .before .before .before .if4 .left), eq-eqb _ _ (c .before .before .before .before .if5 .left), tested (c .before .before), sym (c .before .largest .ensures _ (some-colour (c .before .before .before .before .before .before))) ∙ le-ltb _ _ (c .if7 .taken))) refl
+unfolding refuse whenDone
+returns-8 c = paint-ends _ _ _ _ _ _ _ _ (on-grid (c .before .before .before .before .before .before .before .before .before .before)) (lengths (c .before .before .before .before) ∙ simp (tested (c .before .before), sym (c .before .largest .ensures _ (some-colour (c .before .before .before .before .before .before))) ∙ le-ltb _ _ (c .if7 .taken))) refl
 
 paint-band-requires : tie.Need-paint-band-requires
 paint-band-requires c κs =
@@ -117,8 +132,8 @@ same-length : tie.Need-same-length
 same-length c = search needs
 
 returns-9 : tie.Need-returns-9
-unfolding paintNumberOn refuse whenDone
-returns-9 c = paint-ends _ _ _ _ _ _ _ _ (on-grid (c .before .before .before .before .before .before .before .before .before .before .before .before .before .before)) (simp (eq-eqb _ _ (c .before .before .before .before .before .before .before .before .before .before .before .before .before .if1 .left), eq-eqb _ _ (the-map (c .before .before .before .before .before .before .before .before .before .before .before) .lent), le-leb _ _ (c .before .before .before .before .before .before .before .before .before .before .if3 .left), le-leb _ _ (c .before .before .before .before .before .before .before .before .before .if4 .left), eq-eqb _ _ (c .before .before .before .before .before .before .before .before .if5 .left), tested (c .before .before .before .before .before .before), below (c .before .before .before .before))) (c .before .before .paint-band .ensures)
+unfolding refuse whenDone
+returns-9 c = paint-ends _ _ _ _ _ _ _ _ (on-grid (c .before .before .before .before .before .before .before .before .before .before .before .before .before .before)) (lengths (c .before .before .before .before .before .before .before .before) ∙ simp (tested (c .before .before .before .before .before .before), below (c .before .before .before .before))) (c .before .before .paint-band .ensures)
 
 pub paint-spec : {M : Type 1} → statement M
 paint-spec =
