@@ -115,11 +115,11 @@ module _ (f : ℕ → ℕ) (old : List ℕ) where
 pub part-at : (a k : ℕ) (l : List ℕ) (i : ℕ) → i < k → getD (take k (drop a l)) i 0 ≡ getD l (a + i) 0
 part-at a k l i h = getD-take k (drop a l) i 0 h ∙ getD-drop a l i 0
 
-pub count : (a k : ℕ) → (a + k) - a ≡ k
-count a k = omega arith
+pub part-count : (a k : ℕ) → (a + k) - a ≡ k
+part-count a k = omega arith
 
 pub part-length : (a k : ℕ) (l : List ℕ) → a + k ≤ length l → length (take ((a + k) - a) (drop a l)) ≡ k
-part-length a k l h = mid-len a (a + k) l h ∙ count a k
+part-length a k l h = mid-len a (a + k) l h ∙ part-count a k
 
 -- put back with f at each place, it makes the list with the band written
 pub part-back : (a k : ℕ) (f : ℕ → ℕ) (old new : List ℕ) → a + k ≤ length old → length new ≡ k → ((i : ℕ) → i < k → getD new i 0 ≡ f (a + i)) → putMid a ((a + k) - a) old new ≡ writeBand a k f old
@@ -150,7 +150,7 @@ part-back a k f old new fits long at =
     after-from : (j : ℕ) → getD whole ((a + k) + j) 0 ≡ getD old ((a + k) + j) 0
     after-from j =
         sym (getD-drop (a + k) whole j 0)
-        ∙ ap (λ (t : List ℕ). getD t j 0) (drop-put a (a + k) old new (omega arith) fits (long ∙ sym (count a k)))
+        ∙ ap (λ (t : List ℕ). getD t j 0) (drop-put a (a + k) old new (omega arith) fits (long ∙ sym (part-count a k)))
         ∙ getD-drop (a + k) old j 0
 
     after : (i : ℕ) → a + k ≤ i → getD whole i 0 ≡ getD old i 0

@@ -1,12 +1,10 @@
 -- `mapper::map_part` meets its contract: after i pixels the first i places hold their indices.
 -- Assumes nothing.
-use mathlib.Core.Path.{_≡_, refl, ap, _∙_}
+use mathlib.Core.Path.{_≡_, refl}
 use Prim.Native.Nat.{_≤_, _-_}
 use native.Mathlib.Omega.{arith}
 use denote.Ref.{now}
-use lib.ListN.{length, getD, length-set}
-use Rattle.grid.specs.declared.Rgb.{Rgb}
-use Rattle.grid.specs.Grid.{colourPlace}
+use lib.ListN.{length, length-set}
 use Rattle.grid.proofs.Range.{Filled, filled-more, list-is}
 use Rattle.mapper.specs.Band.{indexAt}
 use Rattle.mapper.proofs.map_part.Statement.{statement}
@@ -42,10 +40,11 @@ unfolding indexAt
 loop-again c =
     let s = c .before .before .before .before .before .before .before in
     let l = c .before .before .before .loop in
-    let x = c .before .colour .ensures in (
+    let index : c .index-of .result ≡ indexAt (s .args .g) (now (s .args .map)) (now (s .args .part)) (l .i) =
+    rw (c .index-of .ensures, c .before .colour .ensures) refl in (
       omega arith,
       simp length-set (l .inv .1),
-      filled-more (l .indices) _ (l .i) _ (omega arith) (c .index-of .ensures ∙ ap (λ (x : Rgb). getD (now (s .args .map)) (colourPlace (s .args .g) x) 0) x) (l .inv .2),
+      filled-more (l .indices) _ (l .i) _ (omega arith) index (l .inv .2),
     )
 
 same-length : tie.Need-same-length Inv-loop μ-loop

@@ -1,13 +1,12 @@
 -- `mapper::paint_part` meets its contract: after i pixels the first i are painted and the others are as they were.
 -- Assumes nothing.
-use mathlib.Core.Path.{_≡_, ap, _∙_}
+use mathlib.Core.Path.{_≡_, refl, ap, _∙_}
 use mathlib.Core.List.{List}
 use Prim.Native.Nat.{ℕ, _+_, _*_, _/_, _≤_, _<_, _-_, _^_}
 use native.Mathlib.Omega.{arith}
 use borrow.Author.Needs.{needs}
 use denote.Ref.{now}
-use lib.ListN.{length, getD}
-use Rattle.grid.specs.declared.Rgb.{Rgb}
+use lib.ListN.{length}
 use Rattle.grid.specs.Grid.{colourAt, colourPlace}
 use Rattle.mapper.specs.Band.{indexAt, writeBand}
 use Rattle.mapper.specs.Paint.{putColour, paintAt}
@@ -74,7 +73,7 @@ loop-again c =
     let pixel : c .before .before .before .before .before .before .colour .result ≡ colourAt old (l .i) =
     c .before .before .before .before .before .before .colour .ensures ∙ ap (λ (b : List ℕ). colourAt b (l .i)) (l .inv .1) ∙ next-colour (s .args .g) map palette old (l .i) here in
     let index : c .before .before .before .before .before .index-of .result ≡ indexAt (s .args .g) map old (l .i) =
-    c .before .before .before .before .before .index-of .ensures ∙ ap (λ (x : Rgb). getD map (colourPlace (s .args .g) x) 0) pixel in
+    rw (c .before .before .before .before .before .index-of .ensures, pixel) refl in
     let paint : c .before .before .before .colour2 .result ≡ colourAt palette (indexAt (s .args .g) map old (l .i)) =
     c .before .before .before .colour2 .ensures ∙ ap (colourAt palette) index in (
       omega arith,
