@@ -2,3 +2,4 @@ pub mod Determined
 pub mod Range
 pub mod Size
 pub mod Places
+pub mod Ends

@@ -8,24 +8,14 @@ use borrow.Author.Tests.{eq-eqb, ne-eqb, lt-ltb, le-ltb}
 use lib.Dec.{eqb}
 use lib.ListN.{length}
 use Rattle.grid.specs.declared.Grid.{Grid}
-use Rattle.grid.specs.declared.Chosen.{Chosen}
 use Rattle.grid.specs.declared.Chosen.the-variants as chosen
 use Rattle.grid.specs.Answer.{refuse, whenDone}
-use Rattle.grid.specs.Grid.{gridOf, gridAnswer, onGrid, numberOn, binsOf}
+use Rattle.grid.specs.Grid.{gridOf, binsOf}
+use Rattle.grid.proofs.Ends.{grid-refused, ends}
 use Rattle.table.specs.Cell.{wide, wideList}
 use Rattle.table.specs.Sound.{limit, total, sound}
 use Rattle.loader.specs.Load.{weightOf, batchOf, loaded, loadNumberOn, loadNumber, loadLater}
 use Rattle.loader.specs.Merge.{merged, mergeNumberOn, mergeNumber, mergeLater}
-
--- a call that gives the number of a chain over the grid, and leaves what was there unless it is done
-module _ (c : Chosen) (f : Grid → ℕ) (done : Grid → List ℕ) (t : List ℕ) where
-  grid-refused : c ≡ chosen.Refused → (1 ≡ numberOn c f) × (t ≡ onGrid c t (λ g. whenDone (f g) (done g) t))
-  unfolding numberOn onGrid gridAnswer
-  grid-refused e = (rw e refl, rw e refl)
-
-  ends : {g : Grid} → c ≡ chosen.Of g → {n : ℕ} → f g ≡ n → {e : List ℕ} → e ≡ whenDone n (done g) t → (n ≡ numberOn c f) × (e ≡ onGrid c t (λ g. whenDone (f g) (done g) t))
-  unfolding numberOn onGrid
-  ends p q r = (rw (p, q) refl, rw (p, q, r) refl)
 
 -- ---- merge
 module _ (b1 b2 b3 : ℕ) (t s : List ℕ) where

@@ -1,19 +1,17 @@
 -- What a caller of load and merge may use without seeing inside their definitions: a refusal leaves all as it was, lengths
 -- stay, and where the number is 0 the grid is accepted, the tables were sound, the total fits, and each number is known.
 -- Assumes nothing.
-use mathlib.Core.Path.{_≡_, refl, sym, ap, _∙_}
-use mathlib.Core.Bool.{Bool, true, false}
+use mathlib.Core.Path.{_≡_, refl, sym, _∙_}
+use mathlib.Core.Bool.{Bool}
 use mathlib.Core.List.{List}
-use Prim.Native.Nat.{ℕ, zero, suc, _+_, _*_, _≤_, _<_}
-use native.Mathlib.Omega.{arith}
+use Prim.Native.Nat.{ℕ, suc, _+_, _*_, _≤_, _<_}
 use borrow.Author.Tests.{eqb-true, ltb-false, not-false}
 use lib.Dec.{eqb}
 use lib.ListN.{length, getD}
 use Rattle.grid.specs.declared.Grid.{Grid}
-use Rattle.grid.specs.declared.Chosen.{Chosen}
 use Rattle.grid.specs.declared.Chosen.the-variants as chosen
-use Rattle.grid.specs.Answer.{refuse, whenDone}
-use Rattle.grid.specs.Grid.{gridOf, gridAnswer, onGrid, numberOn, binsOf}
+use Rattle.grid.specs.Grid.{gridOf, binsOf}
+use Rattle.grid.proofs.Ends.{passed, call-refused, call-done, same-length}
 use Rattle.grid.proofs.Range.{and-left, and-right}
 use Rattle.grid.proofs.Places.{chose}
 use Rattle.table.specs.Cell.{View, wide, wideList}
@@ -24,48 +22,6 @@ use Rattle.table.proofs.Cells.{Holds, list-holds}
 use Rattle.table.proofs.Soundness.{Sound, sound-same, total-same}
 use Rattle.loader.proofs.Loading.{load-sound, load-total, all-bytes-of}
 use Rattle.loader.proofs.Merging.{merge-sound, merge-total}
-
--- a test that did not refuse
-passed : (b : Bool) (n rest : ℕ) → refuse b (suc n) rest ≡ 0 → (b ≡ false) × (rest ≡ 0)
-unfolding refuse
-passed true n rest e = absurd (never e)
-  where
-    never : suc n ≡ 0 → ⊥
-    never q = omega arith
-passed false n rest e = (refl, e)
-
--- ---- a call on its grid
-left-alone : (m : ℕ) (x t : List ℕ) {n : ℕ} → m ≡ suc n → whenDone m x t ≡ t
-unfolding whenDone
-left-alone m x t e = rw e refl
-
-written : (m : ℕ) (x t : List ℕ) → m ≡ 0 → whenDone m x t ≡ x
-unfolding whenDone
-written m x t e = rw e refl
-
-call-refused : (c : Chosen) (f : Grid → ℕ) (done : Grid → List ℕ) (t : List ℕ) {n : ℕ} → numberOn c f ≡ suc n → onGrid c t (λ g. whenDone (f g) (done g) t) ≡ t
-unfolding numberOn onGrid
-call-refused (chosen.Of g) f done t e = left-alone (f g) (done g) t e
-call-refused chosen.Refused f done t e = refl
-
-record OnGrid (c : Chosen) (f : Grid → ℕ) (done : Grid → List ℕ) (t : List ℕ) : Type 0 where
-  g : Grid
-  is : c ≡ chosen.Of g
-  number : f g ≡ 0
-  later : onGrid c t (λ h. whenDone (f h) (done h) t) ≡ done g
-
-call-done : (c : Chosen) (f : Grid → ℕ) (done : Grid → List ℕ) (t : List ℕ) → numberOn c f ≡ 0 → OnGrid c f done t
-unfolding numberOn onGrid gridAnswer
-call-done (chosen.Of g) f done t e = record { g = g; is = refl; number = e; later = written (f g) (done g) t e }
-call-done chosen.Refused f done t e = absurd (never e)
-  where
-    never : _≡_ {A = ℕ} 1 0 → ⊥
-    never q = omega arith
-
--- the length after a call that, where it is done, leaves as many numbers as there were
-same-length : (n : ℕ) (t e : List ℕ) → ((m : ℕ) → n ≡ suc m → e ≡ t) → (n ≡ 0 → length e ≡ length t) → length e ≡ length t
-same-length zero t e r d = d refl
-same-length (suc n) t e r d = ap length (r n refl)
 
 -- ---- load
 module _ (b1 b2 b3 : ℕ) (t colours : List ℕ) (given : Bool) (weights : List ℕ) where

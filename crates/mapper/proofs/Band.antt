@@ -1,0 +1,165 @@
+-- A band written over a list: its places, what one more place adds, and a part that is handed on and put back.
+-- Assumes nothing.
+use mathlib.Core.Path.{_≡_, refl, sym, ap, subst, _∙_}
+use mathlib.Core.Bool.{Bool, true, false, cond}
+use mathlib.Core.List.{List, _++_}
+use Prim.Native.Nat.{ℕ, _+_, _-_, _≤_, _<_}
+use native.Mathlib.Nat.{zero-add, lt-of-not-le}
+use native.Mathlib.Omega.{arith}
+use native.Mathlib.Decide.{ℕ-discrete, decLe}
+use borrow.Author.Tests.{le-leb, lt-leb, lt-ltb, le-ltb, leb-true, leb-false, ltb-true, ltb-false}
+use borrow.Rule.Slice.PartMut.{putMid, same-len-mid, mid-len, take-put, drop-put}
+use lib.Dec.{leb, ltb}
+use lib.ListN.{length, getD, set, take, drop, length-set, List·getD-append, List·getD-eq-default}
+use lib.Seq.{getD-take, getD-drop, getD-append-add, length-take-le, getD-set-same, getD-set-other}
+use Rattle.grid.specs.Range.{listFrom}
+use Rattle.grid.proofs.Range.{length-list, list-at, list-is}
+use Rattle.mapper.specs.Band.{among, writeBand}
+
+-- ---- which numbers are among n from a first one onward
+pub among-yes : (first n i : ℕ) → first ≤ i → i < first + n → among first n i ≡ true
+unfolding among
+among-yes first n i a b = simp (le-leb _ _ a, lt-ltb _ _ b)
+
+pub among-before : (first n i : ℕ) → i < first → among first n i ≡ false
+unfolding among
+among-before first n i a = simp (lt-leb _ _ a)
+
+pub among-after : (first n i : ℕ) → first + n ≤ i → among first n i ≡ false
+unfolding among
+among-after first n i a = simp (le-leb _ _ (inside first n i a), le-ltb _ _ a)
+  where
+    inside : (first n i : ℕ) → first + n ≤ i → first ≤ i
+    inside first n i a = omega arith
+
+-- before, among or after
+module _ {P : Type 0} (first n i : ℕ) where
+  pub by-place : (i < first → P) → (first ≤ i → i < first + n → P) → (first + n ≤ i → P) → P
+  by-place before within after = go (leb first i) (ltb i (first + n)) refl refl
+    where
+      go : (a b : Bool) → leb first i ≡ a → ltb i (first + n) ≡ b → P
+      go false b p q = before (leb-false first i p)
+      go true true p q = within (leb-true first i p) (ltb-true i (first + n) q)
+      go true false p q = after (ltb-false i (first + n) q)
+
+-- ---- the places of a written band
+module _ (first n : ℕ) (f : ℕ → ℕ) (old : List ℕ) where
+  pub band-length : length (writeBand first n f old) ≡ length old
+  unfolding writeBand
+  band-length = length-list 0 (length old) (λ i. cond (among first n i) (f i) (getD old i 0))
+
+  pub band-at : (i : ℕ) → i < length old → getD (writeBand first n f old) i 0 ≡ cond (among first n i) (f i) (getD old i 0)
+  unfolding writeBand
+  band-at i h =
+      list-at 0 (length old) (λ i. cond (among first n i) (f i) (getD old i 0)) i 0 h
+      ∙ ap (λ (k : ℕ). cond (among first n k) (f k) (getD old k 0)) (zero-add i)
+
+  pub band-within : (i : ℕ) → i < length old → first ≤ i → i < first + n → getD (writeBand first n f old) i 0 ≡ f i
+  band-within i h a b = band-at i h ∙ ap (λ (t : Bool). cond t (f i) (getD old i 0)) (among-yes first n i a b)
+
+  pub band-before : (i : ℕ) → i < length old → i < first → getD (writeBand first n f old) i 0 ≡ getD old i 0
+  band-before i h a = band-at i h ∙ ap (λ (t : Bool). cond t (f i) (getD old i 0)) (among-before first n i a)
+
+  pub band-after : (i : ℕ) → i < length old → first + n ≤ i → getD (writeBand first n f old) i 0 ≡ getD old i 0
+  band-after i h a = band-at i h ∙ ap (λ (t : Bool). cond t (f i) (getD old i 0)) (among-after first n i a)
+
+  pub band-kept : (i : ℕ) → among first n i ≡ false → getD (writeBand first n f old) i 0 ≡ getD old i 0
+  band-kept i out = go (decLe (length old) i)
+    where
+      go : Dec (length old ≤ i) → getD (writeBand first n f old) i 0 ≡ getD old i 0
+      go (yes l) = List·getD-eq-default (writeBand first n f old) 0 (rw band-length l) ∙ sym (List·getD-eq-default old 0 l)
+      go (no l) = band-at i (lt-of-not-le l) ∙ ap (λ (t : Bool). cond t (f i) (getD old i 0)) out
+
+  -- a list with those places is the written band
+  pub band-is : (new : List ℕ) → length new ≡ length old → ((i : ℕ) → i < length old → i < first → getD new i 0 ≡ getD old i 0) → ((i : ℕ) → i < length old → first ≤ i → i < first + n → getD new i 0 ≡ f i) → ((i : ℕ) → i < length old → first + n ≤ i → getD new i 0 ≡ getD old i 0) → new ≡ writeBand first n f old
+  unfolding writeBand
+  band-is new same before within after =
+      list-is (length old) (λ i. cond (among first n i) (f i) (getD old i 0)) new 0 same
+      (λ i h. by-place {P = getD new i 0 ≡ cond (among first n i) (f i) (getD old i 0)} first n i
+      (λ a. before i h a ∙ ap (λ (t : Bool). cond t (f i) (getD old i 0)) (sym (among-before first n i a)))
+      (λ a b. within i h a b ∙ ap (λ (t : Bool). cond t (f i) (getD old i 0)) (sym (among-yes first n i a b)))
+      (λ a. after i h a ∙ ap (λ (t : Bool). cond t (f i) (getD old i 0)) (sym (among-after first n i a))))
+
+-- ---- a band from the front, as a loop writes it
+module _ (f : ℕ → ℕ) (old : List ℕ) where
+  pub band-none : old ≡ writeBand 0 0 f old
+  band-none = band-is 0 0 f old old refl (λ i h a. refl) (λ i h a b. absurd (omega arith)) (λ i h a. refl)
+
+  pub band-more : (n : ℕ) → n < length old → set (writeBand 0 n f old) n (f n) ≡ writeBand 0 (n + 1) f old
+  band-more n h =
+      band-is 0 (n + 1) f old (set (writeBand 0 n f old) n (f n)) (length-set (writeBand 0 n f old) n (f n) ∙ band-length 0 n f old)
+      (λ i l a. absurd (omega arith))
+      (λ i l a b. go i l b (ℕ-discrete i n))
+      (λ i l a. getD-set-other (writeBand 0 n f old) n i (f n) 0 (λ e. absurd (omega (arith, a, e))) ∙ band-after 0 n f old i l (omega arith))
+    where
+      go : (i : ℕ) → i < length old → i < 0 + (n + 1) → Dec (i ≡ n) → getD (set (writeBand 0 n f old) n (f n)) i 0 ≡ f i
+      go i l b (yes e) = rw e (getD-set-same (writeBand 0 n f old) n (f n) 0 (rw (band-length 0 n f old) h))
+      go i l b (no d) = getD-set-other (writeBand 0 n f old) n i (f n) 0 d ∙ band-within 0 n f old i l (omega arith) (omega arith)
+
+  pub band-three : (n : ℕ) → n + 2 < length old → set (set (set (writeBand 0 n f old) n (f n)) (n + 1) (f (n + 1))) (n + 2) (f (n + 2)) ≡ writeBand 0 (n + 3) f old
+  band-three n h =
+      let two : (n + 1) + 1 ≡ n + 2 = omega arith in
+      let three : (n + 2) + 1 ≡ n + 3 = omega arith in
+      ap (λ (l : List ℕ). set (set l (n + 1) (f (n + 1))) (n + 2) (f (n + 2))) (band-more n (omega arith))
+      ∙ ap (λ (l : List ℕ). set l (n + 2) (f (n + 2))) (band-more (n + 1) (omega arith))
+      ∙ ap (λ (k : ℕ). set (writeBand 0 k f old) (n + 2) (f (n + 2))) two
+      ∙ band-more (n + 2) h
+      ∙ ap (λ (k : ℕ). writeBand 0 k f old) three
+
+  pub band-whole : writeBand 0 (length old) f old ≡ listFrom 0 (length old) f
+  band-whole =
+      list-is (length old) f (writeBand 0 (length old) f old) 0 (band-length 0 (length old) f old)
+      (λ i h. band-within 0 (length old) f old i h (omega arith) (omega arith))
+
+-- ---- a part that is handed on
+pub part-at : (a k : ℕ) (l : List ℕ) (i : ℕ) → i < k → getD (take k (drop a l)) i 0 ≡ getD l (a + i) 0
+part-at a k l i h = getD-take k (drop a l) i 0 h ∙ getD-drop a l i 0
+
+pub part-count : (a k : ℕ) → (a + k) - a ≡ k
+part-count a k = omega arith
+
+pub part-length : (a k : ℕ) (l : List ℕ) → a + k ≤ length l → length (take ((a + k) - a) (drop a l)) ≡ k
+part-length a k l h = mid-len a (a + k) l h ∙ part-count a k
+
+-- put back with f at each place, it makes the list with the band written
+pub part-back : (a k : ℕ) (f : ℕ → ℕ) (old new : List ℕ) → a + k ≤ length old → length new ≡ k → ((i : ℕ) → i < k → getD new i 0 ≡ f (a + i)) → putMid a ((a + k) - a) old new ≡ writeBand a k f old
+part-back a k f old new fits long at =
+    band-is a k f old whole (same-len-mid a ((a + k) - a) old new (long ∙ sym (part-length a k old fits)))
+    (λ i h l. sym (getD-take a whole i 0 l) ∙ ap (λ (t : List ℕ). getD t i 0) (take-put a ((a + k) - a) old new (omega arith)) ∙ getD-take a old i 0 l)
+    (λ i h l m. within i l m)
+    (λ i h l. after i l)
+  where
+    whole : List ℕ
+    whole = putMid a ((a + k) - a) old new
+
+    rest : List ℕ
+    rest = drop ((a + k) - a) (drop a old)
+
+    within-from : (j : ℕ) → j < k → getD whole (a + j) 0 ≡ f (a + j)
+    within-from j h =
+        ap (λ (n : ℕ). getD whole (n + j) 0) (sym (length-take-le a old (omega arith)))
+        ∙ getD-append-add (take a old) (new ++ rest) j 0
+        ∙ List·getD-append new rest 0 j (rw long h)
+        ∙ at j h
+
+    within : (i : ℕ) → a ≤ i → i < a + k → getD whole i 0 ≡ f i
+    within i l m =
+        let e : a + (i - a) ≡ i = omega arith in
+        subst (λ (n : ℕ). getD whole n 0 ≡ f n) e (within-from (i - a) (omega arith))
+
+    after-from : (j : ℕ) → getD whole ((a + k) + j) 0 ≡ getD old ((a + k) + j) 0
+    after-from j =
+        sym (getD-drop (a + k) whole j 0)
+        ∙ ap (λ (t : List ℕ). getD t j 0) (drop-put a (a + k) old new (omega arith) fits (long ∙ sym (part-count a k)))
+        ∙ getD-drop (a + k) old j 0
+
+    after : (i : ℕ) → a + k ≤ i → getD whole i 0 ≡ getD old i 0
+    after i l =
+        let e : (a + k) + (i - (a + k)) ≡ i = omega arith in
+        subst (λ (n : ℕ). getD whole n 0 ≡ getD old n 0) e (after-from (i - (a + k)))
+
+-- the same, where the part is left as a list of h
+pub part-written : (a k n : ℕ) (f h : ℕ → ℕ) (old new : List ℕ) → a + k ≤ length old → n ≡ k → new ≡ listFrom 0 n h → ((i : ℕ) → i < k → h i ≡ f (a + i)) → putMid a ((a + k) - a) old new ≡ writeBand a k f old
+part-written a k n f h old new fits long is same =
+    part-back a k f old new fits (ap length is ∙ length-list 0 n h ∙ long)
+    (λ i l. ap (λ (t : List ℕ). getD t i 0) is ∙ list-at 0 n h i 0 (rw long l) ∙ ap h (zero-add i) ∙ same i l)

@@ -1,0 +1,31 @@
+-- What mapping and painting a band have in common (document 01, "Map and paint" and "Numbers a caller gets back"). Definitions only.
+use mathlib.Core.Path.{_≡_}
+use mathlib.Core.Bool.{Bool, _&&_, cond}
+use mathlib.Core.List.{List}
+use Prim.Native.Nat.{ℕ, _+_}
+use lib.Dec.{leb, ltb}
+use lib.ListN.{length, getD}
+use Rattle.grid.specs.declared.Grid.{Grid}
+use Rattle.grid.specs.Range.{listFrom, allFrom}
+use Rattle.grid.specs.Grid.{binsOf, colourAt, colourPlace, Accepted}
+
+-- "A pixel's index is the map's byte at its bin."
+unfoldable pub indexAt : Grid → List ℕ → List ℕ → ℕ → ℕ
+indexAt g map frame i = getD map (colourPlace g (colourAt frame i)) 0
+
+-- number i is among the n from a first one onward
+unfoldable pub among : ℕ → ℕ → ℕ → Bool
+among first n i = leb first i && ltb i (first + n)
+
+-- "writes only that band": f at each of the n places from a first one onward, and what was there at every other
+unfoldable pub writeBand : ℕ → ℕ → (ℕ → ℕ) → List ℕ → List ℕ
+writeBand first n f old = listFrom 0 (length old) (λ i. cond (among first n i) (f i) (getD old i 0))
+
+-- every entry of the map is below the palette's length: "Answer 9 looks at every entry of the map, used by the band or not"
+unfoldable pub allBelow : ℕ → List ℕ → Bool
+allBelow colours map = allFrom 0 (length map) (λ p. ltb (getD map p 0) colours)
+
+-- a map of an accepted grid: "map exactly bins"
+pub record MapOf (g : Grid) (map : List ℕ) : Type 0 where
+  pub accepted : Accepted g
+  pub lent : length map ≡ binsOf g

@@ -1,0 +1,4 @@
+pub mod Band
+pub mod Map
+pub mod Paint
+pub mod Bands

@@ -1,0 +1,48 @@
+-- Painting a band (document 01, "Map and paint" and "Numbers a caller gets back"). Definitions only.
+use mathlib.Core.Path.{_≡_}
+use mathlib.Core.Bool.{true, not, _&&_}
+use mathlib.Core.List.{List}
+use Prim.Native.Nat.{ℕ, _+_, _*_, _/_, _%_, _≤_}
+use lib.Dec.{eqb, leb, ltb}
+use lib.ListN.{length, getD, set}
+use Rattle.grid.specs.declared.Grid.{Grid}
+use Rattle.grid.specs.declared.Rgb.{Rgb}
+use Rattle.grid.specs.Answer.{refuse, whenDone}
+use Rattle.grid.specs.Grid.{gridOf, onGrid, numberOn, binsOf}
+use Rattle.mapper.specs.Band.{indexAt, writeBand, allBelow, MapOf}
+
+-- byte j of a painted frame, which is byte j % 3 of pixel j / 3: that byte of the palette's colour at the pixel's index
+unfoldable pub paintAt : Grid → List ℕ → List ℕ → List ℕ → ℕ → ℕ
+paintAt g map palette frame j = getD palette (3 * indexAt g map frame (j / 3) + j % 3) 0
+
+-- a colour written as pixel i of a row of bytes
+unfoldable pub putColour : List ℕ → ℕ → Rgb → List ℕ
+putColour bytes i x = set (set (set bytes (3 * i) (x .c1)) (3 * i + 1) (x .c2)) (3 * i + 2) (x .c3)
+
+-- a map of an accepted grid, and a palette that has a colour for each of its entries
+pub record Fits (g : Grid) (map palette : List ℕ) : Type 0 where
+  pub of-grid : MapOf g map
+  pub some : 3 ≤ length palette
+  pub below : allBelow (length palette / 3) map ≡ true
+
+-- the number of a painting on an accepted grid: "the palette for painting 3..768 bytes, a multiple of three"
+unfoldable pub paintNumberOn : Grid → List ℕ → List ℕ → List ℕ → ℕ → ℕ → ℕ
+paintNumberOn g map palette frame first pixels =
+    refuse (not (eqb (length frame % 3) 0)) 3
+    (refuse (not (eqb (length map) (binsOf g))) 5
+    (refuse (not (leb 3 (length palette) && leb (length palette) 768)) 5
+    (refuse (not (eqb (length palette % 3) 0)) 5
+    (refuse (ltb (length frame / 3) (first + pixels)) 5
+    (refuse (not (allBelow (length palette / 3) map)) 9 0)))))
+
+unfoldable pub paintNumber : ℕ → ℕ → ℕ → List ℕ → List ℕ → List ℕ → ℕ → ℕ → ℕ
+paintNumber b1 b2 b3 map palette frame first pixels =
+    numberOn (gridOf b1 b2 b3) (λ g. paintNumberOn g map palette frame first pixels)
+
+-- the frame after a painting: "Painting replaces colours in place for a band", three bytes a pixel
+unfoldable pub paintLater : ℕ → ℕ → ℕ → List ℕ → List ℕ → List ℕ → ℕ → ℕ → List ℕ
+paintLater b1 b2 b3 map palette frame first pixels =
+    onGrid (gridOf b1 b2 b3) frame
+    (λ g. whenDone (paintNumberOn g map palette frame first pixels)
+    (writeBand (3 * first) (3 * pixels) (paintAt g map palette frame) frame)
+    frame)

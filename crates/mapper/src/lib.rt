@@ -1,0 +1,240 @@
+// Mapping and painting a band of a frame.
+use grid::Chosen;
+use grid::Grid;
+use grid::Rgb;
+use grid::bins;
+use grid::colour;
+use grid::grid_of;
+use grid::place_by_steps;
+use grid::steps;
+ghost use mathlib.Core.Path.{_≡_};
+ghost use Prim.Native.Nat.{ℕ, _+_, _*_, _/_, _%_, _≤_, _<_};
+ghost use lib.Dec.{ltb};
+ghost use lib.ListN.{length, getD};
+ghost use Rattle.grid.specs.Range.{listFrom};
+ghost use Rattle.grid.specs.Grid.{colourPlace, StepsOf};
+ghost use Rattle.mapper.specs.Band.{indexAt, writeBand, allBelow, MapOf};
+ghost use Rattle.mapper.specs.Map.{mapNumber, mapLater};
+ghost use Rattle.mapper.specs.Paint.{putColour, paintAt, Fits, paintNumber, paintLater};
+
+// The largest entry of a map, or 0.
+fn largest(map: &[u8]) -> u8
+    ensures { λ r. ⌜ ((c : ℕ) → 1 ≤ c → ltb r c ≡ allBelow c (now (map .entry))) ⌝ }
+{
+    let mut top = 0;
+    let mut p = 0;
+    while p < map.len() {
+        if top < map[p] {
+            top = map[p];
+        }
+        p = p + 1;
+    }
+    top
+}
+
+// The index of a colour.
+fn index_of(
+    g: Grid,
+    t1: &[usize; 256],
+    t2: &[usize; 256],
+    t3: &[usize; 256],
+    map: &[u8],
+    x: Rgb,
+) -> u8
+    requires { ⌜ StepsOf g (now t1) (now t2) (now t3) × MapOf g (now map) ⌝ }
+    ensures { λ r. ⌜ r ≡ getD (now (map .entry)) (colourPlace g x) 0 ⌝ }
+{
+    let p = place_by_steps(t1, t2, t3, x);
+    map[p]
+}
+
+// Whether a band reaches past a frame of n pixels. Its first pixel and its length can add up past the largest number.
+fn reaches_past(n: usize, first: usize, pixels: usize) -> bool
+    ensures { λ r. ⌜ r ≡ ltb n (first + pixels) ⌝ }
+{
+    if n < first {
+        return true;
+    }
+    n - first < pixels
+}
+
+// ---- Mapping
+
+// The index of each pixel of a part of a frame, into the same part of the index buffer.
+fn map_part(
+    g: Grid,
+    t1: &[usize; 256],
+    t2: &[usize; 256],
+    t3: &[usize; 256],
+    map: &[u8],
+    part: &[u8],
+    indices: &mut [u8],
+)
+    requires { ⌜ StepsOf g (now t1) (now t2) (now t3) × MapOf g (now map) ⌝ }
+    requires { ⌜ length (now part) ≡ 3 * length (now indices) ⌝ }
+    ensures { λ r. ⌜ now (indices .exit) ≡ listFrom 0 (length (now (indices .entry))) (indexAt g (now (map .entry)) (now (part .entry))) ⌝ }
+{
+    let n = indices.len();
+    let mut i = 0;
+    while i < n {
+        indices[i] = index_of(g, t1, t2, t3, map, colour(part, i));
+        i = i + 1;
+    }
+}
+
+// Hands the band of the frame and of the index buffer on as parts.
+fn map_band(g: Grid, map: &[u8], frame: &[u8], indices: &mut [u8], first: usize, pixels: usize)
+    requires { ⌜ MapOf g (now map) × (length (now frame) ≡ 3 * length (now indices)) × (first + pixels ≤ length (now indices)) ⌝ }
+    ensures { λ r. ⌜ now (indices .exit) ≡ writeBand first pixels (indexAt g (now (map .entry)) (now (frame .entry))) (now (indices .entry)) ⌝ }
+{
+    let t1 = steps(g, 0);
+    let t2 = steps(g, 1);
+    let t3 = steps(g, 2);
+    let end = first + pixels;
+    let from = 3 * first;
+    let to = 3 * end;
+    map_part(
+        g,
+        &t1,
+        &t2,
+        &t3,
+        map,
+        &frame[from..to],
+        &mut indices[first..end],
+    );
+}
+
+// The index of each pixel of a band of a frame, into the same band of the index buffer.
+pub fn map(
+    b1: usize,
+    b2: usize,
+    b3: usize,
+    map: &[u8],
+    colours: usize,
+    frame: &[u8],
+    indices: &mut [u8],
+    first: usize,
+    pixels: usize,
+) -> u8
+    ensures { λ r. ⌜ r ≡ mapNumber b1 b2 b3 (now (map .entry)) colours (now (frame .entry)) (now (indices .entry)) first pixels ⌝ }
+    ensures { λ r. ⌜ now (indices .exit) ≡ mapLater b1 b2 b3 (now (map .entry)) colours (now (frame .entry)) (now (indices .entry)) first pixels ⌝ }
+{
+    let Chosen::Of(g) = grid_of(b1, b2, b3) else {
+        return 1;
+    };
+    if frame.len() % 3 != 0 {
+        return 3;
+    }
+    let n = frame.len() / 3;
+    if map.len() != bins(g) {
+        return 5;
+    }
+    if colours < 1 {
+        return 5;
+    }
+    if 256 < colours {
+        return 5;
+    }
+    if indices.len() != n {
+        return 5;
+    }
+    if reaches_past(n, first, pixels) {
+        return 5;
+    }
+    if colours <= largest(map) as usize {
+        return 9;
+    }
+    map_band(g, map, frame, indices, first, pixels);
+    0
+}
+
+// ---- Painting
+
+// Writes a colour as pixel i of a row of bytes.
+fn put_colour(bytes: &mut [u8], i: usize, x: Rgb)
+    requires { ⌜ 3 * i + 2 < length (now bytes) ⌝ }
+    ensures { λ r. ⌜ now (bytes .exit) ≡ putColour (now (bytes .entry)) i x ⌝ }
+{
+    let at = 3 * i;
+    bytes[at] = x.c1;
+    bytes[at + 1] = x.c2;
+    bytes[at + 2] = x.c3;
+}
+
+// The palette's colour at each pixel's index, in the place of a part of a frame.
+fn paint_part(
+    g: Grid,
+    t1: &[usize; 256],
+    t2: &[usize; 256],
+    t3: &[usize; 256],
+    map: &[u8],
+    palette: &[u8],
+    part: &mut [u8],
+)
+    requires { ⌜ StepsOf g (now t1) (now t2) (now t3) × Fits g (now map) (now palette) ⌝ }
+    requires { ⌜ length (now part) % 3 ≡ 0 ⌝ }
+    ensures { λ r. ⌜ now (part .exit) ≡ listFrom 0 (length (now (part .entry))) (paintAt g (now (map .entry)) (now (palette .entry)) (now (part .entry))) ⌝ }
+{
+    let n = part.len() / 3;
+    let mut i = 0;
+    while i < n {
+        let index = index_of(g, t1, t2, t3, map, colour(part, i));
+        put_colour(part, i, colour(palette, index as usize));
+        i = i + 1;
+    }
+}
+
+// Hands the band of the frame on as a part.
+fn paint_band(g: Grid, map: &[u8], palette: &[u8], frame: &mut [u8], first: usize, pixels: usize)
+    requires { ⌜ Fits g (now map) (now palette) × (3 * (first + pixels) ≤ length (now frame)) ⌝ }
+    ensures { λ r. ⌜ now (frame .exit) ≡ writeBand (3 * first) (3 * pixels) (paintAt g (now (map .entry)) (now (palette .entry)) (now (frame .entry))) (now (frame .entry)) ⌝ }
+{
+    let t1 = steps(g, 0);
+    let t2 = steps(g, 1);
+    let t3 = steps(g, 2);
+    let from = 3 * first;
+    let to = from + 3 * pixels;
+    paint_part(g, &t1, &t2, &t3, map, palette, &mut frame[from..to]);
+}
+
+// The palette's colour at each pixel's index, in the place of a band of a frame.
+pub fn paint(
+    b1: usize,
+    b2: usize,
+    b3: usize,
+    map: &[u8],
+    palette: &[u8],
+    frame: &mut [u8],
+    first: usize,
+    pixels: usize,
+) -> u8
+    ensures { λ r. ⌜ r ≡ paintNumber b1 b2 b3 (now (map .entry)) (now (palette .entry)) (now (frame .entry)) first pixels ⌝ }
+    ensures { λ r. ⌜ now (frame .exit) ≡ paintLater b1 b2 b3 (now (map .entry)) (now (palette .entry)) (now (frame .entry)) first pixels ⌝ }
+{
+    let Chosen::Of(g) = grid_of(b1, b2, b3) else {
+        return 1;
+    };
+    if frame.len() % 3 != 0 {
+        return 3;
+    }
+    if map.len() != bins(g) {
+        return 5;
+    }
+    if palette.len() < 3 {
+        return 5;
+    }
+    if 768 < palette.len() {
+        return 5;
+    }
+    if palette.len() % 3 != 0 {
+        return 5;
+    }
+    if reaches_past(frame.len() / 3, first, pixels) {
+        return 5;
+    }
+    if palette.len() / 3 <= largest(map) as usize {
+        return 9;
+    }
+    paint_band(g, map, palette, frame, first, pixels);
+    0
+}
