@@ -3,7 +3,6 @@
 use mathlib.Core.Path.{_≡_, sym, ap, subst, _∙_}
 use mathlib.Core.List.{List}
 use Prim.Native.Nat.{ℕ, _-_, _≤_, _<_}
-use native.Mathlib.Nat.{lt-of-lt-of-le}
 use native.Mathlib.Omega.{arith}
 use denote.Ref.{now}
 use lib.ListN.{length, take}
@@ -28,7 +27,7 @@ loop-holds : tie.Need-loop-holds Inv-loop μ-loop
 loop-holds c = (omega arith, sym (filled-none _ 0 _))
 
 box-at-requires : tie.Need-box-at-requires Inv-loop μ-loop
-box-at-requires c κs = lt-of-lt-of-le (c .loop-test .taken) (c .before .before .before .before .pre .0 .few)
+box-at-requires c κs = omega (arith, c .loop-test .taken, c .before .before .before .before .pre .0 .few)
 
 cast-index : tie.Need-cast-index Inv-loop μ-loop
 cast-index c = omega (arith, c .before .loop-test .taken, c .before .before .before .before .before .pre .0 .few)
@@ -38,7 +37,7 @@ fill-box-requires c κs =
     let s = c .before .before .before .before .before .before in
     let l = c .before .before .before .loop in
     let f = s .pre .0 in
-    let t = c .before .before .loop-test .taken in (
+    let t : l .place < s .args .b .found = omega (arith, c .before .before .loop-test .taken) in (
       subst (Within (s .args .g)) (sym (list-item f (l .place) t (c .before .box-at .ensures))) (f .occupied (l .place) t .within),
       ap length (l .inv .1) ∙ length-filled (s .args .g) 0 (take (l .place) (listOf (s .args .b))) (now (s .args .map)) ∙ s .pre .1,
     )
@@ -54,7 +53,7 @@ loop-again c =
     let s = c .before .before .before .before .before .before .before .before .before in
     let l = c .before .before .before .before .before .before .loop in
     let f = s .pre .0 in
-    let t = c .before .before .before .before .before .loop-test .taken in
+    let t : l .place < s .args .b .found = omega (arith, c .before .before .before .before .before .loop-test .taken) in
     let at : l .place < length (listOf (s .args .b)) = omega (arith, list-length f) in (
       omega arith,
       filled-next (listOf (s .args .b)) (l .place) noBox at (s .args .g) (now (s .args .map)) (l .inv .1)

@@ -3,7 +3,7 @@
 use mathlib.Core.Path.{_≡_, sym, ap, subst, _∙_}
 use mathlib.Core.List.{List}
 use Prim.Native.Nat.{ℕ, _-_, _*_, _≤_, _<_}
-use native.Mathlib.Nat.{le-of-lt, lt-of-lt-of-le}
+use native.Mathlib.Nat.{le-of-lt}
 use native.Mathlib.Omega.{arith}
 use denote.Ref.{now}
 use lib.ListN.{length, take, set}
@@ -29,14 +29,14 @@ loop-holds : tie.Need-loop-holds Inv-loop μ-loop
 loop-holds c = (omega arith, sym (palette-none _ _ _), sym (counts-none _ _ _))
 
 box-at-requires : tie.Need-box-at-requires Inv-loop μ-loop
-box-at-requires c κs = lt-of-lt-of-le (c .loop-test .taken) (c .before .before .before .before .before .before .pre .0 .1 .few)
+box-at-requires c κs = omega (arith, c .loop-test .taken, c .before .before .before .before .before .before .pre .0 .1 .few)
 
 put-result-requires : tie.Need-put-result-requires Inv-loop μ-loop
 put-result-requires c κs =
     let s = c .before .before .before .before .before .before .before .before .before in
     let l = c .before .before .before .before .loop in
     let f = s .pre .0 .1 in
-    let t = c .before .before .before .loop-test .taken in (
+    let t : l .i < s .args .b .found = omega (arith, c .before .before .before .loop-test .taken) in (
       (s .pre .0 .0, subst (Occupied (s .args .g) (wide (now (s .args .table)))) (sym (list-item f (l .i) t (c .before .before .box-at .ensures))) (f .occupied (l .i) t)),
       (
         omega (arith, ap length (l .inv .1), palette-long f (l .i) (le-of-lt t) (now (s .args .palette)) (s .pre .1 .0), s .pre .1 .0),
@@ -55,7 +55,7 @@ loop-again c =
     let s = c .before .before .before .before .before .before .before .before .before .before .before .before .before .before in
     let l = c .before .before .before .before .before .before .before .before .before .loop in
     let f = s .pre .0 .1 in
-    let t = c .before .before .before .before .before .before .before .before .loop-test .taken in
+    let t : l .i < s .args .b .found = omega (arith, c .before .before .before .before .before .before .before .before .loop-test .taken) in
     let at : l .i < length (listOf (s .args .b)) = omega (arith, list-length f) in
     let same = list-item f (l .i) t (c .before .before .before .before .before .before .before .box-at .ensures) in
     let e = c .before .before .before .before .put-result .ensures in (
