@@ -1,7 +1,7 @@
 -- The number of a cut, test by test, and what a cut that nothing refuses is given.
 -- Assumes nothing.
 use mathlib.Core.Path.{_≡_, refl, sym, ap, _∙_}
-use mathlib.Core.Bool.{Bool, true, false, not, _&&_, true≢false}
+use mathlib.Core.Bool.{Bool, true, false, not, _&&_}
 use mathlib.Core.List.{List}
 use Prim.Native.Nat.{ℕ, zero, suc, _*_, _≤_, _<_}
 use native.Mathlib.Nat.{lt-of-not-le}
@@ -13,6 +13,8 @@ use Rattle.grid.specs.declared.Grid.{Grid}
 use Rattle.grid.specs.declared.Chosen.the-variants as chosen
 use Rattle.grid.specs.Answer.{refuse, whenDone}
 use Rattle.grid.specs.Grid.{gridOf, onGrid, binsOf}
+use Rattle.grid.proofs.Range.{and-left, and-right}
+use Rattle.grid.proofs.Ends.{passed}
 use Rattle.table.specs.Cell.{wide}
 use Rattle.table.specs.Sound.{limit, total, sound}
 use Rattle.rounds.specs.Loop.{boxesOf}
@@ -75,13 +77,7 @@ module _ (g : Grid) (k : ℕ) (t : List ℕ) (l : Lengths) where
 
 -- ---- a cut that nothing refuses
 both-true : (a b : Bool) → (a && b) ≡ true → (a ≡ true) × (b ≡ true)
-both-true true b e = (refl, e)
-both-true false b e = absurd (true≢false (sym e))
-
-not-refused : (b : Bool) (n rest : ℕ) → refuse b (suc n) rest ≡ 0 → (b ≡ false) × (rest ≡ 0)
-unfolding refuse
-not-refused true n rest e = absurd (omega arith)
-not-refused false n rest e = (refl, e)
+both-true a b e = (and-left a b e, and-right a b e)
 
 pub lent-table : (g : Grid) (k table : ℕ) (l : Lengths) → longEnough g k table l ≡ true → table ≡ 5 * binsOf g
 unfolding longEnough
@@ -90,10 +86,10 @@ lent-table g k table l e = eqb-true _ _ (both-true _ _ e .0)
 pub can-cut : {g : Grid} {k : ℕ} {t : List ℕ} {l : Lengths} → cutNumberOn limit g k t l ≡ 0 → CanCut g k t l
 unfolding cutNumberOn longEnough
 can-cut {g} {k} {t} {l} e =
-    let size = not-refused _ 1 _ e in
-    let long = not-refused _ 4 _ (size .1) in
-    let good = not-refused _ 5 _ (long .1) in
-    let some = not-refused _ 7 _ (good .1) in
+    let size = passed _ 1 _ e in
+    let long = passed _ 4 _ (size .1) in
+    let good = passed _ 5 _ (long .1) in
+    let some = passed _ 7 _ (good .1) in
     let bounds = both-true _ _ (not-false _ (size .0)) in
     let one = both-true _ _ (not-false _ (long .0)) in
     let two = both-true _ _ (one .1) in

@@ -5,6 +5,5 @@ pub mod Keeps
 pub mod Calls
 pub mod View
 pub mod Unread
-pub mod Compare
 pub mod Order
 pub mod Worked

@@ -24,7 +24,7 @@ use Rattle.spread.specs.Spread.{zeroOf, spreadOf}
 use Rattle.spread.specs.Cut.{bestCut}
 use Rattle.spread.proofs.Finite.{spread-finite}
 use Rattle.heap.specs.Heap.{Item, Room, item, putIn, takeOut, InOrder, NoNaN}
-use Rattle.heap.proofs.Compare.{not-less-trans}
+use Rattle.floats.proofs.Compare.{not-less-trans, finite-number}
 use Rattle.heap.proofs.Order.{put-in-order, take-out-order, top-greatest}
 use Rattle.heap.proofs.Keeps.{put-in-long, take-out-long}
 use Rattle.rounds.specs.Loop.{Heap, noItem, itself, spent, startRoom, start, goesOn, roundRoom, roundUsed, round, rounds, heapOf}
@@ -36,9 +36,6 @@ use Rattle.rounds.proofs.Fuel.{need, need-none, need-less, rounds-full,
 pub record Sane (g : Grid) (v : View) (x : Item Bounds) : Type 0 where
   pub fit : Fit g v x
   pub number : x .spread ≢ nan
-
-finite-number : (x : Float) → T (finite x) → x ≢ nan
-finite-number x h e = subst (λ (y : Float). T (finite y)) e h
 
 module _ {g : Grid} {v : View} (s : Sound limit g v) where
   itself-number : {x : Bounds} → Within g x → (boxSum g v x 0 ≡ 0 → ⊥) → itself g v x .spread ≢ nan

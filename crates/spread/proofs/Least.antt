@@ -10,6 +10,7 @@ use native.Mathlib.Omega.{arith}
 use lib.Dec.{T}
 use lib.Ieee.{Float, lt}
 use lib.Ieee.Scale.{finite}
+use Rattle.floats.proofs.Compare.{less-asym, less-through, not-less-trans, not-less-itself, finite-number}
 use Rattle.grid.specs.declared.Grid.{Grid}
 use Rattle.table.specs.Cell.{View}
 use Rattle.table.specs.Sound.{limit}
@@ -21,7 +22,6 @@ use Rattle.spread.specs.declared.Position.the-variants.{At, Nowhere}
 use Rattle.spread.specs.Cut.{Told, positionAnswer, positionAt, better, bestRun, bestIn, bestCut}
 use Rattle.spread.proofs.Best.{Good, never, position-good, good-position}
 use Rattle.spread.proofs.Finite.{position-finite}
-use Rattle.spread.proofs.Ordering.{lt-asym, lt-through, not-lt-trans, lt-irrefl}
 
 -- "the lowest dimension, in it the lowest bin": bin j of dimension e comes before bin i of dimension d
 abbrev pub Earlier : ℕ → ℕ → ℕ → ℕ → Type 0
@@ -68,7 +68,7 @@ wins-alone : (p : Position) → AllFinite (λ e j t. p ≡ At e j t) → Wins (�
 wins-alone (At d i s) fine =
     record {
       one = refl;
-      smallest = λ {e} {j} {t} q. let same : t ≡ s = cc in rw same (lt-irrefl s (fine d i s refl));
+      smallest = λ {e} {j} {t} q. let same : t ≡ s = cc in rw same (not-less-itself s);
       first = λ {e} {j} {t} q k.
           let dimension : e ≡ d = cc in
           let bin : j ≡ i = cc in
@@ -96,18 +96,12 @@ module _ {A B : ℕ → ℕ → Float → Type 0} (after : (e j d i : ℕ) (t s 
       back e j t (inr z) = absurd (none e j t z)
   wins-better (At d i s) (At e k t) w u = go (lt t s) refl
     where
-      S : T (finite s)
-      S = fineA d i s (w .one)
-
-      R : T (finite t)
-      R = fineB e k t (u .one)
-
       -- the later has a smaller score than all of the first's
       under : lt t s ≡ true → {f j : ℕ} {y : Float} → A f j y → lt t y ≡ true
-      under l {f} {j} {y} z = lt-through t s y R S (fineA f j y z) l (w .smallest z)
+      under l {f} {j} {y} z = less-through t s y (finite-number y (fineA f j y z)) l (w .smallest z)
 
       later-smallest : lt t s ≡ true → {f j : ℕ} {y : Float} → Both f j y → lt y t ≡ false
-      later-smallest l {f} {j} {y} (inl z) = lt-asym t y R (fineA f j y z) (under l z)
+      later-smallest l {f} {j} {y} (inl z) = less-asym t y (under l z)
       later-smallest l (inr z) = u .smallest z
 
       later-first : lt t s ≡ true → {f j : ℕ} {y : Float} → Both f j y → Earlier f j e k → lt t y ≡ true
@@ -116,7 +110,7 @@ module _ {A B : ℕ → ℕ → Float → Type 0} (after : (e j d i : ℕ) (t s 
 
       earlier-smallest : lt t s ≡ false → {f j : ℕ} {y : Float} → Both f j y → lt y s ≡ false
       earlier-smallest l (inl z) = w .smallest z
-      earlier-smallest l {f} {j} {y} (inr z) = not-lt-trans s t y S R (fineB f j y z) l (u .smallest z)
+      earlier-smallest l {f} {j} {y} (inr z) = not-less-trans y t s (finite-number t (fineB e k t (u .one))) (u .smallest z) l
 
       earlier-first : {f j : ℕ} {y : Float} → Both f j y → Earlier f j d i → lt s y ≡ true
       earlier-first (inl z) h = w .first z h

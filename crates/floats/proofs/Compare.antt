@@ -1,16 +1,27 @@
 -- `<` of floats where no NaN stands between: not less is transitive, less is asymmetric.
 -- Assumes nothing.
-use mathlib.Core.Path.{_≡_, refl, sym}
-use mathlib.Core.Bool.{Bool, true, false, _||_}
+use mathlib.Core.Path.{_≡_, refl, sym, subst, _∙_}
+use mathlib.Core.Bool.{Bool, true, false, _&&_, _||_, true≢false}
 use mathlib.Core.Logic.{_≢_}
 use Prim.Native.Nat.{ℕ, zero, suc, _+_, _*_, _≤_, _<_}
 use native.Mathlib.Nat.{suc-mul, zero-mul}
 use native.Mathlib.Omega.{arith}
 use borrow.Author.Tests.{ltb-true, ltb-false, eqb-true, le-ltb}
-use lib.Dec.{eqb}
+use lib.Dec.{T, eqb}
 use lib.Ieee.{Float, nan, inf, fin, up, down, below, level, lt, eq, le}
 use lib.Ieee.Positive.{den-pos, through}
-use Rattle.heap.proofs.Cases.{impossible, and-left, and-right}
+use lib.Ieee.Scale.{finite}
+
+impossible : {P : Type 0} → true ≡ false → P
+impossible e = absurd (true≢false e)
+
+and-left : (a b : Bool) → (a && b) ≡ true → a ≡ true
+and-left true b e = refl
+and-left false b e = e
+
+and-right : (a b : Bool) → (a && b) ≡ true → b ≡ true
+and-right true b e = e
+and-right false b e = impossible (sym e)
 
 -- c·d is 0, and so is c·e
 none-left : (c d e : ℕ) → 0 < d → c * d ≤ 0 → c * e ≤ 0
@@ -138,3 +149,15 @@ not-at-most x y p = go (lt x y) refl p
     go : (b : Bool) → lt x y ≡ b → (b || eq x y) ≡ false → lt x y ≡ false
     go true e q = impossible q
     go false e q = e
+
+-- less than one that a third is not less than
+pub less-through : (x y z : Float) → z ≢ nan → lt x y ≡ true → lt z y ≡ false → lt x z ≡ true
+less-through x y z n p q = go (lt x z) refl
+  where
+    go : (b : Bool) → lt x z ≡ b → lt x z ≡ true
+    go true e = e
+    go false e = impossible (sym p ∙ not-less-trans x z y n e q)
+
+-- a finite float is a number
+pub finite-number : (x : Float) → T (finite x) → x ≢ nan
+finite-number x h e = subst (λ (y : Float). T (finite y)) e h
