@@ -64,8 +64,8 @@ module _ {A B : ℕ → ℕ → Float → Type 0} where
   wins-same to back Nowhere w = λ d i s y. w d i s (back d i s y)
 
 -- one position
-wins-alone : (p : Position) → AllFinite (λ e j t. p ≡ At e j t) → Wins (λ e j t. p ≡ At e j t) p
-wins-alone (At d i s) fine =
+wins-alone : (p : Position) → Wins (λ e j t. p ≡ At e j t) p
+wins-alone (At d i s) =
     record {
       one = refl;
       smallest = λ {e} {j} {t} q. let same : t ≡ s = cc in rw same (not-less-itself s);
@@ -75,7 +75,7 @@ wins-alone (At d i s) fine =
           let itself : Earlier d i d i = rw (dimension, bin) at k in
           absurd (not-both itself itself);
     }
-wins-alone Nowhere fine = λ d i s q. never q
+wins-alone Nowhere = λ d i s q. never q
 
 -- the better of two wins over the positions of both, where the second's come after the first's
 module _ {A B : ℕ → ℕ → Float → Type 0} (after : (e j d i : ℕ) (t s : Float) → A e j t → B d i s → Earlier e j d i) (fineA : AllFinite A) (fineB : AllFinite B) where
@@ -156,7 +156,7 @@ module _ {g : Grid} {v : View} (sound : Sound limit g v) {x : Bounds} (w : Withi
     run-wins (suc n) h =
         wins-same to back (better (bestRun g v x d from n) (positionAt g v x d (from + n)))
         (wins-better after (run-finite d from (from + n)) fine (bestRun g v x d from n) (positionAt g v x d (from + n))
-        (run-wins n (omega arith)) (wins-alone (positionAt g v x d (from + n)) fine))
+        (run-wins n (omega arith)) (wins-alone (positionAt g v x d (from + n))))
       where
         fine : AllFinite (λ e j t. positionAt g v x d (from + n) ≡ At e j t)
         fine e j t q = position-finite sound w (here n e j t (omega arith) q .good)
