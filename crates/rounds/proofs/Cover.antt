@@ -17,10 +17,10 @@ use Rattle.spread.specs.declared.Position.the-variants.{At}
 use Rattle.spread.specs.Cut.{bestCut}
 use Rattle.spread.proofs.Best.{answered}
 use Rattle.heap.specs.Heap.{Item, Room, item, putIn, takeOut, sumItems}
-use Rattle.heap.proofs.Keeps.{put-in-long, put-in-sum, take-out-long, take-out-sum}
+use Rattle.heap.proofs.Keeps.{put-in-long, put-in-sum, take-out-sum}
 use Rattle.rounds.specs.Loop.{Heap, noItem, itself, spent, wholeOf, startRoom, start, goesOn, roundRoom, roundUsed, round, rounds, heapOf}
 use Rattle.rounds.proofs.Turning.{round-cases}
-use Rattle.rounds.proofs.Filled.{InUse, in-use-round, start-in-use}
+use Rattle.rounds.proofs.Filled.{InUse, left-long, put-back, two-more, in-use-round, start-in-use}
 
 -- a number of a box that adds up over the two sides of every cut
 pub record Additive (f : Bounds → ℕ) : Type 0 where
@@ -48,32 +48,23 @@ module _ {f : Bounds → ℕ} (a : Additive f) (g : Grid) (v : View) where
   unfolding itself
   over-round {h} {n} u l =
       round-cases g v h n (λ r m. over f r m ≡ over f h n)
-      (λ off. subst (λ (m : ℕ). over f (putIn noItem rest (n - 1) top) m ≡ over f h n) same (put-over f rest (n - 1) top rest-long (omega arith) ∙ before))
-      (λ on none. put-over f rest (n - 1) (spent (top .box)) rest-long (omega arith) ∙ before)
+      (λ off. subst (λ (m : ℕ). over f (putIn noItem rest (n - 1) top) m ≡ over f h n) (put-back u) (put-over f rest (n - 1) top (left-long u) (omega arith) ∙ before))
+      (λ on none. put-over f rest (n - 1) (spent (top .box)) (left-long u) (omega arith) ∙ before)
       (λ d i s on q.
       let low = itself g v (lowSide (top .box) d i) in
       let high = itself g v (highSide (top .box) d i) in
       let put = putIn noItem rest (n - 1) low in
-      let put-long : length put ≡ 256 = put-in-long noItem rest (n - 1) low (omega (arith, rest-long)) ∙ rest-long in
+      let put-long : length put ≡ 256 = put-in-long noItem rest (n - 1) low (omega (arith, left-long u)) ∙ left-long u in
       let in-box = answered g v (top .box) q .1 .inside in
       let both = a .adds (top .box) d i (le-of-lt (in-box .0)) (le-of-lt (in-box .1)) in
-      subst (λ (m : ℕ). over f (putIn noItem put (n - 1 + 1) high) m ≡ over f h n) (two (n - 1))
-      (put-over f put (n - 1 + 1) high put-long (omega arith) ∙ cut (f (lowSide (top .box) d i)) (f (highSide (top .box) d i)) (put-over f rest (n - 1) low rest-long (omega arith)) both))
+      subst (λ (m : ℕ). over f (putIn noItem put (n - 1 + 1) high) m ≡ over f h n) (two-more (n - 1))
+      (put-over f put (n - 1 + 1) high put-long (omega arith) ∙ cut (f (lowSide (top .box) d i)) (f (highSide (top .box) d i)) (put-over f rest (n - 1) low (left-long u) (omega arith)) both))
     where
       top : Item Bounds
       top = item noItem h 0
 
       rest : Room Bounds
       rest = takeOut noItem h n
-
-      same : n - 1 + 1 ≡ n
-      same = omega (arith, u .some)
-
-      two : (m : ℕ) → m + 1 + 1 ≡ m + 2
-      two m = omega arith
-
-      rest-long : length rest ≡ 256
-      rest-long = take-out-long noItem h n (u .some) (omega (arith, u .long, u .most)) ∙ u .long
 
       before : f (top .box) + over f rest (n - 1) ≡ over f h n
       before = take-over f u

@@ -29,7 +29,7 @@ use Rattle.heap.proofs.Order.{put-in-order, take-out-order, top-greatest}
 use Rattle.heap.proofs.Keeps.{put-in-long, take-out-long}
 use Rattle.rounds.specs.Loop.{Heap, noItem, itself, spent, startRoom, start, goesOn, roundRoom, roundUsed, round, rounds, heapOf}
 use Rattle.rounds.proofs.Turning.{room-stops, used-stops, round-cases}
-use Rattle.rounds.proofs.Filled.{InUse, Each, Kept, Fit, fit-kept, each-put, others, others-long, each-round, in-use-round, start-in-use, start-item, start-fit}
+use Rattle.rounds.proofs.Filled.{InUse, Each, Kept, Fit, fit-kept, left-long, put-back, two-more, each-put, others, each-round, in-use-round, start-in-use, start-item, start-fit}
 use Rattle.rounds.proofs.Fuel.{need, need-none, need-less, rounds-full, rounds-on, rounds-stop, start-need}
 
 -- ---- no spread is a NaN
@@ -99,12 +99,12 @@ module _ {g : Grid} {v : View} (s : Sound limit g v) where
   pub ordered-round : {h : Room Bounds} {n : ℕ} → Ordered g v h n → n < 256 → Ordered g v (roundRoom g v h n) (roundUsed g v h n)
   ordered-round {h} {n} o l =
       round-cases g v h n (Ordered g v)
-      (λ off. subst (Ordered g v (putIn noItem rest (n - 1) top)) same (put-ordered rest rest-long (omega arith) rest-sane rest-order top (o .sane .each 0 (u .some))))
-      (λ on none. put-ordered rest rest-long (omega arith) rest-sane rest-order (spent (top .box)) (sane-kept s .spent-too top (o .sane .each 0 (u .some)) none))
+      (λ off. subst (Ordered g v (putIn noItem rest (n - 1) top)) (put-back u) (put-ordered rest (left-long u) (omega arith) rest-sane rest-order top (o .sane .each 0 (u .some))))
+      (λ on none. put-ordered rest (left-long u) (omega arith) rest-sane rest-order (spent (top .box)) (sane-kept s .spent-too top (o .sane .each 0 (u .some)) none))
       (λ d i sc on q.
       let both = sane-kept s .sides-too top (o .sane .each 0 (u .some)) q in
-      let low = put-ordered rest rest-long (omega arith) rest-sane rest-order (itself g v (lowSide (top .box) d i)) (both .0) in
-      subst (Ordered g v (putIn noItem (putIn noItem rest (n - 1) (itself g v (lowSide (top .box) d i))) (n - 1 + 1) (itself g v (highSide (top .box) d i)))) (two (n - 1))
+      let low = put-ordered rest (left-long u) (omega arith) rest-sane rest-order (itself g v (lowSide (top .box) d i)) (both .0) in
+      subst (Ordered g v (putIn noItem (putIn noItem rest (n - 1) (itself g v (lowSide (top .box) d i))) (n - 1 + 1) (itself g v (highSide (top .box) d i)))) (two-more (n - 1))
       (put-ordered (putIn noItem rest (n - 1) (itself g v (lowSide (top .box) d i))) (low .sane .in-use .long) (omega arith) (low .sane .each) (low .order) (itself g v (highSide (top .box) d i)) (both .1)))
     where
       u : InUse h n
@@ -115,15 +115,6 @@ module _ {g : Grid} {v : View} (s : Sound limit g v) where
 
       rest : Room Bounds
       rest = takeOut noItem h n
-
-      same : n - 1 + 1 ≡ n
-      same = omega (arith, u .some)
-
-      two : (m : ℕ) → m + 1 + 1 ≡ m + 2
-      two m = omega arith
-
-      rest-long : length rest ≡ 256
-      rest-long = others-long (Sane g v) h (o .sane)
 
       rest-sane : (p : ℕ) → p < n - 1 → Sane g v (item noItem rest p)
       rest-sane = others (Sane g v) h (o .sane)
@@ -154,10 +145,9 @@ stop-cold : (g : Grid) (v : View) {h : Room Bounds} {n : ℕ} → Ordered g v h 
 stop-cold g v {h} {n} o c =
     let u = o .sane .in-use in
     let all : Each Cold h n = record { in-use = u; each = all-cold o c } in
-    let same : n - 1 + 1 ≡ n = omega (arith, u .some) in
     rw (room-stops g v h n c, used-stops g v h n c)
-    (subst (Each Cold (putIn noItem (takeOut noItem h n) (n - 1) (item noItem h 0))) same
-    (each-put Cold (takeOut noItem h n) (others-long Cold h all) (omega (arith, u .some, u .most)) (others Cold h all) c))
+    (subst (Each Cold (putIn noItem (takeOut noItem h n) (n - 1) (item noItem h 0))) (put-back u)
+    (each-put Cold (takeOut noItem h n) (left-long u) (omega (arith, u .some, u .most)) (others Cold h all) c))
 
 module _ {g : Grid} {v : View} (s : Sound limit g v) (k : ℕ) (most : k ≤ 256) where
   -- after as many rounds as are needed

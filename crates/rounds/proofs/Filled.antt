@@ -30,6 +30,17 @@ pub record InUse (h : Room Bounds) (n : ℕ) : Type 0 where
   pub some : 0 < n
   pub most : n ≤ 256
 
+-- once its top has left, and a box was put back, or two put in
+module _ {h : Room Bounds} {n : ℕ} (u : InUse h n) where
+  pub left-long : length (takeOut noItem h n) ≡ 256
+  left-long = take-out-long noItem h n (u .some) (omega (arith, u .long, u .most)) ∙ u .long
+
+  pub put-back : n - 1 + 1 ≡ n
+  put-back = omega (arith, u .some)
+
+pub two-more : (m : ℕ) → m + 1 + 1 ≡ m + 2
+two-more m = omega arith
+
 -- that, where each box in use has a property
 pub record Each (P : Item Bounds → Type 0) (h : Room Bounds) (n : ℕ) : Type 0 where
   pub in-use : InUse h n
@@ -54,24 +65,17 @@ module _ (P : Item Bounds → Type 0) (h : Room Bounds) where
   pub others : {n : ℕ} → Each P h n → (p : ℕ) → p < n - 1 → P (item noItem (takeOut noItem h n) p)
   others {n} e = take-out-all noItem h n (e .in-use .some) (omega (arith, e .in-use .long, e .in-use .most)) P (e .each)
 
-  pub others-long : {n : ℕ} → Each P h n → length (takeOut noItem h n) ≡ 256
-  others-long {n} e = take-out-long noItem h n (e .in-use .some) (omega (arith, e .in-use .long, e .in-use .most)) ∙ e .in-use .long
-
 -- one round
 pub each-round : {g : Grid} {v : View} {P : Item Bounds → Type 0} → Kept g v P → {h : Room Bounds} {n : ℕ} → Each P h n → n < 256 → Each P (roundRoom g v h n) (roundUsed g v h n)
 each-round {g} {v} {P} k {h} {n} e l =
     let top : P (item noItem h 0) = e .each 0 (e .in-use .some) in
-    let same : n - 1 + 1 ≡ n = omega (arith, e .in-use .some) in
     round-cases g v h n (Each P)
-    (λ off. subst (Each P _) same (each-put P _ (others-long P h e) (omega arith) (others P h e) top))
-    (λ on none. each-put P _ (others-long P h e) (omega arith) (others P h e) (k .spent-too (item noItem h 0) top none))
+    (λ off. subst (Each P _) (put-back (e .in-use)) (each-put P _ (left-long (e .in-use)) (omega arith) (others P h e) top))
+    (λ on none. each-put P _ (left-long (e .in-use)) (omega arith) (others P h e) (k .spent-too (item noItem h 0) top none))
     (λ d i s on q.
     let both = k .sides-too (item noItem h 0) top q in
-    let low = each-put P _ (others-long P h e) (omega arith) (others P h e) (both .0) in
-    subst (Each P _) (two (n - 1)) (each-put P _ (low .in-use .long) (omega arith) (low .each) (both .1)))
-  where
-    two : (m : ℕ) → m + 1 + 1 ≡ m + 2
-    two m = omega arith
+    let low = each-put P _ (left-long (e .in-use)) (omega arith) (others P h e) (both .0) in
+    subst (Each P _) (two-more (n - 1)) (each-put P _ (low .in-use .long) (omega arith) (low .each) (both .1)))
 
 -- the places in use alone
 any-kept : (g : Grid) (v : View) → Kept g v (λ x. Unit {0})

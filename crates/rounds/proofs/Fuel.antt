@@ -15,10 +15,10 @@ use Rattle.table.specs.Cell.{View}
 use Rattle.sums.specs.declared.Bounds.{Bounds}
 use Rattle.sums.specs.Box.{lowSide, highSide}
 use Rattle.heap.specs.Heap.{Item, Room, item, putIn, takeOut, sumItems}
-use Rattle.heap.proofs.Keeps.{put-in-long, put-in-sum, take-out-long, take-out-sum}
+use Rattle.heap.proofs.Keeps.{put-in-long, put-in-sum, take-out-sum}
 use Rattle.rounds.specs.Loop.{Heap, noBox, noItem, itself, spent, wholeOf, startRoom, start, goesOn, roundRoom, roundUsed, round, rounds, heapOf}
 use Rattle.rounds.proofs.Turning.{round-cases}
-use Rattle.rounds.proofs.Filled.{InUse, start-in-use, in-use-round}
+use Rattle.rounds.proofs.Filled.{InUse, left-long, two-more, start-in-use, in-use-round}
 
 -- ---- one step of the loop
 module _ (g : Grid) (v : View) (k : ℕ) (h : Heap) where
@@ -88,15 +88,15 @@ unfolding hot
 need-less g v k most h n u l on =
     round-cases g v h n (λ r m. suc (need k r m) ≤ need k h n)
     (λ off. absurd (clash on off))
-    (λ yes none. above (need-high k (putIn noItem rest (n - 1) (spent (top .box))) (n - 1 + 1) _ (λ m. omega (arith, before, hot-put rest (n - 1) (spent (top .box)) rest-long (omega arith), hot-spent (top .box)))))
+    (λ yes none. above (need-high k (putIn noItem rest (n - 1) (spent (top .box))) (n - 1 + 1) _ (λ m. omega (arith, before, hot-put rest (n - 1) (spent (top .box)) (left-long u) (omega arith), hot-spent (top .box)))))
     (λ d i s yes q.
     let low = itself g v (lowSide (top .box) d i) in
     let high = itself g v (highSide (top .box) d i) in
     let put = putIn noItem rest (n - 1) low in
-    let put-long : length put ≡ 256 = put-in-long noItem rest (n - 1) low (omega (arith, rest-long)) ∙ rest-long in
+    let put-long : length put ≡ 256 = put-in-long noItem rest (n - 1) low (omega (arith, left-long u)) ∙ left-long u in
     let last : sumItems hot (take (n - 1 + 2) (putIn noItem put (n - 1 + 1) high)) ≡ hot high + sumItems hot (take (n - 1 + 1) put) =
-    ap (λ (m : ℕ). sumItems hot (take m (putIn noItem put (n - 1 + 1) high))) (two (n - 1)) ∙ hot-put put (n - 1 + 1) high put-long (omega arith) in
-    above (need-high k (putIn noItem put (n - 1 + 1) high) (n - 1 + 2) _ (λ m. omega (arith, before, last, hot-put rest (n - 1) low rest-long (omega arith), hot-high low, hot-high high))))
+    ap (λ (m : ℕ). sumItems hot (take m (putIn noItem put (n - 1 + 1) high))) (sym (two-more (n - 1))) ∙ hot-put put (n - 1 + 1) high put-long (omega arith) in
+    above (need-high k (putIn noItem put (n - 1 + 1) high) (n - 1 + 2) _ (λ m. omega (arith, before, last, hot-put rest (n - 1) low (left-long u) (omega arith), hot-high low, hot-high high))))
   where
     top : Item Bounds
     top = item noItem h 0
@@ -106,12 +106,6 @@ need-less g v k most h n u l on =
 
     clash : {b : Bool} → b ≡ true → b ≡ false → ⊥
     clash p q = true≢false (sym p ∙ q)
-
-    two : (m : ℕ) → m + 2 ≡ m + 1 + 1
-    two m = omega arith
-
-    rest-long : length rest ≡ 256
-    rest-long = take-out-long noItem h n (u .some) (omega (arith, u .long, u .most)) ∙ u .long
 
     top-hot : hot top ≡ 1
     top-hot = ap (λ (b : Bool). cond b 1 0) on
