@@ -1,1 +1,4 @@
 pub mod Worked
+pub mod Tiling
+pub mod Full
+pub mod Order

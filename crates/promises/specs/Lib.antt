@@ -1,1 +1,4 @@
 pub mod Cases
+pub mod Tiling
+pub mod Full
+pub mod Order
