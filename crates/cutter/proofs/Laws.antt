@@ -3,9 +3,9 @@
 -- Assumes nothing.
 use mathlib.Core.Path.{_≡_, refl, sym, ap, _∙_}
 use mathlib.Core.List.{List}
-use Prim.Native.Nat.{ℕ, zero, suc, _*_, _≤_, _<_}
+use Prim.Native.Nat.{ℕ, zero, suc}
 use native.Mathlib.Omega.{arith}
-use borrow.Author.Tests.{eq-eqb, le-leb, ne-eqb}
+use borrow.Author.Tests.{eq-eqb}
 use lib.ListN.{length}
 use Rattle.grid.specs.declared.Grid.{Grid}
 use Rattle.grid.specs.declared.Chosen.{Chosen}
@@ -17,7 +17,7 @@ use Rattle.table.specs.Cell.{wide}
 use Rattle.table.specs.Sound.{limit}
 use Rattle.rounds.specs.Loop.{boxesOf}
 use Rattle.cutter.specs.declared.CutRecord.{CutRecord}
-use Rattle.cutter.specs.Cut.{Buffers, Lengths, lengthsOf, longEnough, cutNumberOn, cutNumber, refusedRecord, doneRecord, recordOn, cutRecord, laterOn, cutLater, CanCut}
+use Rattle.cutter.specs.Cut.{Buffers, Lengths, lengthsOf, cutNumberOn, cutNumber, refusedRecord, doneRecord, recordOn, cutRecord, laterOn, cutLater, CanCut}
 use Rattle.cutter.proofs.Refusals.{only-map, accepts, can-cut}
 
 -- nothing refuses a cut of a sound table with a total above 0, k in 1..256, where the lengths are right

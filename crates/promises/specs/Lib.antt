@@ -2,3 +2,4 @@ pub mod Cases
 pub mod Tiling
 pub mod Full
 pub mod Order
+pub mod Determined
