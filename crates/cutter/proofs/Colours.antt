@@ -213,6 +213,16 @@ module _ (g : Grid) (v : View) where
   unfolding countsLater
   counts-at xs old i none h = count-in xs (drop (length xs) old) i none h
 
+  front-in : (xs : List Bounds) (rest : List ℕ) (i : ℕ) → i < length xs → getD (countsOf g v xs ++ rest) i 0 ≡ getD (countsOf g v xs) i 0
+  unfolding countsOf
+  front-in [] rest i h = absurd (omega arith)
+  front-in (x ∷ xs) rest zero h = refl
+  front-in (x ∷ xs) rest (suc i) h = front-in xs rest i (omega arith)
+
+  pub counts-front : (xs : List Bounds) (old : List ℕ) (i : ℕ) → i < length xs → getD (countsLater g v xs old) i 0 ≡ getD (countsOf g v xs) i 0
+  unfolding countsLater
+  counts-front xs old i h = front-in xs (drop (length xs) old) i h
+
   pub counts-past : (xs : List Bounds) (old : List ℕ) (k : ℕ) → getD (countsLater g v xs old) (length xs + k) 0 ≡ getD old (length xs + k) 0
   unfolding countsLater
   counts-past xs old k =

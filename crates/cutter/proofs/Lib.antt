@@ -8,3 +8,4 @@ pub mod Listed
 pub mod Refusals
 pub mod Tiling
 pub mod Finding
+pub mod Laws

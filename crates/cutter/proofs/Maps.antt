@@ -6,12 +6,15 @@ use mathlib.Core.List.{List, [], _∷_, _++_}
 use Prim.Native.Nat.{ℕ, zero, suc, _+_, _≤_, _<_}
 use native.Mathlib.Nat.{zero-add, add-zero, add-suc, suc-add}
 use native.Mathlib.Omega.{arith}
+use borrow.Author.Tests.{eq-eqb, eqb-true}
+use lib.Dec.{eqb}
 use lib.ListN.{length, getD}
 use Rattle.grid.specs.declared.Grid.{Grid}
 use Rattle.grid.specs.Grid.{binsOf}
 use Rattle.grid.proofs.Range.{length-list, list-at, list-is}
 use Rattle.sums.specs.declared.Bounds.{Bounds}
 use Rattle.cutter.specs.Map.{holds, indexFrom, mapOf, holding, Tiles, fillWhere, fillOf, fillFrom}
+use Rattle.cutter.proofs.Held.{same-test}
 use Rattle.cutter.proofs.Filled.{length-fill, fill-at}
 
 module _ (g : Grid) where
@@ -113,3 +116,31 @@ module _ (g : Grid) where
 
   pub map-below : (xs : List Bounds) → Tiles g xs → (p : ℕ) → p < binsOf g → getD (mapOf g xs) p 0 < length xs
   map-below xs t p h = omega (arith, map-at xs p h, index-below 0 xs p (t .once p h))
+
+  -- the bins with index i are those of box i
+  index-from : (k : ℕ) (xs : List Bounds) (p : ℕ) → holding g xs p ≡ 1 → k ≤ indexFrom g k xs p
+  unfolding holding indexFrom
+  index-from k [] p o = absurd (omega arith)
+  index-from k (x ∷ xs) p o = go (holds g x p) o (index-from (suc k) xs p)
+    where
+      go : (b : Bool) → cond b 1 0 + holding g xs p ≡ 1 → (holding g xs p ≡ 1 → suc k ≤ indexFrom g (suc k) xs p) → k ≤ cond b k (indexFrom g (suc k) xs p)
+      go true o later = omega arith
+      go false o later = omega (arith, later (omega arith))
+
+  index-holds : (k : ℕ) (xs : List Bounds) (i : ℕ) (none : Bounds) (p : ℕ) → holding g xs p ≡ 1 → indexFrom g k xs p ≡ k + i → holds g (getD xs i none) p ≡ true
+  unfolding holding indexFrom
+  index-holds k [] i none p o e = absurd (omega arith)
+  index-holds k (x ∷ xs) i none p o e = go (holds g x p) refl i o e (λ n m q. index-holds (suc k) xs m none p n q)
+    where
+      go : (b : Bool) → holds g x p ≡ b → (i : ℕ) → cond b 1 0 + holding g xs p ≡ 1 → cond b k (indexFrom g (suc k) xs p) ≡ k + i
+          → (holding g xs p ≡ 1 → (m : ℕ) → indexFrom g (suc k) xs p ≡ suc k + m → holds g (getD xs m none) p ≡ true) → holds g (getD (x ∷ xs) i none) p ≡ true
+      go true h zero o e later = h
+      go true h (suc i) o e later = absurd (omega arith)
+      go false h zero o e later = absurd (omega (arith, index-from (suc k) xs p (omega arith)))
+      go false h (suc i) o e later = later (omega arith) i (e ∙ add-suc k i ∙ sym (suc-add k i))
+
+  pub box-of-index : (xs : List Bounds) → Tiles g xs → (i : ℕ) (none : Bounds) (p : ℕ) → i < length xs → p < binsOf g → holds g (getD xs i none) p ≡ eqb (getD (mapOf g xs) p 0) i
+  box-of-index xs t i none p h l =
+      same-test _ _
+      (λ e. eq-eqb _ _ (index-of-box xs t i none p h l e))
+      (λ e. index-holds 0 xs i none p (t .once p l) (sym (map-at xs p l) ∙ eqb-true _ _ e ∙ sym (zero-add i)))

@@ -31,7 +31,7 @@ bytes-append : (cs ds : List Weighted) → AllBytes cs → AllBytes ds → AllBy
 bytes-append [] ds b c = c
 bytes-append (x ∷ cs) ds b c = (b .0, bytes-append cs ds (b .1) c)
 
-weight-append : (cs ds : List Weighted) → weightOf (cs ++ ds) ≡ weightOf cs + weightOf ds
+pub weight-append : (cs ds : List Weighted) → weightOf (cs ++ ds) ≡ weightOf cs + weightOf ds
 unfolding weightOf
 weight-append cs ds = over-append cs ds (λ c. c .weight)
 
@@ -81,7 +81,7 @@ module _ (g : Grid) where
         sound-same g (wide (tableOf g cs)) (loaded g cs zeros) (table-holds cs .at) limit
         ∙ load-sound a cs b (zeros-sound limit g) (omega (arith, zeros-total g)) .holds
 
-leaves-bytes : (p : Plan) → BytesIn p → AllBytes (leaves p)
+pub leaves-bytes : (p : Plan) → BytesIn p → AllBytes (leaves p)
 unfolding leaves
 leaves-bytes empty y = tt
 leaves-bytes (load p b) y = bytes-append (leaves p) _ (leaves-bytes p (y .0)) (all-bytes-of (b .colours) (b .given) (b .weights) (y .1))

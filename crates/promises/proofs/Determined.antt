@@ -1,0 +1,160 @@
+-- For every public function of every crate: any two results, and any two later contents of what it was lent, that its contract allows
+-- are equal. `Learnt` is what a contract tells its caller of the arguments a, the result r and the parameters at exit e.
+-- Assumes nothing.
+use mathlib.Core.Path.{_≡_}
+use mathlib.Core.List.{List}
+use Prim.Native.Nat.{ℕ}
+use lib.Ieee.{Float}
+use denote.Ref.{now}
+use Rattle.grid.proofs.Determined.{determined}
+use Rattle.cutter.specs.declared.CutRecord.{CutRecord}
+use Rattle.cutter.specs.Cut.{Buffers, buffers}
+use Rattle.grid.proofs.shift_of as shift-of
+use Rattle.grid.proofs.grid_of as grid-of
+use Rattle.grid.proofs.bin_of as bin-of
+use Rattle.grid.proofs.span_of as span-of
+use Rattle.grid.proofs.bins as bins
+use Rattle.grid.proofs.place as place
+use Rattle.grid.proofs.colour as colour
+use Rattle.grid.proofs.steps as steps
+use Rattle.grid.proofs.place_by_steps as place-by-steps
+use Rattle.table.proofs.cell_at as cell-at
+use Rattle.table.proofs.put_at as put-at
+use Rattle.table.proofs.plus as plus
+use Rattle.table.proofs.minus as minus
+use Rattle.table.proofs.weigh as weigh
+use Rattle.loader.proofs.load as load
+use Rattle.loader.proofs.merge as merge
+use Rattle.sums.proofs.moments as moments
+use Rattle.sums.proofs.box_cell as box-cell
+use Rattle.sums.proofs.stats_of as stats-of
+use Rattle.sums.proofs.box_sum as box-sum
+use Rattle.spread.proofs.spread as spread
+use Rattle.spread.proofs.score as score
+use Rattle.spread.proofs.position_between as position-between
+use Rattle.spread.proofs.better as better
+use Rattle.spread.proofs.low_side as low-side
+use Rattle.spread.proofs.high_side as high-side
+use Rattle.spread.proofs.best_cut as best-cut
+use Rattle.heap.proofs.put_in as put-in
+use Rattle.heap.proofs.take_out as take-out
+use Rattle.rounds.proofs.cut_boxes as cut-boxes
+use Rattle.cutter.proofs.front as front
+use Rattle.mapper.proofs.map as map
+use Rattle.mapper.proofs.paint as paint
+use Rattle.cutter.proofs.cut as cut
+use Rattle.promises.specs.Determined.{Determines}
+
+both : {A B : Type 0} {a c : A} {b d : B} → a ≡ c → b ≡ d → _≡_ {A = A × B} (a, b) (c, d)
+both p q = λ i. (p i, q i)
+
+-- ---- grid
+pub shift-of-determined : Determines 0 shift-of.Kinds.ps shift-of.Kinds.r shift-of.Reads.Learnt (λ κs r e. r)
+shift-of-determined κs a r s x y p q = determined p q
+
+pub grid-of-determined : Determines 0 grid-of.Kinds.ps grid-of.Kinds.r grid-of.Reads.Learnt (λ κs r e. r)
+grid-of-determined κs a r s x y p q = determined p q
+
+pub bin-of-determined : Determines 0 bin-of.Kinds.ps bin-of.Kinds.r bin-of.Reads.Learnt (λ κs r e. r)
+bin-of-determined κs a r s x y p q = determined p q
+
+pub span-of-determined : Determines 0 span-of.Kinds.ps span-of.Kinds.r span-of.Reads.Learnt (λ κs r e. r)
+span-of-determined κs a r s x y p q = determined p q
+
+pub bins-determined : Determines 0 bins.Kinds.ps bins.Kinds.r bins.Reads.Learnt (λ κs r e. r)
+bins-determined κs a r s x y p q = determined p q
+
+pub place-determined : Determines 0 place.Kinds.ps place.Kinds.r place.Reads.Learnt (λ κs r e. r)
+place-determined κs a r s x y p q = determined p q
+
+pub colour-determined : Determines 1 colour.Kinds.ps colour.Kinds.r colour.Reads.Learnt (λ κs r e. r)
+colour-determined κs a r s x y p q = determined p q
+
+pub steps-determined : Determines 0 steps.Kinds.ps steps.Kinds.r steps.Reads.Learnt (λ κs r e. r)
+steps-determined κs a r s x y p q = determined p q
+
+pub place-by-steps-determined : Determines 3 place-by-steps.Kinds.ps place-by-steps.Kinds.r place-by-steps.Reads.Learnt (λ κs r e. r)
+place-by-steps-determined κs a r s x y p q = determined p q
+
+-- ---- table
+pub cell-at-determined : Determines 1 cell-at.Kinds.ps cell-at.Kinds.r cell-at.Reads.Learnt (λ κs r e. r)
+cell-at-determined κs a r s x y p q = determined p q
+
+pub put-at-determined : Determines 1 put-at.Kinds.ps put-at.Kinds.r put-at.Reads.Learnt (λ κs r e. now (e .0))
+put-at-determined κs a r s x y p q = determined p q
+
+pub plus-determined : Determines 0 plus.Kinds.ps plus.Kinds.r plus.Reads.Learnt (λ κs r e. r)
+plus-determined κs a r s x y p q = determined p q
+
+pub minus-determined : Determines 0 minus.Kinds.ps minus.Kinds.r minus.Reads.Learnt (λ κs r e. r)
+minus-determined κs a r s x y p q = determined p q
+
+pub weigh-determined : Determines 1 weigh.Kinds.ps weigh.Kinds.r weigh.Reads.Learnt (λ κs r e. r)
+weigh-determined κs a r s x y p q = determined p q
+
+-- ---- loader
+pub load-determined : Determines {A = ℕ × List ℕ} 3 load.Kinds.ps load.Kinds.r load.Reads.Learnt (λ κs r e. (r, now (e .1 .1 .1 .0)))
+load-determined κs a r s x y p q = both (determined (p .0) (q .0)) (determined (p .1) (q .1))
+
+pub merge-determined : Determines {A = ℕ × List ℕ} 2 merge.Kinds.ps merge.Kinds.r merge.Reads.Learnt (λ κs r e. (r, now (e .1 .1 .1 .0)))
+merge-determined κs a r s x y p q = both (determined (p .0) (q .0)) (determined (p .1) (q .1))
+
+-- ---- sums
+pub moments-determined : Determines 2 moments.Kinds.ps moments.Kinds.r moments.Reads.Learnt (λ κs r e. now (e .1 .1 .0))
+moments-determined κs a r s x y p q = determined p q
+
+pub box-cell-determined : Determines 2 box-cell.Kinds.ps box-cell.Kinds.r box-cell.Reads.Learnt (λ κs r e. r)
+box-cell-determined κs a r s x y p q = determined p q
+
+pub stats-of-determined : Determines 0 stats-of.Kinds.ps stats-of.Kinds.r stats-of.Reads.Learnt (λ κs r e. r)
+stats-of-determined κs a r s x y p q = determined p q
+
+pub box-sum-determined : Determines 2 box-sum.Kinds.ps box-sum.Kinds.r box-sum.Reads.Learnt (λ κs r e. r)
+box-sum-determined κs a r s x y p q = determined p q
+
+-- ---- spread
+pub spread-determined : Determines 0 spread.Kinds.ps spread.Kinds.r spread.Reads.Learnt (λ κs r e. r)
+spread-determined κs a r s x y p q = determined p q
+
+pub score-determined : Determines 0 score.Kinds.ps score.Kinds.r score.Reads.Learnt (λ κs r e. r)
+score-determined κs a r s x y p q = determined p q
+
+pub position-between-determined : Determines 0 position-between.Kinds.ps position-between.Kinds.r position-between.Reads.Learnt (λ κs r e. r)
+position-between-determined κs a r s x y p q = determined p q
+
+pub better-determined : Determines 0 better.Kinds.ps better.Kinds.r better.Reads.Learnt (λ κs r e. r)
+better-determined κs a r s x y p q = determined p q
+
+pub low-side-determined : Determines 0 low-side.Kinds.ps low-side.Kinds.r low-side.Reads.Learnt (λ κs r e. r)
+low-side-determined κs a r s x y p q = determined p q
+
+pub high-side-determined : Determines 0 high-side.Kinds.ps high-side.Kinds.r high-side.Reads.Learnt (λ κs r e. r)
+high-side-determined κs a r s x y p q = determined p q
+
+pub best-cut-determined : Determines 2 best-cut.Kinds.ps best-cut.Kinds.r best-cut.Reads.Learnt (λ κs r e. r)
+best-cut-determined κs a r s x y p q = determined p q
+
+-- ---- heap
+pub put-in-determined : Determines {A = List Float × List ℕ} 2 put-in.Kinds.ps put-in.Kinds.r put-in.Reads.Learnt (λ κs r e. (now (e .0), now (e .1 .0)))
+put-in-determined κs a r s x y p q = both (determined (p .0) (q .0)) (determined (p .1) (q .1))
+
+pub take-out-determined : Determines {A = List Float × List ℕ} 2 take-out.Kinds.ps take-out.Kinds.r take-out.Reads.Learnt (λ κs r e. (now (e .0), now (e .1 .0)))
+take-out-determined κs a r s x y p q = both (determined (p .0) (q .0)) (determined (p .1) (q .1))
+
+-- ---- rounds
+pub cut-boxes-determined : Determines 2 cut-boxes.Kinds.ps cut-boxes.Kinds.r cut-boxes.Reads.Learnt (λ κs r e. r)
+cut-boxes-determined κs a r s x y p q = determined p q
+
+-- ---- cutter
+pub front-determined : Determines 1 front.Kinds.ps front.Kinds.r front.Reads.Learnt (λ κs r e. now r)
+front-determined κs a r s x y p q = determined p q
+
+pub cut-determined : Determines {A = CutRecord × Buffers} 5 cut.Kinds.ps cut.Kinds.r cut.Reads.Learnt (λ κs r e. (r, buffers (now (e .1 .1 .1 .1 .1 .0)) (now (e .1 .1 .1 .1 .1 .1 .0)) (now (e .1 .1 .1 .1 .1 .1 .1 .0)) (now (e .1 .1 .1 .1 .1 .1 .1 .1 .0))))
+cut-determined κs a r s x y p q = both (determined (p .0) (q .0)) (determined (p .1) (q .1))
+
+-- ---- mapper
+pub map-determined : Determines {A = ℕ × List ℕ} 3 map.Kinds.ps map.Kinds.r map.Reads.Learnt (λ κs r e. (r, now (e .1 .1 .1 .1 .1 .1 .0)))
+map-determined κs a r s x y p q = both (determined (p .0) (q .0)) (determined (p .1) (q .1))
+
+pub paint-determined : Determines {A = ℕ × List ℕ} 3 paint.Kinds.ps paint.Kinds.r paint.Reads.Learnt (λ κs r e. (r, now (e .1 .1 .1 .1 .1 .0)))
+paint-determined κs a r s x y p q = both (determined (p .0) (q .0)) (determined (p .1) (q .1))

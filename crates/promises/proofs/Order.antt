@@ -1,0 +1,47 @@
+-- Demand 3, the order: the same weighted colours, in any order, in any batches, into one table or several merged in any order, give
+-- the same boxes, palette, counts and map, and every pixel the same index.
+-- Assumes nothing.
+use mathlib.Core.Path.{_≡_, sym, _∙_}
+use mathlib.Core.List.{List, Perm}
+use Prim.Native.Nat.{ℕ, _≤_}
+use lib.ListN.{getD}
+use Rattle.grid.specs.declared.Grid.{Grid}
+use Rattle.grid.specs.declared.Chosen.the-variants.{Of}
+use Rattle.grid.specs.Grid.{gridOf, colourPlace}
+use Rattle.table.specs.Sound.{limit}
+use Rattle.loader.specs.Load.{weightOf}
+use Rattle.loader.specs.Plan.{Plan, Table, run, leaves, firstMalformed, BytesIn}
+use Rattle.loader.proofs.Order.{tableOf, table-perm, any-order}
+use Rattle.loader.proofs.Ran.{ran-table}
+use Rattle.cutter.specs.Cut.{Buffers, cutRecord, cutLater}
+use Rattle.promises.specs.Order.{SameCut, CutAlike}
+
+-- a cut sees nothing of a table but its numbers
+same-cut : (g : Grid) (b1 b2 b3 k : ℕ) (b : Buffers) {t s : List ℕ} → t ≡ s → SameCut g b1 b2 b3 k b t s
+same-cut g b1 b2 b3 k b e =
+    record {
+      boxes = λ i. cutRecord b1 b2 b3 k (e i) b;
+      palette = λ i. cutLater b1 b2 b3 k (e i) b .palette;
+      counts = λ i. cutLater b1 b2 b3 k (e i) b .counts;
+      map = λ i. cutLater b1 b2 b3 k (e i) b .map;
+      work = λ i. cutLater b1 b2 b3 k (e i) b .work;
+      pixel = λ c i. getD (cutLater b1 b2 b3 k (e i) b .map) (colourPlace g c) 0;
+    }
+
+module _ (b1 b2 b3 : ℕ) {g : Grid} (e : gridOf b1 b2 b3 ≡ Of g) (p q : Plan) (y : BytesIn p) (z : BytesIn q) (π : Perm (leaves p) (leaves q)) where
+  -- plans that ran to tables
+  pub ran-alike : {t s : List ℕ} → run b1 b2 b3 p ≡ Table t → run b1 b2 b3 q ≡ Table s → (k : ℕ) (b : Buffers) → SameCut g b1 b2 b3 k b t s
+  ran-alike r u k b =
+      same-cut g b1 b2 b3 k b (ran-table b1 b2 b3 e p y r .1 ∙ table-perm g π ∙ sym (ran-table b1 b2 b3 e q z u .1))
+
+  -- and with no malformed batch and a total that fits, both do
+  pub any-order-cuts : firstMalformed p ≡ 0 → firstMalformed q ≡ 0 → weightOf (leaves p) ≤ limit → CutAlike g b1 b2 b3 p q
+  any-order-cuts m n h =
+      let ran = any-order b1 b2 b3 e p q y z m n π h in
+      record {
+        first = tableOf g (leaves p);
+        second = tableOf g (leaves p);
+        first-ran = ran .0;
+        second-ran = ran .1 ∙ ran .0;
+        alike = ran-alike (ran .0) (ran .1 ∙ ran .0);
+      }

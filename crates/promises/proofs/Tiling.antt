@@ -1,0 +1,113 @@
+-- Demand 3, the boxes: at any total, each bin of the grid lies in exactly one box of the record, no box is empty, the counts add up
+-- to the total, and each is the sum of the weights in its box; of a loaded table, of the loaded weights whose bin lies there.
+-- Assumes nothing.
+use mathlib.Core.Path.{_≡_, sym, ap, subst, _∙_}
+use mathlib.Core.Bool.{Bool, cond}
+use mathlib.Core.List.{List, [], _∷_}
+use Prim.Native.Nat.{ℕ, _+_, _<_}
+use native.Mathlib.Omega.{arith}
+use lib.Dec.{lit<}
+use lib.ListN.{length, getD}
+use Rattle.grid.specs.declared.Grid.{Grid}
+use Rattle.grid.specs.declared.Chosen.the-variants.{Of}
+use Rattle.grid.specs.Range.{sumFrom}
+use Rattle.grid.specs.Grid.{gridOf, Accepted, colourPlace}
+use Rattle.grid.proofs.Range.{sum-same}
+use Rattle.grid.proofs.Places.{Bytes, colour-place-lt}
+use Rattle.table.specs.Cell.{wide}
+use Rattle.table.specs.Sound.{total}
+use Rattle.loader.specs.Load.{Weighted, sumOver}
+use Rattle.loader.specs.Plan.{Plan, Table, run, leaves, BytesIn}
+use Rattle.loader.proofs.Loading.{AllBytes, share-weight, over-none, over-more}
+use Rattle.loader.proofs.Order.{tableOf, table-holds, leaves-bytes}
+use Rattle.loader.proofs.Ran.{ran-table}
+use Rattle.sums.specs.declared.Bounds.{Bounds}
+use Rattle.sums.specs.Box.{boxSum, Within}
+use Rattle.sums.proofs.Loaded.{lies, loaded-box}
+use Rattle.sums.proofs.Same.{box-same}
+use Rattle.rounds.specs.declared.Boxes.{Boxes}
+use Rattle.rounds.specs.Loop.{noBox, boxesOf}
+use Rattle.cutter.specs.declared.CutRecord.{CutRecord}
+use Rattle.cutter.specs.Palette.{countOf, countsOf, countsLater}
+use Rattle.cutter.specs.Map.{holds}
+use Rattle.cutter.specs.Cut.{Buffers, lengthsOf, cutNumber, doneRecord, cutRecord, listOf, boxList, laterOn, cutLater, CanCut, Found}
+use Rattle.cutter.proofs.Colours.{palette-at, counts-at, counts-front}
+use Rattle.cutter.proofs.Listed.{list-length}
+use Rattle.cutter.proofs.Maps.{map-below, box-of-index}
+use Rattle.cutter.proofs.Tiling.{counts-total, holds-colour}
+use Rattle.cutter.proofs.Finding.{list-found, list-tiles, all-found}
+use Rattle.cutter.proofs.Laws.{cut-says}
+use Rattle.promises.specs.Tiling.{boxesIn, boxIn, Tiling, LoadedCounts}
+
+-- ---- a cut that nothing refuses
+module _ {g : Grid} {k : ℕ} {t : List ℕ} (b : Buffers) (a : Accepted g) (c : CanCut g k t (lengthsOf b)) where
+  abbrev found : Boxes
+  found = boxesOf g (wide t) k
+
+  are-found : Found g (wide t) found
+  are-found = all-found g (wide t) k (c .most) a (c .some)
+
+  in-list : {i : ℕ} → i < found .found → i < length (listOf found)
+  in-list h = omega (arith, list-length are-found)
+
+  counts-all : sumFrom 0 (found .found) (λ i. getD (countsLater g (wide t) (listOf found) (b .counts)) i 0) ≡ total g (wide t)
+  unfolding boxesOf
+  counts-all =
+      sum-same 0 (found .found) _ _ (λ i l h. counts-front g (wide t) (listOf found) (b .counts) i (in-list (omega arith)))
+      ∙ ap (λ (xs : List Bounds). sumFrom 0 (found .found) (λ i. getD (countsOf g (wide t) xs) i 0)) (list-found g (wide t) k (c .most))
+      ∙ counts-total g (wide t) k (c .most)
+
+  done-tiling : Tiling g t (doneRecord found) (laterOn g k t b)
+  unfolding boxesIn boxIn doneRecord laterOn boxList countOf
+  done-tiling =
+      let xs = listOf found in
+      let tiles = list-tiles g (wide t) k (c .most) a in
+      record {
+        listed = list-length are-found;
+        tiles = tiles;
+        within = λ i h. are-found .occupied i h .within;
+        some = λ i h. are-found .occupied i h .some;
+        count = λ i h. counts-at g (wide t) xs (b .counts) i noBox (in-list h);
+        all = counts-all;
+        index = λ i p h l. box-of-index g xs tiles i noBox p (in-list h) l;
+        below = λ p l. omega (arith, map-below g xs tiles p l, list-length are-found);
+        colour = λ i h. palette-at g (wide t) xs (b .palette) i noBox (in-list h);
+      }
+
+-- ---- the boxes of a loaded table
+-- two sums over colours that are alike at each
+same-over : (cs : List Weighted) → AllBytes cs → (f h : Weighted → ℕ) → ((c : Weighted) → Bytes (c .colour) → f c ≡ h c) → sumOver cs f ≡ sumOver cs h
+same-over [] b f h e = over-none f ∙ sym (over-none h)
+same-over (c ∷ cs) b f h e = over-more c cs f ∙ (λ i. e c (b .0) i + same-over cs (b .1) f h e i) ∙ sym (over-more c cs h)
+
+-- the weight of a box: that of the loaded colours whose bin lies in it
+box-loaded : {g : Grid} {x : Bounds} → Within g x → (cs : List Weighted) → AllBytes cs
+    → boxSum g (wide (tableOf g cs)) x 0 ≡ sumOver cs (λ c. cond (holds g x (colourPlace g (c .colour))) (c .weight) 0)
+unfolding lies
+box-loaded {g} {x} w cs b =
+    box-same (table-holds g cs .at) w 0 (lit< tt)
+    ∙ loaded-box w 0 cs b
+    ∙ same-over cs b _ _ (λ c y. λ i. cond (sym (holds-colour w y) i) (share-weight c i) 0)
+
+tiling-loaded : {g : Grid} → Accepted g → (cs : List Weighted) → AllBytes cs → {r : CutRecord} {later : Buffers} → Tiling g (tableOf g cs) r later → LoadedCounts g cs r later
+tiling-loaded {g} a cs b {r} {later} t =
+    record {
+      count = λ i h. t .count i h ∙ box-loaded (t .within i h) cs b;
+      mapped = λ i h.
+          t .count i h
+          ∙ box-loaded (t .within i h) cs b
+          ∙ same-over cs b _ _ (λ c y. ap (λ (q : Bool). cond q (c .weight) 0) (t .index i (colourPlace g (c .colour)) h (colour-place-lt a y)));
+    }
+
+-- ---- the promises
+module _ (b1 b2 b3 k : ℕ) (t : List ℕ) (b : Buffers) {g : Grid} (e : gridOf b1 b2 b3 ≡ Of g) (n : cutNumber b1 b2 b3 k t b ≡ 0) where
+  -- at any total, of every table that a cut is done with
+  pub tiling : Tiling g t (cutRecord b1 b2 b3 k t b) (cutLater b1 b2 b3 k t b)
+  tiling = let d = cut-says b1 b2 b3 k t b e n in rw (d .hands, d .leaves) (done-tiling b (d .accepted) (d .can))
+
+  -- and of every table that loads and merges gave
+  pub loaded-counts : (p : Plan) → BytesIn p → run b1 b2 b3 p ≡ Table t → LoadedCounts g (leaves p) (cutRecord b1 b2 b3 k t b) (cutLater b1 b2 b3 k t b)
+  loaded-counts p y ran =
+      let d = cut-says b1 b2 b3 k t b e n in
+      let is = ran-table b1 b2 b3 e p y ran .1 in
+      tiling-loaded (d .accepted) (leaves p) (leaves-bytes p y) (subst (λ (s : List ℕ). Tiling g s (cutRecord b1 b2 b3 k t b) (cutLater b1 b2 b3 k t b)) is tiling)

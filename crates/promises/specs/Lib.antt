@@ -1,0 +1,5 @@
+pub mod Cases
+pub mod Tiling
+pub mod Full
+pub mod Order
+pub mod Determined
