@@ -1,9 +1,10 @@
 -- The boxes of a loop as a list: each bin of the grid lies in exactly one of them, none is empty, and their counts add up to the total.
 -- Assumes nothing.
 use mathlib.Core.Path.{_≡_, refl, sym, ap, _∙_}
-use mathlib.Core.Bool.{cond, _&&_, and-true}
+use mathlib.Core.Bool.{Bool, cond, _&&_, and-true}
 use mathlib.Core.List.{List, [], _∷_, map}
 use Prim.Native.Nat.{ℕ, zero, suc, _+_, _-_, _≤_, _<_}
+use native.Mathlib.Decide.{ℕ-discrete}
 use native.Mathlib.Nat.{pos-of-ne-zero, le-of-lt}
 use native.Mathlib.Omega.{arith}
 use lib.Dec.{leb, ltb}
@@ -13,17 +14,18 @@ use Rattle.grid.specs.declared.Grid.{Grid}
 use Rattle.grid.specs.declared.Rgb.{Rgb}
 use Rattle.grid.specs.Range.{sumFrom, allFrom}
 use Rattle.grid.specs.Size.{binOf}
-use Rattle.grid.specs.Grid.{Accepted, choose, sizeAt, shiftAt, componentAt, binAt, colourPlace}
-use Rattle.grid.proofs.Range.{sum-shift}
-use Rattle.grid.proofs.Places.{Bytes, colour-bin}
+use Rattle.grid.specs.Grid.{Accepted, choose, sizeAt, shiftAt, componentAt, binsOf, placeOf, binAt, colourPlace}
+use Rattle.grid.proofs.Range.{sum-shift, sum-same, hit, hit-yes, hit-no, sum-hit}
+use Rattle.grid.proofs.Places.{Bytes, place-lt, place-of-bins, bins-inside, colour-bin}
 use Rattle.table.specs.Cell.{View}
 use Rattle.table.specs.Sound.{total}
 use Rattle.table.proofs.Soundness.{total-is}
 use Rattle.sums.specs.declared.Bounds.{Bounds}
-use Rattle.sums.specs.Box.{minAt, maxAt, boxSum, Within}
+use Rattle.sums.specs.Box.{minAt, maxAt, binSum, boxSum, Within}
+use Rattle.sums.proofs.Boxes.{sum3-same, sum3-plus, sum3-zero}
 use Rattle.sums.proofs.Corners.{sides}
 use Rattle.sums.proofs.Laws.{cut-sum}
-use Rattle.sums.proofs.Loaded.{among}
+use Rattle.sums.proofs.Loaded.{among, hit-box}
 use Rattle.heap.specs.Heap.{Item, Room, item, sumItems}
 use Rattle.rounds.specs.Loop.{noBox, noItem, wholeOf, heapOf}
 use Rattle.rounds.proofs.Grids.{whole-sum}
@@ -113,7 +115,7 @@ module _ (g : Grid) (v : View) (k : ℕ) (most : k ≤ 256) where
       ∙ whole-sum g v 0
       ∙ sym (total-is g v)
 
--- ---- the bin of a colour lies in a box where the box holds its place
+-- ---- a bin lies in a box where the box holds its place
 run-lies : (low end n : ℕ) → low ≤ end → lies low end n ≡ among low (end - low) n
 unfolding lies
 run-lies low end n h = ap (λ (m : ℕ). leb low n && ltb n m) there
@@ -121,13 +123,61 @@ run-lies low end n h = ap (λ (m : ℕ). leb low n && ltb n m) there
     there : end ≡ low + (end - low)
     there = omega arith
 
+holds-bins : {g : Grid} {x : Bounds} → Within g x → (p : ℕ)
+    → holds g x p
+    ≡ (among (x .r0) (x .r1 - x .r0) (binAt g 0 p) && (among (x .g0) (x .g1 - x .g0) (binAt g 1 p) && among (x .b0) (x .b1 - x .b0) (binAt g 2 p)))
+unfolding holds allFrom minAt maxAt choose
+holds-bins {g} {x} w p =
+    let s = sides w in
+    λ i.
+    run-lies (x .r0) (x .r1) (binAt g 0 p) (le-of-lt (s .one)) i
+    && (run-lies (x .g0) (x .g1) (binAt g 1 p) (le-of-lt (s .two)) i
+    && (and-true (lies (x .b0) (x .b1) (binAt g 2 p)) ∙ run-lies (x .b0) (x .b1) (binAt g 2 p) (le-of-lt (s .three))) i)
+
 pub holds-colour : {g : Grid} {x : Bounds} → Within g x → {c : Rgb} → Bytes c
     → holds g x (colourPlace g c)
     ≡ (among (x .r0) (x .r1 - x .r0) (binOf (g .s1) (c .c1)) && (among (x .g0) (x .g1 - x .g0) (binOf (g .s2) (c .c2)) && among (x .b0) (x .b1 - x .b0) (binOf (g .s3) (c .c3))))
-unfolding holds allFrom minAt maxAt shiftAt componentAt choose
+unfolding shiftAt componentAt choose
 holds-colour {g} {x} w {c} b =
-    let s = sides w in
     let bin = colour-bin (w .accepted) b in
-    let run : (d low end : ℕ) → low < end → lies low end (binAt g d (colourPlace g c)) ≡ among low (end - low) (binOf (shiftAt g d) (componentAt c d)) =
-    λ d low end h. run-lies low end _ (le-of-lt h) ∙ ap (among low (end - low)) (bin d) in
-    λ i. run 0 (x .r0) (x .r1) (s .one) i && (run 1 (x .g0) (x .g1) (s .two) i && (and-true (lies (x .b0) (x .b1) (binAt g 2 (colourPlace g c))) ∙ run 2 (x .b0) (x .b1) (s .three)) i)
+    holds-bins w (colourPlace g c)
+    ∙ (λ i. among (x .r0) (x .r1 - x .r0) (bin 0 i) && (among (x .g0) (x .g1 - x .g0) (bin 1 i) && among (x .b0) (x .b1 - x .b0) (bin 2 i)))
+
+-- ---- the sum of a box is that over the places which it holds
+module _ {g : Grid} {x : Bounds} (w : Within g x) (v : View) (j : ℕ) where
+  abbrev held : ℕ → ℕ
+  held q = cond (holds g x q) (v q j) 0
+
+  one-place : (q : ℕ) → q < binsOf g → boxSum g (λ p i. hit q p (v q j)) x j ≡ held q
+  one-place q h =
+      ap (λ (s : ℕ). boxSum g (λ p i. hit s p (v q j)) x j) (sym (place-of-bins g q))
+      ∙ hit-box w (bins-inside (w .accepted) q h) (v q j) j
+      ∙ ap (λ (b : Bool). cond b (v q j) 0) (sym (holds-bins w q))
+
+  some-places : (i n : ℕ) → i + n ≤ binsOf g → boxSum g (λ p k. sumFrom i n (λ q. hit q p (v q j))) x j ≡ sumFrom i n held
+  unfolding boxSum binSum sumFrom
+  some-places i zero h = sum3-zero (x .r0) (x .r1 - x .r0) (x .g0) (x .g1 - x .g0) (x .b0) (x .b1 - x .b0) _ (λ r gr z a b c d e f. refl)
+  some-places i (suc n) h =
+      sum3-plus (x .r0) (x .r1 - x .r0) (x .g0) (x .g1 - x .g0) (x .b0) (x .b1 - x .b0)
+      (λ r gr z. hit i (placeOf g r gr z) (v i j)) (λ r gr z. sumFrom (suc i) n (λ q. hit q (placeOf g r gr z) (v q j)))
+      ∙ (λ k. one-place i (omega arith) k + some-places (suc i) n (omega arith) k)
+
+  -- a number of the view, as a sum of hits
+  at-place : (p : ℕ) → p < binsOf g → v p j ≡ sumFrom 0 (binsOf g) (λ q. hit q p (v q j))
+  at-place p h =
+      sym (sum-hit 0 (binsOf g) p (v p j) (omega arith) (omega arith))
+      ∙ sum-same 0 (binsOf g) (λ q. hit p q (v p j)) (λ q. hit q p (v q j)) (λ q a b. turned q (ℕ-discrete p q))
+    where
+      turned : (q : ℕ) → Dec (p ≡ q) → hit p q (v p j) ≡ hit q p (v q j)
+      turned q (yes e) = hit-yes p q (v p j) e ∙ ap (λ (r : ℕ). v r j) e ∙ sym (hit-yes q p (v q j) (sym e))
+      turned q (no n) = hit-no p q (v p j) n ∙ sym (hit-no q p (v q j) (λ e. n (sym e)))
+
+  pub sum-of-held : boxSum g v x j ≡ sumFrom 0 (binsOf g) (λ p. cond (holds g x p) (v p j) 0)
+  unfolding boxSum binSum
+  sum-of-held =
+      let e = sides w in
+      sum3-same (x .r0) (x .r1 - x .r0) (x .g0) (x .g1 - x .g0) (x .b0) (x .b1 - x .b0) (λ r gr z. v (placeOf g r gr z) j) (λ r gr z. sumFrom 0 (binsOf g) (λ q. hit q (placeOf g r gr z) (v q j)))
+      (λ r gr z h k l.
+      at-place (placeOf g r gr z)
+      (place-lt (record { accepted = w .accepted; one = omega (arith, e .one, e .one-fits); two = omega (arith, e .two, e .two-fits); three = omega (arith, e .three, e .three-fits) })))
+      ∙ some-places 0 (binsOf g) (omega arith)

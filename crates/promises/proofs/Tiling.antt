@@ -11,7 +11,7 @@ use lib.ListN.{length, getD}
 use Rattle.grid.specs.declared.Grid.{Grid}
 use Rattle.grid.specs.declared.Chosen.the-variants.{Of}
 use Rattle.grid.specs.Range.{sumFrom}
-use Rattle.grid.specs.Grid.{gridOf, Accepted, colourPlace}
+use Rattle.grid.specs.Grid.{gridOf, Accepted, binsOf, colourPlace}
 use Rattle.grid.proofs.Range.{sum-same}
 use Rattle.grid.proofs.Places.{Bytes, colour-place-lt}
 use Rattle.table.specs.Cell.{wide}
@@ -22,7 +22,7 @@ use Rattle.loader.proofs.Loading.{AllBytes, share-weight, over-none, over-more}
 use Rattle.loader.proofs.Order.{tableOf, table-holds, leaves-bytes}
 use Rattle.loader.proofs.Ran.{ran-table}
 use Rattle.sums.specs.declared.Bounds.{Bounds}
-use Rattle.sums.specs.Box.{boxSum, Within}
+use Rattle.sums.specs.Box.{Within}
 use Rattle.sums.proofs.Loaded.{lies, loaded-box}
 use Rattle.sums.proofs.Same.{box-same}
 use Rattle.rounds.specs.declared.Boxes.{Boxes}
@@ -34,7 +34,7 @@ use Rattle.cutter.specs.Cut.{Buffers, lengthsOf, cutNumber, doneRecord, cutReco
 use Rattle.cutter.proofs.Colours.{palette-at, counts-at, counts-front}
 use Rattle.cutter.proofs.Listed.{list-length}
 use Rattle.cutter.proofs.Maps.{map-below, box-of-index}
-use Rattle.cutter.proofs.Tiling.{counts-total, holds-colour}
+use Rattle.cutter.proofs.Tiling.{counts-total, holds-colour, sum-of-held}
 use Rattle.cutter.proofs.Finding.{list-found, list-tiles, all-found}
 use Rattle.cutter.proofs.Laws.{cut-says}
 use Rattle.promises.specs.Tiling.{boxesIn, boxIn, Tiling, LoadedCounts}
@@ -66,8 +66,8 @@ module _ {g : Grid} {k : ℕ} {t : List ℕ} (b : Buffers) (a : Accepted g) (c :
         listed = list-length are-found;
         tiles = tiles;
         within = λ i h. are-found .occupied i h .within;
-        some = λ i h. are-found .occupied i h .some;
-        count = λ i h. counts-at g (wide t) xs (b .counts) i noBox (in-list h);
+        count = λ i h. counts-at g (wide t) xs (b .counts) i noBox (in-list h) ∙ sum-of-held (are-found .occupied i h .within) (wide t) 0;
+        some = λ i h. omega (arith, counts-at g (wide t) xs (b .counts) i noBox (in-list h), are-found .occupied i h .some);
         all = counts-all;
         index = λ i p h l. box-of-index g xs tiles i noBox p (in-list h) l;
         below = λ p l. omega (arith, map-below g xs tiles p l, list-length are-found);
@@ -81,21 +81,22 @@ same-over [] b f h e = over-none f ∙ sym (over-none h)
 same-over (c ∷ cs) b f h e = over-more c cs f ∙ (λ i. e c (b .0) i + same-over cs (b .1) f h e i) ∙ sym (over-more c cs h)
 
 -- the weight of a box: that of the loaded colours whose bin lies in it
-box-loaded : {g : Grid} {x : Bounds} → Within g x → (cs : List Weighted) → AllBytes cs
-    → boxSum g (wide (tableOf g cs)) x 0 ≡ sumOver cs (λ c. cond (holds g x (colourPlace g (c .colour))) (c .weight) 0)
+weight-loaded : {g : Grid} {x : Bounds} → Within g x → (cs : List Weighted) → AllBytes cs
+    → sumFrom 0 (binsOf g) (λ p. cond (holds g x p) (wide (tableOf g cs) p 0) 0) ≡ sumOver cs (λ c. cond (holds g x (colourPlace g (c .colour))) (c .weight) 0)
 unfolding lies
-box-loaded {g} {x} w cs b =
-    box-same (table-holds g cs .at) w 0 (lit< tt)
+weight-loaded {g} {x} w cs b =
+    sym (sum-of-held w (wide (tableOf g cs)) 0)
+    ∙ box-same (table-holds g cs .at) w 0 (lit< tt)
     ∙ loaded-box w 0 cs b
     ∙ same-over cs b _ _ (λ c y. λ i. cond (sym (holds-colour w y) i) (share-weight c i) 0)
 
 tiling-loaded : {g : Grid} → Accepted g → (cs : List Weighted) → AllBytes cs → {r : CutRecord} {later : Buffers} → Tiling g (tableOf g cs) r later → LoadedCounts g cs r later
 tiling-loaded {g} a cs b {r} {later} t =
     record {
-      count = λ i h. t .count i h ∙ box-loaded (t .within i h) cs b;
+      count = λ i h. t .count i h ∙ weight-loaded (t .within i h) cs b;
       mapped = λ i h.
           t .count i h
-          ∙ box-loaded (t .within i h) cs b
+          ∙ weight-loaded (t .within i h) cs b
           ∙ same-over cs b _ _ (λ c y. ap (λ (q : Bool). cond q (c .weight) 0) (t .index i (colourPlace g (c .colour)) h (colour-place-lt a y)));
     }
 

@@ -12,7 +12,7 @@ use Rattle.table.specs.Cell.{wide}
 use Rattle.table.specs.Sound.{total}
 use Rattle.loader.specs.Load.{Weighted, sumOver}
 use Rattle.sums.specs.declared.Bounds.{Bounds}
-use Rattle.sums.specs.Box.{boxSum, Within}
+use Rattle.sums.specs.Box.{Within}
 use Rattle.rounds.specs.Loop.{noBox}
 use Rattle.cutter.specs.declared.CutRecord.{CutRecord}
 use Rattle.cutter.specs.Palette.{colourOf}
@@ -30,11 +30,12 @@ pub record Tiling (g : Grid) (t : List ℕ) (r : CutRecord) (later : Buffers) : 
   pub listed : length (boxesIn r) ≡ r .boxes
   -- "each bin of the grid lies in exactly one box"
   pub tiles : Tiles g (boxesIn r)
+  -- each box is one of the grid, with some bins in each dimension
   pub within : (i : ℕ) → i < r .boxes → Within g (boxIn r i)
-  -- "no box is empty"
-  pub some : (i : ℕ) → i < r .boxes → 0 < boxSum g (wide t) (boxIn r i) 0
   -- "each count is the sum of the weights in its box"
-  pub count : (i : ℕ) → i < r .boxes → getD (later .counts) i 0 ≡ boxSum g (wide t) (boxIn r i) 0
+  pub count : (i : ℕ) → i < r .boxes → getD (later .counts) i 0 ≡ sumFrom 0 (binsOf g) (λ p. cond (holds g (boxIn r i) p) (wide t p 0) 0)
+  -- "no box is empty"
+  pub some : (i : ℕ) → i < r .boxes → 0 < getD (later .counts) i 0
   -- "counts add up to the total"
   pub all : sumFrom 0 (r .boxes) (λ i. getD (later .counts) i 0) ≡ total g (wide t)
   -- "every bin of it gets index i in the map", and no other bin does
