@@ -2,17 +2,18 @@
 -- band has its indices, each below the palette's length, or the palette's colours at them.
 -- Assumes nothing.
 use mathlib.Core.Path.{_≡_, refl, sym, ap, _∙_}
-use mathlib.Core.Bool.{Bool, true, false}
+use mathlib.Core.Bool.{Bool, true, false, not, true≢false}
 use mathlib.Core.List.{List}
 use Prim.Native.Nat.{ℕ, zero, suc, _+_, _*_, _/_, _%_, _≤_, _<_}
 use native.Mathlib.Omega.{arith}
-use borrow.Author.Tests.{eqb-true, leb-true, ltb-false, not-false, eq-eqb, le-leb, le-ltb}
-use lib.Dec.{leb}
+use borrow.Author.Tests.{eqb-true, eqb-false, leb-true, ltb-false, not-false, eq-eqb, le-leb, le-ltb}
+use lib.Dec.{leb, eqb}
 use lib.ListN.{length, getD}
 use Rattle.grid.specs.declared.Grid.{Grid}
 use Rattle.grid.specs.declared.Chosen.the-variants as chosen
 use Rattle.grid.specs.Answer.{refuse, whenDone}
-use Rattle.grid.specs.Grid.{gridOf, binsOf}
+use Rattle.grid.specs.declared.Chosen.{Chosen}
+use Rattle.grid.specs.Grid.{gridOf, gridAnswer, onGrid, numberOn, binsOf}
 use Rattle.grid.proofs.Range.{and-left, and-right}
 use Rattle.grid.proofs.Ends.{passed, call-refused, call-done, same-length}
 use Rattle.mapper.specs.Band.{indexAt, among, writeBand, allBelow}
@@ -22,6 +23,17 @@ use Rattle.mapper.proofs.Band.{band-length, band-within, band-kept}
 use Rattle.mapper.proofs.Below.{entry-below}
 use Rattle.mapper.proofs.Pixels.{paint-byte}
 use Rattle.mapper.proofs.Calls.{map-ends, paint-ends}
+
+-- a test that gives another number than 9, and a last one that does not refuse
+past : (b : Bool) (n rest : ℕ) → refuse b n rest ≡ 9 → eqb n 9 ≡ false → rest ≡ 9
+unfolding refuse
+past true n rest e other = absurd (eqb-false n 9 other e)
+past false n rest e other = e
+
+no-9 : (b : Bool) → b ≡ true → refuse (not b) 9 0 ≡ 9 → ⊥
+unfolding refuse
+no-9 true below e = omega arith
+no-9 false below e = true≢false (sym below)
 
 -- ---- map
 module _ (b1 b2 b3 : ℕ) (map : List ℕ) (colours : ℕ) (frame indices : List ℕ) (first pixels : ℕ) where
@@ -84,6 +96,15 @@ module _ (b1 b2 b3 : ℕ) (map : List ℕ) (colours : ℕ) (frame indices : List
   unfolding mapNumberOn refuse
   map-accepts e threes lent some few one-each inside below =
       map-done e (simp (eq-eqb _ _ threes, eq-eqb _ _ lent, le-leb _ _ some, le-leb _ _ few, eq-eqb _ _ one-each, le-ltb _ _ inside, below))
+
+  -- 9 is given for an entry that is not below the palette's length, and for nothing else
+  pub map-not-9 : allBelow colours map ≡ true → number ≡ 9 → ⊥
+  unfolding mapNumber mapNumberOn numberOn onGrid gridAnswer
+  map-not-9 below = go (gridOf b1 b2 b3) (λ g e. no-9 (allBelow colours map) below (past _ 5 _ (past _ 5 _ (past _ 5 _ (past _ 5 _ (past _ 3 _ e refl) refl) refl) refl) refl))
+    where
+      go : (c : Chosen) → ((g : Grid) → mapNumberOn g map colours frame indices first pixels ≡ 9 → ⊥) → numberOn c (λ g. mapNumberOn g map colours frame indices first pixels) ≡ 9 → ⊥
+      go (chosen.Of g) on e = on g e
+      go chosen.Refused on e = omega arith
 
   pub map-length : length later ≡ length indices
   map-length =
