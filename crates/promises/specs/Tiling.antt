@@ -1,4 +1,4 @@
--- What the record of a cut is to be, with the counts and the map that it leaves behind (demand 3). Definitions only.
+-- What the record of a cut is to be, with the palette, counts and map that it leaves behind (demand 3). Definitions only.
 use mathlib.Core.Path.{_≡_}
 use mathlib.Core.Bool.{cond}
 use mathlib.Core.List.{List}
@@ -15,7 +15,7 @@ use Rattle.sums.specs.declared.Bounds.{Bounds}
 use Rattle.sums.specs.Box.{Within}
 use Rattle.rounds.specs.Loop.{noBox}
 use Rattle.cutter.specs.declared.CutRecord.{CutRecord}
-use Rattle.cutter.specs.Palette.{colourOf}
+use Rattle.cutter.specs.Palette.{colourOf, coloursOf, frontOf}
 use Rattle.cutter.specs.Map.{holds, Tiles}
 use Rattle.cutter.specs.Cut.{Buffers, listOf}
 
@@ -43,6 +43,8 @@ pub record Tiling (g : Grid) (t : List ℕ) (r : CutRecord) (later : Buffers) : 
   pub below : (p : ℕ) → p < binsOf g → getD (later .map) p 0 < r .boxes
   -- "Its palette colour is each sum divided by n, rounded down"
   pub colour : (i : ℕ) → i < r .boxes → colourAt (later .palette) i ≡ colourOf g (wide t) (boxIn r i)
+  -- "the filled front of the lent palette" is these colours, one after the other
+  pub front : frontOf (later .palette) (r .boxes) ≡ coloursOf g (wide t) (boxesIn r)
 
 -- of a table loaded from colours, "each count is the sum of loaded weights in its box": of the colours whose bin lies there, which are
 -- those that the map gives its index
