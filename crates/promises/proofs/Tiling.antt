@@ -4,7 +4,7 @@
 use mathlib.Core.Path.{_≡_, sym, ap, subst, _∙_}
 use mathlib.Core.Bool.{Bool, cond}
 use mathlib.Core.List.{List, [], _∷_}
-use Prim.Native.Nat.{ℕ, _+_, _<_}
+use Prim.Native.Nat.{ℕ, _+_, _*_, _≤_, _<_}
 use native.Mathlib.Omega.{arith}
 use lib.Dec.{lit<}
 use lib.ListN.{length, getD}
@@ -27,11 +27,12 @@ use Rattle.sums.proofs.Loaded.{lies, loaded-box}
 use Rattle.sums.proofs.Same.{box-same}
 use Rattle.rounds.specs.declared.Boxes.{Boxes}
 use Rattle.rounds.specs.Loop.{noBox, boxesOf}
+use Rattle.rounds.proofs.Filled.{heap-most}
 use Rattle.cutter.specs.declared.CutRecord.{CutRecord}
-use Rattle.cutter.specs.Palette.{countOf, countsOf, countsLater}
+use Rattle.cutter.specs.Palette.{countOf, countsOf, paletteLater, countsLater, frontOf}
 use Rattle.cutter.specs.Map.{holds}
 use Rattle.cutter.specs.Cut.{Buffers, lengthsOf, cutNumber, doneRecord, cutRecord, listOf, boxList, laterOn, cutLater, CanCut, Found}
-use Rattle.cutter.proofs.Colours.{palette-at, counts-at, counts-front}
+use Rattle.cutter.proofs.Colours.{front-filled, palette-at, counts-at, counts-front}
 use Rattle.cutter.proofs.Listed.{list-length}
 use Rattle.cutter.proofs.Maps.{map-below, box-of-index}
 use Rattle.cutter.proofs.Tiling.{counts-total, holds-colour, sum-of-held}
@@ -57,6 +58,10 @@ module _ {g : Grid} {k : ℕ} {t : List ℕ} (b : Buffers) (a : Accepted g) (c :
       ∙ ap (λ (xs : List Bounds). sumFrom 0 (found .found) (λ i. getD (countsOf g (wide t) xs) i 0)) (list-found g (wide t) k (c .most))
       ∙ counts-total g (wide t) k (c .most)
 
+  fits : 3 * length (listOf found) ≤ length (b .palette)
+  unfolding boxesOf
+  fits = omega (arith, list-length are-found, heap-most g (wide t) k (c .least) (c .most), c .palette)
+
   done-tiling : Tiling g t (doneRecord found) (laterOn g k t b)
   unfolding boxesIn boxIn doneRecord laterOn boxList countOf
   done-tiling =
@@ -72,6 +77,7 @@ module _ {g : Grid} {k : ℕ} {t : List ℕ} (b : Buffers) (a : Accepted g) (c :
         index = λ i p h l. box-of-index g xs tiles i noBox p (in-list h) l;
         below = λ p l. omega (arith, map-below g xs tiles p l, list-length are-found);
         colour = λ i h. palette-at g (wide t) xs (b .palette) i noBox (in-list h);
+        front = ap (frontOf (paletteLater g (wide t) xs (b .palette))) (sym (list-length are-found)) ∙ front-filled g (wide t) xs (b .palette) fits;
       }
 
 -- ---- the boxes of a loaded table

@@ -48,10 +48,13 @@ unfoldable pub tableAfter : ℕ → ℕ → ℕ → List ℕ → List Batch → 
 tableAfter b1 b2 b3 t [] = t
 tableAfter b1 b2 b3 t (b ∷ bs) = tableAfter b1 b2 b3 (loadLater b1 b2 b3 t (b .colours) (b .given) (b .weights)) bs
 
+-- no position
+unfoldable pub nowhere : Told
+nowhere = record { values = []; scores = [] }
+
 -- the best position to cut the whole grid
 unfoldable pub positionIn : ℕ → ℕ → ℕ → List ℕ → Told
-positionIn b1 b2 b3 t =
-    onGrid (gridOf b1 b2 b3) (record { values = []; scores = [] }) (λ g. positionAnswer (bestCut g (wide t) (wholeOf g)))
+positionIn b1 b2 b3 t = onGrid (gridOf b1 b2 b3) nowhere (λ g. positionAnswer (bestCut g (wide t) (wholeOf g)))
 
 -- what is lent to the cut: long enough for every k here, and nowhere zero
 unfoldable pub lentTo : ℕ → Buffers
@@ -94,9 +97,6 @@ loadGives number table = record { number = number; table = table }
 -- dimension and bin, with the score
 unfoldable pub at : ℕ → ℕ → Float → Told
 at dimension bin score = record { values = dimension ∷ bin ∷ []; scores = score ∷ [] }
-
-unfoldable pub nowhere : Told
-nowhere = record { values = []; scores = [] }
 
 -- a box of three ranges, with its spread
 unfoldable pub box : ℕ × ℕ → ℕ × ℕ → ℕ × ℕ → Float → BoxSpread
