@@ -48,16 +48,14 @@ fn load_part(table: &mut [u64]) {
     text(b"\n");
 }
 
-// Cuts a table, and writes what is lent before and after.
-fn cut_lent(
+// Cuts a table as the script says, writes the record, and answers the number of boxes.
+fn cut_next(
     table: &[u64],
     work: &mut [u64],
     palette: &mut [u8],
     counts: &mut [u32],
     map: &mut [u8],
-) {
-    text(b"  before\n");
-    show::lent(table, work, palette, counts, map);
+) -> usize {
     let b1 = number();
     let b2 = number();
     let b3 = number();
@@ -66,41 +64,57 @@ fn cut_lent(
     show::named(b", k", k);
     let r = cut(b1, b2, b3, k, table, work, palette, counts, map);
     show::record(r);
-    text(b"  after\n");
-    show::lent(table, work, palette, counts, map);
-    let n = within(r.boxes, counts.len());
-    show::total(&counts[0..n]);
-    show::range(map);
-    show::front(front(palette, r.boxes));
+    r.boxes
 }
 
-// Lends the parts of the buffers that the script says.
-fn lend(table: &[u64], work: &mut [u64], palette: &mut [u8], counts: &mut [u32], map: &mut [u8]) {
-    let t = within(number(), table.len());
-    let w = within(number(), work.len());
-    let p = within(number(), palette.len());
-    let c = within(number(), counts.len());
-    let m = within(number(), map.len());
-    cut_lent(
-        &table[0..t],
-        &mut work[0..w],
-        &mut palette[0..p],
-        &mut counts[0..c],
-        &mut map[0..m],
-    );
-}
-
-// Cuts a table, with old contents in all that is lent.
-fn cut_loaded(table: &[u64]) {
-    let mut work = [6; 2560];
-    let mut palette = [201; 780];
-    let mut counts = [77; 260];
+// Each of these lends one buffer more, of the length that the script says and with old contents. It writes what the
+// buffer holds before the cut and after it, and answers the number of boxes.
+fn with_map(table: &[u64], work: &mut [u64], palette: &mut [u8], counts: &mut [u32]) -> usize {
     let mut map = [99; 520];
-    lend(table, &mut work, &mut palette, &mut counts, &mut map);
+    let n = within(number(), 520);
+    let lent = &mut map[0..n];
+    show::bytes(b"  map", lent);
+    let boxes = cut_next(table, work, palette, counts, lent);
+    show::bytes(b"  map", lent);
+    show::range(lent);
+    boxes
+}
+
+fn with_counts(table: &[u64], work: &mut [u64], palette: &mut [u8]) -> usize {
+    let mut counts = [77; 260];
+    let n = within(number(), 260);
+    let lent = &mut counts[0..n];
+    show::counts(lent);
+    let boxes = with_map(table, work, palette, lent);
+    show::counts(lent);
+    show::total(lent, boxes);
+    boxes
+}
+
+fn with_palette(table: &[u64], work: &mut [u64]) {
+    let mut palette = [201; 780];
+    let n = within(number(), 780);
+    let lent = &mut palette[0..n];
+    show::bytes(b"  palette", lent);
+    let boxes = with_counts(table, work, lent);
+    show::bytes(b"  palette", lent);
+    show::front(front(lent, boxes));
+}
+
+fn with_work(table: &[u64]) {
+    let mut work = [6; 2560];
+    let n = within(number(), 2560);
+    let lent = &mut work[0..n];
+    show::table(b"  work table", lent);
+    with_palette(table, lent);
+    show::table(b"  work table", lent);
 }
 
 pub(crate) fn case() {
     let mut table = [0; 2560];
     load_part(&mut table);
-    cut_loaded(&table);
+    let n = within(number(), 2560);
+    show::table(b"  table", &table[0..n]);
+    with_work(&table[0..n]);
+    show::table(b"  table", &table[0..n]);
 }

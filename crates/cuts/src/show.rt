@@ -43,65 +43,61 @@ fn bits(x: f64) {
     }
 }
 
-fn wide(n: u32) -> u64 {
-    n as u64
+// A number and how often it stands there.
+struct Run {
+    n: u32,
+    times: u64,
 }
 
-// A number and how often it stands there.
-fn run(n: u32, times: u64) {
-    number(wide(n));
-    if times > 1 {
+fn write_run(r: Run) {
+    if r.times == 0 {
+        return;
+    }
+    number(r.n as u64);
+    if r.times > 1 {
         text(b" *");
-        number(times);
+        number(r.times);
     }
 }
 
-fn byte_run(n: u8, times: u64) {
-    run(n as u32, times);
+// The run that a number goes on with or begins; a run that it ends is written.
+fn next_run(r: Run, n: u32) -> Run {
+    if r.n == n {
+        let times = wrapping_add_u64(r.times, 1);
+        return Run { n, times };
+    }
+    write_run(r);
+    Run { n, times: 1 }
 }
 
-// Whether a run of n ends before place i.
-fn byte_ends(list: &[u8], i: usize, n: u8) -> bool {
-    if i < list.len() { list[i] != n } else { true }
-}
-
-fn count_ends(list: &[u32], i: usize, n: u32) -> bool {
-    if i < list.len() { list[i] != n } else { true }
-}
-
-// Bytes of a palette or a map.
-fn bytes(list: &[u8]) {
-    let mut times = 0;
+// The bytes of a palette or a map, by runs.
+pub(crate) fn bytes(label: &[u8], list: &[u8]) {
+    text(label);
+    let mut r = Run { n: 0, times: 0 };
     let mut i = 0;
     while i < list.len() {
-        let n = list[i];
+        r = next_run(r, list[i] as u32);
         i = i + 1;
-        times = wrapping_add_u64(times, 1);
-        if byte_ends(list, i, n) {
-            byte_run(n, times);
-            times = 0;
-        }
     }
+    write_run(r);
     text(b"\n");
 }
 
-fn counts(list: &[u32]) {
-    let mut times = 0;
+// Counts, by runs.
+pub(crate) fn counts(list: &[u32]) {
+    text(b"  counts");
+    let mut r = Run { n: 0, times: 0 };
     let mut i = 0;
     while i < list.len() {
-        let n = list[i];
+        r = next_run(r, list[i]);
         i = i + 1;
-        times = wrapping_add_u64(times, 1);
-        if count_ends(list, i, n) {
-            run(n, times);
-            times = 0;
-        }
     }
+    write_run(r);
     text(b"\n");
 }
 
 // The length of a table and two checksums: the sum of its numbers, and the sum of the sums up to each of them.
-fn checksums(list: &[u64]) {
+pub(crate) fn table(label: &[u8], list: &[u64]) {
     let mut sum = 0;
     let mut sums = 0;
     let mut i = 0;
@@ -110,25 +106,11 @@ fn checksums(list: &[u64]) {
         sums = wrapping_add_u64(sums, sum);
         i = i + 1;
     }
-    number(list.len() as u64);
+    named(label, list.len());
     text(b" numbers, sums");
     number(sum);
     number(sums);
     text(b"\n");
-}
-
-// All that is lent to a cut: checksums of the tables, and the other buffers whole.
-pub(crate) fn lent(table: &[u64], work: &[u64], palette: &[u8], list: &[u32], map: &[u8]) {
-    text(b"    table");
-    checksums(table);
-    text(b"    work table");
-    checksums(work);
-    text(b"    palette");
-    bytes(palette);
-    text(b"    counts");
-    counts(list);
-    text(b"    map");
-    bytes(map);
 }
 
 // A box with its spread, on one line.
@@ -176,7 +158,7 @@ pub(crate) fn record(r: CutRecord) {
 
 // The filled front of a palette, colour by colour.
 pub(crate) fn front(list: &[u8]) {
-    text(b"    front");
+    text(b"  front");
     let mut i = 0;
     while i < list.len() {
         if i % 3 == 0 {
@@ -188,25 +170,17 @@ pub(crate) fn front(list: &[u8]) {
     text(b"\n");
 }
 
-// The sum of counts.
-pub(crate) fn total(list: &[u32]) {
+// The sum of the counts of all boxes.
+pub(crate) fn total(list: &[u32], boxes: usize) {
     let mut sum = 0;
     let mut i = 0;
-    while i < list.len() {
-        sum = wrapping_add_u64(sum, wide(list[i]));
+    while i < list.len() && i < boxes {
+        sum = wrapping_add_u64(sum, list[i] as u64);
         i = i + 1;
     }
-    text(b"    sum of the counts");
+    text(b"  sum of the counts");
     number(sum);
     text(b"\n");
-}
-
-fn smaller(a: u8, b: u8) -> u8 {
-    if a < b { a } else { b }
-}
-
-fn larger(a: u8, b: u8) -> u8 {
-    if a < b { b } else { a }
 }
 
 // The smallest and the largest entry of a map.
@@ -215,11 +189,16 @@ pub(crate) fn range(map: &[u8]) {
     let mut high = 0;
     let mut i = 0;
     while i < map.len() {
-        low = smaller(low, map[i]);
-        high = larger(high, map[i]);
+        let n = map[i];
+        if n < low {
+            low = n;
+        }
+        if n > high {
+            high = n;
+        }
         i = i + 1;
     }
-    text(b"    map from");
+    text(b"  from");
     byte(low);
     text(b" to");
     byte(high);

@@ -9,28 +9,28 @@ use Rattle.cuts.proofs.show.bytes.Statement.{statement}
 use Rattle.cuts.proofs.show.bytes.Tie as tie
 
 abbrev Inv-loop : tie.InvT-loop
-Inv-loop list times₀ i₀ t5 times i = Unit {0}
+Inv-loop label list r₀ i₀ t5 r i = Unit {0}
 
 abbrev μ-loop : tie.MeasureT-loop
-μ-loop list times₀ i₀ t5 times i = length list - i
+μ-loop label list r₀ i₀ t5 r i = length list - i
+
+text-requires : tie.Need-text-requires Inv-loop μ-loop
+text-requires c κs = tt
 
 loop-holds : tie.Need-loop-holds Inv-loop μ-loop
 loop-holds c = tt
 
-shared-slice-read-n : tie.Need-shared-slice-read-n Inv-loop μ-loop
-shared-slice-read-n c = omega arith
+shared-slice-read-next-run : tie.Need-shared-slice-read-next-run Inv-loop μ-loop
+shared-slice-read-next-run c = omega arith
+
+cast-next-run : tie.Need-cast-next-run Inv-loop μ-loop
+cast-next-run c = omega (arith, c .shared-slice-known3 .given (c .before .before .loop .i))
+
+next-run-requires : tie.Need-next-run-requires Inv-loop μ-loop
+next-run-requires c κs = tt
 
 add-i : tie.Need-add-i Inv-loop μ-loop
 add-i c = omega arith
-
-wrapping-add-u64-requires : tie.Need-wrapping-add-u64-requires Inv-loop μ-loop
-wrapping-add-u64-requires c κs = tt
-
-byte-ends-requires : tie.Need-byte-ends-requires Inv-loop μ-loop
-byte-ends-requires c κs = tt
-
-byte-run-requires : tie.Need-byte-run-requires Inv-loop μ-loop
-byte-run-requires c κs = tt
 
 loop-less : tie.Need-loop-less Inv-loop μ-loop
 loop-less c = omega arith
@@ -38,17 +38,14 @@ loop-less c = omega arith
 loop-again : tie.Need-loop-again Inv-loop μ-loop
 loop-again c = tt
 
-loop-less-2 : tie.Need-loop-less-2 Inv-loop μ-loop
-loop-less-2 c = omega arith
-
-loop-again-2 : tie.Need-loop-again-2 Inv-loop μ-loop
-loop-again-2 c = tt
+write-run-requires : tie.Need-write-run-requires Inv-loop μ-loop
+write-run-requires c κs = tt
 
 slice-aggregate-text : tie.Need-slice-aggregate-text Inv-loop μ-loop
 slice-aggregate-text c = search needs
 
-text-requires : tie.Need-text-requires Inv-loop μ-loop
-text-requires c κs = tt
+text-requires-2 : tie.Need-text-requires-2 Inv-loop μ-loop
+text-requires-2 c κs = tt
 
 returns : tie.Need-returns Inv-loop μ-loop
 returns c = tt
@@ -59,16 +56,15 @@ bytes-spec =
     (tie.spec
     Inv-loop
     μ-loop
+    text-requires
     loop-holds
-    shared-slice-read-n
+    shared-slice-read-next-run
+    cast-next-run
+    next-run-requires
     add-i
-    wrapping-add-u64-requires
-    byte-ends-requires
-    byte-run-requires
     loop-less
     loop-again
-    loop-less-2
-    loop-again-2
+    write-run-requires
     slice-aggregate-text
-    text-requires
+    text-requires-2
     returns)

@@ -9,31 +9,31 @@ use Rattle.cuts.proofs.show.counts.Statement.{statement}
 use Rattle.cuts.proofs.show.counts.Tie as tie
 
 abbrev Inv-loop : tie.InvT-loop
-Inv-loop list times₀ i₀ t5 times i = Unit {0}
+Inv-loop list r₀ i₀ t5 r i = Unit {0}
 
 abbrev μ-loop : tie.MeasureT-loop
-μ-loop list times₀ i₀ t5 times i = length list - i
+μ-loop list r₀ i₀ t5 r i = length list - i
+
+slice-aggregate-text : tie.Need-slice-aggregate-text Inv-loop μ-loop
+slice-aggregate-text c = search needs
+
+text-requires : tie.Need-text-requires Inv-loop μ-loop
+text-requires c κs = tt
 
 loop-holds : tie.Need-loop-holds Inv-loop μ-loop
 loop-holds c = tt
 
-mul-n : tie.Need-mul-n Inv-loop μ-loop
-mul-n c = omega arith
+mul-next-run : tie.Need-mul-next-run Inv-loop μ-loop
+mul-next-run c = omega arith
 
-shared-slice-read-n : tie.Need-shared-slice-read-n Inv-loop μ-loop
-shared-slice-read-n c = omega arith
+shared-slice-read-next-run : tie.Need-shared-slice-read-next-run Inv-loop μ-loop
+shared-slice-read-next-run c = omega arith
+
+next-run-requires : tie.Need-next-run-requires Inv-loop μ-loop
+next-run-requires c κs = tt
 
 add-i : tie.Need-add-i Inv-loop μ-loop
 add-i c = omega arith
-
-wrapping-add-u64-requires : tie.Need-wrapping-add-u64-requires Inv-loop μ-loop
-wrapping-add-u64-requires c κs = tt
-
-count-ends-requires : tie.Need-count-ends-requires Inv-loop μ-loop
-count-ends-requires c κs = tt
-
-run-requires : tie.Need-run-requires Inv-loop μ-loop
-run-requires c κs = tt
 
 loop-less : tie.Need-loop-less Inv-loop μ-loop
 loop-less c = omega arith
@@ -41,17 +41,14 @@ loop-less c = omega arith
 loop-again : tie.Need-loop-again Inv-loop μ-loop
 loop-again c = tt
 
-loop-less-2 : tie.Need-loop-less-2 Inv-loop μ-loop
-loop-less-2 c = omega arith
+write-run-requires : tie.Need-write-run-requires Inv-loop μ-loop
+write-run-requires c κs = tt
 
-loop-again-2 : tie.Need-loop-again-2 Inv-loop μ-loop
-loop-again-2 c = tt
+slice-aggregate-text-2 : tie.Need-slice-aggregate-text-2 Inv-loop μ-loop
+slice-aggregate-text-2 c = search needs
 
-slice-aggregate-text : tie.Need-slice-aggregate-text Inv-loop μ-loop
-slice-aggregate-text c = search needs
-
-text-requires : tie.Need-text-requires Inv-loop μ-loop
-text-requires c κs = tt
+text-requires-2 : tie.Need-text-requires-2 Inv-loop μ-loop
+text-requires-2 c κs = tt
 
 returns : tie.Need-returns Inv-loop μ-loop
 returns c = tt
@@ -62,17 +59,16 @@ counts-spec =
     (tie.spec
     Inv-loop
     μ-loop
-    loop-holds
-    mul-n
-    shared-slice-read-n
-    add-i
-    wrapping-add-u64-requires
-    count-ends-requires
-    run-requires
-    loop-less
-    loop-again
-    loop-less-2
-    loop-again-2
     slice-aggregate-text
     text-requires
+    loop-holds
+    mul-next-run
+    shared-slice-read-next-run
+    next-run-requires
+    add-i
+    loop-less
+    loop-again
+    write-run-requires
+    slice-aggregate-text-2
+    text-requires-2
     returns)

@@ -9,25 +9,16 @@ use Rattle.cuts.proofs.show.range.Statement.{statement}
 use Rattle.cuts.proofs.show.range.Tie as tie
 
 abbrev Inv-loop : tie.InvT-loop
-Inv-loop map low₀ high₀ i₀ t5 t6 t7 low high i = Unit {0}
+Inv-loop map low₀ high₀ i₀ t6 t7 t8 low high i = Unit {0}
 
 abbrev μ-loop : tie.MeasureT-loop
-μ-loop map low₀ high₀ i₀ t5 t6 t7 low high i = length map - i
+μ-loop map low₀ high₀ i₀ t6 t7 t8 low high i = length map - i
 
 loop-holds : tie.Need-loop-holds Inv-loop μ-loop
 loop-holds c = tt
 
-shared-slice-read-smaller : tie.Need-shared-slice-read-smaller Inv-loop μ-loop
-shared-slice-read-smaller c = omega arith
-
-smaller-requires : tie.Need-smaller-requires Inv-loop μ-loop
-smaller-requires c κs = tt
-
-shared-slice-read-larger : tie.Need-shared-slice-read-larger Inv-loop μ-loop
-shared-slice-read-larger c = omega arith
-
-larger-requires : tie.Need-larger-requires Inv-loop μ-loop
-larger-requires c κs = tt
+shared-slice-read-n : tie.Need-shared-slice-read-n Inv-loop μ-loop
+shared-slice-read-n c = omega arith
 
 add-i : tie.Need-add-i Inv-loop μ-loop
 add-i c = omega arith
@@ -72,10 +63,7 @@ range-spec =
     Inv-loop
     μ-loop
     loop-holds
-    shared-slice-read-smaller
-    smaller-requires
-    shared-slice-read-larger
-    larger-requires
+    shared-slice-read-n
     add-i
     loop-less
     loop-again

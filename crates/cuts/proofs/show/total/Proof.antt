@@ -9,22 +9,22 @@ use Rattle.cuts.proofs.show.total.Statement.{statement}
 use Rattle.cuts.proofs.show.total.Tie as tie
 
 abbrev Inv-loop : tie.InvT-loop
-Inv-loop list sum₀ i₀ t4 t5 sum i = Unit {0}
+Inv-loop list boxes sum₀ i₀ t5 t6 sum i = Unit {0}
 
 abbrev μ-loop : tie.MeasureT-loop
-μ-loop list sum₀ i₀ t4 t5 sum i = length list - i
+μ-loop list boxes sum₀ i₀ t5 t6 sum i = length list - i
 
 loop-holds : tie.Need-loop-holds Inv-loop μ-loop
 loop-holds c = tt
 
-mul-wide : tie.Need-mul-wide Inv-loop μ-loop
-mul-wide c = omega arith
+mul-wrapping-add-u64 : tie.Need-mul-wrapping-add-u64 Inv-loop μ-loop
+mul-wrapping-add-u64 c = omega arith
 
-shared-slice-read-wide : tie.Need-shared-slice-read-wide Inv-loop μ-loop
-shared-slice-read-wide c = omega arith
+shared-slice-read-wrapping-add-u64 : tie.Need-shared-slice-read-wrapping-add-u64 Inv-loop μ-loop
+shared-slice-read-wrapping-add-u64 c = omega arith
 
-wide-requires : tie.Need-wide-requires Inv-loop μ-loop
-wide-requires c κs = tt
+cast-wrapping-add-u64 : tie.Need-cast-wrapping-add-u64 Inv-loop μ-loop
+cast-wrapping-add-u64 c = omega (arith, c .shared-slice-known2 .given (c .before .before .before .loop .i))
 
 wrapping-add-u64-requires : tie.Need-wrapping-add-u64-requires Inv-loop μ-loop
 wrapping-add-u64-requires c κs = tt
@@ -63,9 +63,9 @@ total-spec =
     Inv-loop
     μ-loop
     loop-holds
-    mul-wide
-    shared-slice-read-wide
-    wide-requires
+    mul-wrapping-add-u64
+    shared-slice-read-wrapping-add-u64
+    cast-wrapping-add-u64
     wrapping-add-u64-requires
     add-i
     loop-less

@@ -1,18 +1,18 @@
--- `cuts::show::checksums` is safe and ends. The measure is what is left of the list.
+-- `cuts::show::table` is safe and ends. The measure is what is left of the list.
 -- Nothing has to hold from turn to turn.
 -- Assumes nothing.
 use native.Mathlib.Omega.{arith}
 use lib.ListN.{length}
 use Prim.Native.Nat.{_-_}
 use borrow.Author.Needs.{needs}
-use Rattle.cuts.proofs.show.checksums.Statement.{statement}
-use Rattle.cuts.proofs.show.checksums.Tie as tie
+use Rattle.cuts.proofs.show.table.Statement.{statement}
+use Rattle.cuts.proofs.show.table.Tie as tie
 
 abbrev Inv-loop : tie.InvT-loop
-Inv-loop list sum₀ sums₀ i₀ t5 t6 sum sums i = Unit {0}
+Inv-loop label list sum₀ sums₀ i₀ t6 t7 sum sums i = Unit {0}
 
 abbrev μ-loop : tie.MeasureT-loop
-μ-loop list sum₀ sums₀ i₀ t5 t6 sum sums i = length list - i
+μ-loop label list sum₀ sums₀ i₀ t6 t7 sum sums i = length list - i
 
 loop-holds : tie.Need-loop-holds Inv-loop μ-loop
 loop-holds c = tt
@@ -38,8 +38,8 @@ loop-less c = omega arith
 loop-again : tie.Need-loop-again Inv-loop μ-loop
 loop-again c = tt
 
-number-requires : tie.Need-number-requires Inv-loop μ-loop
-number-requires c κs = tt
+named-requires : tie.Need-named-requires Inv-loop μ-loop
+named-requires c κs = tt
 
 slice-aggregate-text : tie.Need-slice-aggregate-text Inv-loop μ-loop
 slice-aggregate-text c = search needs
@@ -47,11 +47,11 @@ slice-aggregate-text c = search needs
 text-requires : tie.Need-text-requires Inv-loop μ-loop
 text-requires c κs = tt
 
+number-requires : tie.Need-number-requires Inv-loop μ-loop
+number-requires c κs = tt
+
 number-requires-2 : tie.Need-number-requires-2 Inv-loop μ-loop
 number-requires-2 c κs = tt
-
-number-requires-3 : tie.Need-number-requires-3 Inv-loop μ-loop
-number-requires-3 c κs = tt
 
 slice-aggregate-text-2 : tie.Need-slice-aggregate-text-2 Inv-loop μ-loop
 slice-aggregate-text-2 c = search needs
@@ -62,8 +62,8 @@ text-requires-2 c κs = tt
 returns : tie.Need-returns Inv-loop μ-loop
 returns c = tt
 
-pub checksums-spec : {M : Type 1} → statement M
-checksums-spec =
+pub table-spec : {M : Type 1} → statement M
+table-spec =
     tie.close
     (tie.spec
     Inv-loop
@@ -76,11 +76,11 @@ checksums-spec =
     add-i
     loop-less
     loop-again
-    number-requires
+    named-requires
     slice-aggregate-text
     text-requires
+    number-requires
     number-requires-2
-    number-requires-3
     slice-aggregate-text-2
     text-requires-2
     returns)
