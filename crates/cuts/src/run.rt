@@ -67,8 +67,8 @@ fn cut_next(
     r.boxes
 }
 
-// Each of these lends one buffer more, of the length that the script says and with old contents. It writes what the
-// buffer holds before the cut and after it, and answers the number of boxes.
+// Each of the next four lends one buffer more, of the length that the script says and with old contents, and writes what
+// it holds before the cut and after it.
 fn with_map(table: &[u64], work: &mut [u64], palette: &mut [u8], counts: &mut [u32]) -> usize {
     let mut map = [99; 520];
     let n = within(number(), 520);

@@ -1,4 +1,4 @@
--- `cuts::script::number` is safe and ends. The measure is what is left of the turns.
+-- `cuts::script::number` is safe and ends. The measure is the number of bytes that may still come.
 -- Nothing has to hold from turn to turn.
 -- Assumes nothing.
 use native.Mathlib.Omega.{arith}

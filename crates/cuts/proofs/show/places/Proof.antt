@@ -1,4 +1,4 @@
--- `cuts::show::places` is safe and ends. The measure is what is left of the list.
+-- `cuts::show::places` is safe and ends. The measure is the number of places that are left.
 -- Nothing has to hold from turn to turn.
 -- Assumes nothing.
 use native.Mathlib.Omega.{arith}

@@ -1,4 +1,4 @@
--- `cuts::show::table` is safe and ends. The measure is what is left of the list.
+-- `cuts::show::table` is safe and ends. The measure is what is left of the table.
 -- Nothing has to hold from turn to turn.
 -- Assumes nothing.
 use native.Mathlib.Omega.{arith}
