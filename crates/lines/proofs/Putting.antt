@@ -32,12 +32,12 @@ put-more {a} {i} {xs} {b} {j} {ys} {c} {k} p q =
 pub put-length : {a : List ℕ} {i : ℕ} {xs b : List ℕ} {j : ℕ} → Put a i xs b j → length b ≡ length a
 put-length {a} {i} {xs} p = ap length (p .later) ∙ length-sets a i xs
 
--- a text put at the start: where it ends, and what is in a buffer that has room for it
-pub put-start : {a xs b : List ℕ} {j : ℕ} → Put a 0 xs b j → j ≡ length xs
-put-start p = let e = p .ends in omega arith
-
-pub put-whole : {a xs b : List ℕ} {j : ℕ} → Put a 0 xs b j → j ≤ length a → b ≡ withText xs a
+-- a text put at the start of a buffer that has room for it
+pub put-whole : {a xs b : List ℕ} {j : ℕ} → Put a 0 xs b j → j ≤ length a → (j ≡ length xs) × ((b ≡ withText xs a) × (j ≤ length b))
 unfolding withText
 put-whole {a} {xs} {b} {j} p h =
     let e : 0 + length xs ≡ length xs = omega arith in
-    p .later ∙ sets-eq xs a 0 (let f = p .ends in omega arith) ∙ ap (λ (k : ℕ). xs ++ drop k a) e
+    let f = p .ends in (
+      omega arith,
+      (p .later ∙ sets-eq xs a 0 (omega arith) ∙ ap (λ (k : ℕ). xs ++ drop k a) e, omega (arith, put-length p)),
+    )

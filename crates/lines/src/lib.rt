@@ -126,6 +126,7 @@ pub fn listing(boxes: usize, palette: &[u8], counts: &[u32], out: &mut [u8]) -> 
     requires { ⌜ Lent boxes (now palette) (now counts) (now out) ⌝ }
     ensures { λ r. ⌜ r ≡ length (listingOf boxes (now (palette .entry)) (now (counts .entry))) ⌝ }
     ensures { λ r. ⌜ now (out .exit) ≡ withText (listingOf boxes (now (palette .entry)) (now (counts .entry))) (now (out .entry)) ⌝ }
+    ensures { λ r. ⌜ r ≤ length (now (out .exit)) ⌝ }
 {
     let mut at = head(out, boxes as u64, total(boxes, counts));
     let mut i = 0;
@@ -141,6 +142,7 @@ pub fn refused(refusal: u8, out: &mut [u8]) -> usize
     requires { ⌜ lineRoom ≤ length (now out) ⌝ }
     ensures { λ r. ⌜ r ≡ length (refusedOf refusal) ⌝ }
     ensures { λ r. ⌜ now (out .exit) ≡ withText (refusedOf refusal) (now (out .entry)) ⌝ }
+    ensures { λ r. ⌜ r ≤ length (now (out .exit)) ⌝ }
 {
     let first = word(out, 0, b"refused ");
     let last = number(out, first, refusal as u64);

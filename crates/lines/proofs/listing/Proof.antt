@@ -7,7 +7,7 @@ use native.Mathlib.Numerals.{add-one}
 use borrow.Author.Needs.{needs}
 use Rattle.lines.specs.Text.{linesOf, listingOf}
 use Rattle.lines.specs.Put.{Put}
-use Rattle.lines.proofs.Putting.{put-none, put-more, put-length, put-start, put-whole}
+use Rattle.lines.proofs.Putting.{put-none, put-more, put-length, put-whole}
 use Rattle.lines.proofs.listing.Statement.{statement}
 use Rattle.lines.proofs.listing.Tie as tie
 
@@ -63,7 +63,7 @@ returns c =
     let lent = c .before .before .before .before .before .before .before .before .before .before .pre in
     let all : l .i ≡ c .before .before .before .before .before .before .before .before .before .before .args .boxes = omega arith in
     let text = rw (head .before .total .ensures, all) at (put-more (head .head .ensures .0) (l .inv .0)) in
-    (put-start text, put-whole text (omega (arith, lent .room)))
+    put-whole text (omega (arith, lent .room))
 
 pub listing-spec : {M : Type 1} → statement M
 listing-spec =

@@ -2,7 +2,7 @@
 -- Assumes nothing.
 use native.Mathlib.Omega.{arith}
 use Rattle.lines.specs.Text.{refusedOf, refusedWord, newline}
-use Rattle.lines.proofs.Putting.{put-more, put-length, put-start, put-whole}
+use Rattle.lines.proofs.Putting.{put-more, put-whole}
 use borrow.Author.Needs.{needs}
 use Rattle.lines.proofs.refused.Statement.{statement}
 use Rattle.lines.proofs.refused.Tie as tie
@@ -29,7 +29,7 @@ returns c =
     let number = end .before .before .before .before in
     let first = number .before .before .before .before in
     let all = put-more (put-more (first .word .ensures) (number .number .ensures .0)) (end .byte .ensures) in
-    (put-start all, put-whole all (omega (arith, end .byte .ensures .ends, number .number .ensures .1, first .word .ensures .ends)))
+    put-whole all (omega (arith, end .byte .ensures .ends, number .number .ensures .1, first .word .ensures .ends))
 
 pub refused-spec : {M : Type 1} → statement M
 refused-spec =
