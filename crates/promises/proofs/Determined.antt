@@ -42,6 +42,8 @@ use Rattle.rounds.proofs.cut_boxes as cut-boxes
 use Rattle.cutter.proofs.front as front
 use Rattle.mapper.proofs.map as map
 use Rattle.mapper.proofs.paint as paint
+use Rattle.lines.proofs.listing as listing
+use Rattle.lines.proofs.refused as refused
 use Rattle.cutter.proofs.cut as cut
 use Rattle.promises.specs.Determined.{Determines}
 
@@ -158,3 +160,10 @@ map-determined κs a r s x y p q = both (determined (p .0) (q .0)) (determined (
 
 pub paint-determined : Determines {A = ℕ × List ℕ} 3 paint.Kinds.ps paint.Kinds.r paint.Reads.Learnt (λ κs r e. (r, now (e .1 .1 .1 .1 .1 .0)))
 paint-determined κs a r s x y p q = both (determined (p .0) (q .0)) (determined (p .1) (q .1))
+
+-- ---- lines
+pub listing-determined : Determines {A = ℕ × List ℕ} 3 listing.Kinds.ps listing.Kinds.r listing.Reads.Learnt (λ κs r e. (r, now (e .1 .1 .1 .0)))
+listing-determined κs a r s x y p q = both (determined (p .0) (q .0)) (determined (p .1 .0) (q .1 .0))
+
+pub refused-determined : Determines {A = ℕ × List ℕ} 1 refused.Kinds.ps refused.Kinds.r refused.Reads.Learnt (λ κs r e. (r, now (e .1 .0)))
+refused-determined κs a r s x y p q = both (determined (p .0) (q .0)) (determined (p .1 .0) (q .1 .0))

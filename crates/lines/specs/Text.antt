@@ -1,0 +1,84 @@
+-- The text that the listing program writes (document 01, "The listing program"), as a list of bytes. Definitions only.
+use mathlib.Core.Bool.{cond}
+use mathlib.Core.List.{List, [], _∷_, _++_}
+use Prim.Native.Nat.{ℕ, zero, suc, _+_, _*_, _/_, _%_, _≤_}
+use lib.Dec.{ltb}
+use lib.ListN.{length, getD, drop}
+use Rattle.grid.specs.Range.{sumFrom}
+
+-- ---- decimals
+-- the digits of a number in ASCII, the most significant first, where it has no more than so many
+unfoldable pub digitsWithin : ℕ → ℕ → List ℕ
+digitsWithin zero n = []
+digitsWithin (suc most) n =
+    let front = digitsWithin most (n / 10) in
+    cond (ltb n 10) [] front ++ (48 + n % 10) ∷ []
+
+-- the digits of a number: it has no more of them than itself and one
+unfoldable pub decimalOf : ℕ → List ℕ
+decimalOf n = digitsWithin (suc n) n
+
+-- ---- lines
+-- the bytes of "boxes ", of " total " and of "refused "
+unfoldable pub boxesWord : List ℕ
+boxesWord = 98 ∷ 111 ∷ 120 ∷ 101 ∷ 115 ∷ 32 ∷ []
+
+unfoldable pub totalWord : List ℕ
+totalWord = 32 ∷ 116 ∷ 111 ∷ 116 ∷ 97 ∷ 108 ∷ 32 ∷ []
+
+unfoldable pub refusedWord : List ℕ
+refusedWord = 114 ∷ 101 ∷ 102 ∷ 117 ∷ 115 ∷ 101 ∷ 100 ∷ 32 ∷ []
+
+unfoldable pub newline : List ℕ
+newline = 10 ∷ []
+
+-- "boxes B total T"
+unfoldable pub headOf : ℕ → ℕ → List ℕ
+headOf boxes total = boxesWord ++ decimalOf boxes ++ totalWord ++ decimalOf total ++ newline
+
+-- a number after a space
+unfoldable pub fieldOf : ℕ → List ℕ
+fieldOf n = (32 ∷ []) ++ decimalOf n
+
+-- "Each line after the first gives index, red, green, blue, count"
+unfoldable pub lineOf : ℕ → ℕ → ℕ → ℕ → ℕ → List ℕ
+lineOf index red green blue count =
+    decimalOf index ++ fieldOf red ++ fieldOf green ++ fieldOf blue ++ fieldOf count ++ newline
+
+-- the line of box i
+abbrev pub lineAt : List ℕ → List ℕ → ℕ → List ℕ
+lineAt palette counts i =
+    lineOf i (getD palette (3 * i) 0) (getD palette (3 * i + 1) 0) (getD palette (3 * i + 2) 0) (getD counts i 0)
+
+-- the lines of the first boxes, in order
+unfoldable pub linesOf : List ℕ → List ℕ → ℕ → List ℕ
+linesOf palette counts zero = []
+linesOf palette counts (suc n) = linesOf palette counts n ++ lineAt palette counts n
+
+-- the weight of the first boxes together
+unfoldable pub totalOf : List ℕ → ℕ → ℕ
+totalOf counts n = sumFrom 0 n (λ i. getD counts i 0)
+
+-- the complete text for a number of boxes, the palette and the counts
+unfoldable pub listingOf : ℕ → List ℕ → List ℕ → List ℕ
+listingOf boxes palette counts = headOf boxes (totalOf counts boxes) ++ linesOf palette counts boxes
+
+-- "On a refusal it writes only `refused N`"
+unfoldable pub refusedOf : ℕ → List ℕ
+refusedOf number = refusedWord ++ decimalOf number ++ newline
+
+-- a lent buffer with a text at its start, and after it what stood there
+unfoldable pub withText : List ℕ → List ℕ → List ℕ
+withText text old = text ++ drop (length text) old
+
+-- ---- what the code is given
+-- every line has room in so many bytes
+abbrev pub lineRoom : ℕ
+lineRoom = 128
+
+-- boxes as a cut finds them, each with its colour and its count, and room for the lines
+pub record Lent (boxes : ℕ) (palette counts out : List ℕ) : Type 0 where
+  pub most : boxes ≤ 256
+  pub colours : 3 * boxes ≤ length palette
+  pub counted : boxes ≤ length counts
+  pub room : 128 * (boxes + 1) ≤ length out

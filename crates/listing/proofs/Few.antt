@@ -1,0 +1,37 @@
+-- A cut finds no more boxes than it was asked for.
+-- Assumes nothing.
+use mathlib.Core.Path.{_≡_}
+use mathlib.Core.List.{List}
+use Prim.Native.Nat.{ℕ, zero, suc, _≤_}
+use native.Mathlib.Omega.{arith}
+use Rattle.grid.specs.declared.Grid.{Grid}
+use Rattle.grid.specs.declared.Chosen.{Chosen}
+use Rattle.grid.specs.declared.Chosen.the-variants as chosen
+use Rattle.grid.specs.Answer.{whenDone}
+use Rattle.grid.specs.Grid.{gridOf, onGrid}
+use Rattle.table.specs.Cell.{wide}
+use Rattle.table.specs.Sound.{limit}
+use Rattle.rounds.specs.Loop.{boxesOf}
+use Rattle.rounds.proofs.Filled.{heap-most}
+use Rattle.cutter.specs.declared.CutRecord.{CutRecord}
+use Rattle.cutter.specs.Cut.{Buffers, Lengths, lengthsOf, cutNumberOn, refusedRecord, doneRecord, recordOn, cutRecord}
+
+module _ (k : ℕ) (least : 1 ≤ k) (most : k ≤ 256) (t : List ℕ) where
+  few-on : (g : Grid) (l : Lengths) → recordOn g k t l .boxes ≤ k
+  unfolding recordOn whenDone doneRecord refusedRecord boxesOf
+  few-on g l = go (cutNumberOn limit g k t l)
+    where
+      go : (n : ℕ) → whenDone n (doneRecord (boxesOf g (wide t) k)) (refusedRecord n) .boxes ≤ k
+      go zero = heap-most g (wide t) k least most
+      go (suc n) = omega arith
+
+  few-cut : (b1 b2 b3 : ℕ) (b : Buffers) → cutRecord b1 b2 b3 k t b .boxes ≤ k
+  unfolding cutRecord onGrid refusedRecord
+  few-cut b1 b2 b3 b = go (gridOf b1 b2 b3)
+    where
+      go : (c : Chosen) → onGrid c (refusedRecord 1) (λ g. recordOn g k t (lengthsOf b)) .boxes ≤ k
+      go (chosen.Of g) = few-on g (lengthsOf b)
+      go chosen.Refused = omega arith
+
+  pub few : (b1 b2 b3 : ℕ) (b : Buffers) {r : CutRecord} → r ≡ cutRecord b1 b2 b3 k t b → r .boxes ≤ k
+  few b1 b2 b3 b e = rw e (few-cut b1 b2 b3 b)

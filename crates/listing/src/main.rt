@@ -1,0 +1,151 @@
+// Lists the palette of the colours on standard input, which are bare RGB triples: grid 8, 8, 8 and k = 16.
+use libc::STDERR_FILENO;
+use libc::STDIN_FILENO;
+use libc::STDOUT_FILENO;
+ghost use Prim.Native.Nat.{_+_, _≤_};
+ghost use lib.ListN.{length};
+
+// ---- Reading
+
+// The bytes at the start of a batch, and whether a read failed, which is not the end of the input.
+struct Batch {
+    bytes: usize,
+    failed: bool,
+}
+
+// One read, behind the bytes that are there. A read that fails has no bytes.
+fn read_behind(space: &mut [u8], there: usize) -> Batch
+    requires { ⌜ there ≤ length (now space) ⌝ }
+    ensures { λ r. ⌜ there + r .bytes ≤ length (now (space .exit)) ⌝ }
+{
+    let rest = &mut space[there..];
+    let got = libc::read(STDIN_FILENO, rest);
+    Batch {
+        bytes: io::count(got, rest),
+        failed: got < 0,
+    }
+}
+
+// Reads until the batch is full or the input ends, so that only the last batch can split a pixel.
+fn fill(space: &mut [u8]) -> Batch
+    ensures { λ r. ⌜ r .bytes ≤ length (now (space .exit)) ⌝ }
+{
+    let mut n = 0;
+    while n < space.len() {
+        let more = read_behind(space, n);
+        if more.bytes == 0 {
+            return Batch {
+                bytes: n,
+                failed: more.failed,
+            };
+        }
+        n = n + more.bytes;
+    }
+    Batch {
+        bytes: n,
+        failed: false,
+    }
+}
+
+// The lowest number of the loads so far, 0 where none was refused; whether there may be more to read; and whether a
+// read failed.
+struct Progress {
+    number: u8,
+    more: bool,
+    failed: bool,
+}
+
+// The lower of two numbers, of which 0 is none.
+fn lower(number: u8, other: u8) -> u8 {
+    if number == 0 {
+        return other;
+    }
+    if other == 0 {
+        return number;
+    }
+    if other < number { other } else { number }
+}
+
+// Loads the next 16,384 pixels. A batch that is not full is the last one, and so is one whose reading failed.
+fn load_batch(table: &mut [u64], so_far: u8) -> Progress {
+    let mut space = [0; 49152];
+    let batch = fill(&mut space);
+    let n = batch.bytes;
+    let number = loader::load(8, 8, 8, table, &space[0..n], false, &[0; 1]);
+    Progress {
+        number: lower(so_far, number),
+        more: n == 49152,
+        failed: batch.failed,
+    }
+}
+
+// Loads all of the input, past a refusal too, since stray bytes at its end give a lower number than a total that
+// is too large. A proved loop has to end, so it counts its turns down, from a number that no run uses up.
+fn load_all(table: &mut [u64]) -> Progress {
+    let mut so_far = load_batch(table, 0);
+    let mut turns = u64::MAX;
+    while turns > 0 && so_far.more {
+        so_far = load_batch(table, so_far.number);
+        turns = turns - 1;
+    }
+    so_far
+}
+
+// ---- Writing
+
+fn complain(message: &[u8]) {
+    io::write_all(STDERR_FILENO, b"listing: ");
+    io::write_all(STDERR_FILENO, message);
+    io::write_all(STDERR_FILENO, b"\n");
+}
+
+fn write(text: &[u8]) {
+    if !io::write_all(STDOUT_FILENO, text) {
+        complain(b"standard output could not be written");
+    }
+}
+
+fn refuse(number: u8) {
+    let mut text = [0; 128];
+    let n = lines::refused(number, &mut text);
+    write(&text[0..n]);
+}
+
+fn list(table: &[u64]) {
+    let mut work = [0; 2560];
+    let mut palette = [0; 48];
+    let mut counts = [0; 16];
+    let mut map = [0; 512];
+    let done = cutter::cut(
+        8,
+        8,
+        8,
+        16,
+        table,
+        &mut work,
+        &mut palette,
+        &mut counts,
+        &mut map,
+    );
+    if done.number != 0 {
+        refuse(done.number);
+        return;
+    }
+    let mut text = [0; 2176];
+    let n = lines::listing(done.boxes, &palette, &counts, &mut text);
+    write(&text[0..n]);
+}
+
+fn main() {
+    let mut table = [0; 2560];
+    let input = load_all(&mut table);
+    if input.failed {
+        complain(b"standard input could not be read");
+        return;
+    }
+    if input.number != 0 {
+        refuse(input.number);
+        return;
+    }
+    list(&table);
+}
