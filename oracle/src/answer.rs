@@ -1,0 +1,178 @@
+//! Asks the original for its answer to a whole input.
+use crate::{
+    IndexedColorMap, PaletteCounts, PaletteSize,
+    original::u8::{BinnerU8x3, WuU8x3},
+};
+
+/// A box with its spread.
+#[derive(Clone, Copy, Debug)]
+pub struct BoxSpread {
+    pub min: [u8; 3],
+    pub max: [u8; 3],
+    pub spread: f64,
+}
+
+impl PartialEq for BoxSpread {
+    /// Spreads are held to each other bit for bit.
+    fn eq(&self, other: &Self) -> bool {
+        (self.min, self.max, self.spread.to_bits())
+            == (other.min, other.max, other.spread.to_bits())
+    }
+}
+
+/// All that the original says of one input.
+#[derive(Clone, Debug, PartialEq)]
+pub struct Answer {
+    pub moments: Vec<u64>,
+    pub boxes: Vec<BoxSpread>,
+    pub palette: Vec<[u8; 3]>,
+    pub counts: Vec<u32>,
+    pub map: Vec<u8>,
+}
+
+/// A whole input: colours with their weights.
+#[derive(Clone, Debug, Default)]
+pub struct Input {
+    pub colors: Vec<[u8; 3]>,
+    pub weights: Vec<u32>,
+}
+
+impl Input {
+    pub fn total(&self) -> u64 {
+        self.weights.iter().map(|&w| u64::from(w)).sum()
+    }
+
+    /// Each colour as often as its weight says.
+    fn pixels(&self) -> Vec<[u8; 3]> {
+        let pairs = self.colors.iter().zip(&self.weights);
+        pairs
+            .flat_map(|(&c, &w)| std::iter::repeat_n(c, w as usize))
+            .collect()
+    }
+}
+
+fn shift(size: usize) -> u32 {
+    8 - size.ilog2()
+}
+
+/// What one run of the original says, by all of its ways out, which have to agree.
+fn of_run<const B1: usize, const B2: usize, const B3: usize>(
+    run: &WuU8x3<[u8; 3], B1, B2, B3>,
+    k: PaletteSize,
+) -> Answer {
+    let boxes = run.boxes(k).into_iter().map(|b| BoxSpread {
+        min: b.0.min,
+        max: b.0.max,
+        spread: b.1,
+    });
+    let (color_map, counts) = run.color_map_and_counts(k);
+    let palette = run.palette(k);
+    assert!(run.palette_and_counts(k) == (palette.clone(), counts.clone()));
+    assert!(*color_map.palette() == *palette);
+
+    let mut map = Vec::with_capacity(B1 * B2 * B3);
+    for r in 0..B1 {
+        for g in 0..B2 {
+            for b in 0..B3 {
+                let color = [r << shift(B1), g << shift(B2), b << shift(B3)].map(|c| c as u8);
+                map.push(color_map.palette_index(&color));
+            }
+        }
+    }
+    Answer {
+        moments: run.moments(),
+        boxes: boxes.collect(),
+        palette: palette.to_vec(),
+        counts: counts.to_vec(),
+        map,
+    }
+}
+
+/// The histogram and the answer, with weights and, where the pixels are few enough, without: the two have to agree.
+/// There is none where the total is 0.
+fn of_grid<const B1: usize, const B2: usize, const B3: usize>(
+    input: &Input,
+    k: PaletteSize,
+    pixels: u64,
+) -> Option<(Vec<u64>, Answer)> {
+    let binner = BinnerU8x3::<B1, B2, B3>::new();
+    let counts = PaletteCounts::new(input.colors.clone(), input.weights.clone()).expect("counts");
+    let with = of_run(&WuU8x3::run_palette_counts(&counts, binner)?, k);
+    let table = WuU8x3::<_, B1, B2, B3>::table(&input.colors, &input.weights, counts.total_count());
+    if input.total() <= pixels {
+        let run = WuU8x3::run_slice(&input.pixels(), binner).expect("pixels");
+        assert!(of_run(&run, k) == with, "with and without weights");
+    }
+    Some((table, with))
+}
+
+type OfGrid = fn(&Input, PaletteSize, u64) -> Option<(Vec<u64>, Answer)>;
+
+/// The grids of the judge: all 343, where the package is built with `all-grids`.
+#[cfg(feature = "all-grids")]
+mod grids {
+    use super::{OfGrid, of_grid};
+
+    macro_rules! by_size {
+        ($size: expr, $function: ident $(, $earlier: ident)*) => {
+            match $size {
+                2 => $function::<$($earlier,)* 2>,
+                4 => $function::<$($earlier,)* 4>,
+                8 => $function::<$($earlier,)* 8>,
+                16 => $function::<$($earlier,)* 16>,
+                32 => $function::<$($earlier,)* 32>,
+                64 => $function::<$($earlier,)* 64>,
+                128 => $function::<$($earlier,)* 128>,
+                _ => return None,
+            }
+        };
+    }
+
+    fn of_two<const B1: usize, const B2: usize>(b3: usize) -> Option<OfGrid> {
+        Some(by_size!(b3, of_grid, B1, B2))
+    }
+
+    fn of_one<const B1: usize>(b2: usize, b3: usize) -> Option<OfGrid> {
+        let with_two: fn(usize) -> Option<OfGrid> = by_size!(b2, of_two, B1);
+        with_two(b3)
+    }
+
+    /// The original at a grid, if its sizes are among the seven.
+    pub fn at_grid([b1, b2, b3]: [usize; 3]) -> Option<OfGrid> {
+        let with_one: fn(usize, usize) -> Option<OfGrid> = by_size!(b1, of_one);
+        with_one(b2, b3)
+    }
+}
+
+/// The grids of the judge: a quick set, of at most 512 bins, with each of the seven sizes in each dimension.
+#[cfg(not(feature = "all-grids"))]
+mod grids {
+    use super::{OfGrid, of_grid};
+
+    macro_rules! quick {
+        ($($b1: literal $b2: literal $b3: literal,)*) => {
+            /// The original at a grid, if it is one of the set.
+            pub fn at_grid(grid: [usize; 3]) -> Option<OfGrid> {
+                match grid {
+                    $([$b1, $b2, $b3] => Some(of_grid::<$b1, $b2, $b3>),)*
+                    _ => None,
+                }
+            }
+        };
+    }
+
+    quick! {
+        2 2 2, 2 2 4, 2 4 2, 4 2 2, 2 4 8, 8 4 2, 4 4 4, 8 2 4, 4 8 8, 8 8 8,
+        16 4 8, 2 16 2, 4 2 16, 2 2 32, 4 32 4, 32 2 8, 64 2 4, 2 64 2, 4 2 64, 128 2 2, 2 128 2, 2 2 128,
+    }
+}
+
+pub use grids::*;
+
+/// The grids of the judge that have at most so many bins.
+pub fn grids(most: usize) -> Vec<[usize; 3]> {
+    let sizes = [2, 4, 8, 16, 32, 64, 128];
+    let all = (0..343).map(|i| [sizes[i / 49], sizes[i / 7 % 7], sizes[i % 7]]);
+    all.filter(|g| g.iter().product::<usize>() <= most && at_grid(*g).is_some())
+        .collect()
+}
