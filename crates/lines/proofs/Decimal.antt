@@ -1,11 +1,11 @@
 -- Laws of decimal digits: a number by its last digit, how many digits there are, and their value.
 -- Assumes nothing.
 use mathlib.Core.Path.{_≡_, refl, sym, ap, _∙_}
-use mathlib.Core.Bool.{true, false, cond}
 use mathlib.Core.List.{List, [], _∷_, _++_}
 use Prim.Native.Nat.{ℕ, zero, suc, _+_, _-_, _*_, _/_, _%_, _^_, _≤_, _<_}
 use native.Mathlib.Omega.{arith}
 use native.Mathlib.Nat.{mod-lt, div-lt-self, div-lt-iff-lt-mul, div-add-mod', lt-of-not-le, pow-suc}
+use native.Mathlib.Numerals.{add-one}
 use native.Mathlib.Decide.{decLe}
 use borrow.Author.Tests.{lt-ltb, le-ltb}
 use lib.ListN.{length, length-append}
@@ -78,6 +78,20 @@ decimal-length = by-tenths (λ n. (k : ℕ) → n < 10 ^ suc k → length (decim
 -- no u64 has more than 20
 pub decimal-20 : (n : ℕ) → n < 2 ^ 64 → length (decimalOf n) ≤ 20
 decimal-20 n h = decimal-length n 19 (omega arith)
+
+-- and a number has no more than it needs: one digit less would be too few
+pub decimal-fewest : (n : ℕ) → 0 < n → 10 ^ length (decimalOf n) ≤ 10 * n
+decimal-fewest = by-tenths (λ n. 0 < n → 10 ^ length (decimalOf n) ≤ 10 * n) small large
+  where
+    small : (n : ℕ) → n < 10 → 0 < n → 10 ^ length (decimalOf n) ≤ 10 * n
+    small n h some = rw (decimal-one n h) (omega arith)
+
+    large : (n : ℕ) → 10 ≤ n → (0 < n / 10 → 10 ^ length (decimalOf (n / 10)) ≤ 10 * (n / 10)) → 0 < n → 10 ^ length (decimalOf n) ≤ 10 * n
+    large n h front some =
+        let d = div-add-mod' n 10 in
+        let m = mod-lt n {m = 10} (omega arith) in
+        let f = front (omega arith) in
+        rw (decimal-more n h, length-append, add-one, pow-suc) (omega arith)
 
 -- ---- their value
 -- the number that digits say, behind a number that was said before

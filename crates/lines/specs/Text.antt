@@ -81,4 +81,4 @@ pub record Lent (boxes : ℕ) (palette counts out : List ℕ) : Type 0 where
   pub most : boxes ≤ 256
   pub colours : 3 * boxes ≤ length palette
   pub counted : boxes ≤ length counts
-  pub room : 128 * (boxes + 1) ≤ length out
+  pub room : lineRoom * (boxes + 1) ≤ length out

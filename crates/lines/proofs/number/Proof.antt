@@ -1,7 +1,6 @@
 -- `lines::number` meets its contract: no u64 has more than 20 digits.
 -- Assumes nothing.
 use native.Mathlib.Omega.{arith}
-use Rattle.lines.specs.Text.{decimalOf}
 use Rattle.lines.proofs.Decimal.{decimal-20}
 use borrow.Author.Needs.{needs}
 use Rattle.lines.proofs.number.Statement.{statement}
