@@ -80,10 +80,61 @@ module _ (first n : ℕ) (f : ℕ → ℕ) (old : List ℕ) where
       (λ a b. within i h a b ∙ ap (λ (t : Bool). cond t (f i) (getD old i 0)) (sym (among-yes first n i a b)))
       (λ a. after i h a ∙ ap (λ (t : Bool). cond t (f i) (getD old i 0)) (sym (among-after first n i a))))
 
+-- ---- one band after the other
+module _ (f : ℕ → ℕ) (old : List ℕ) where
+  pub band-empty : (first : ℕ) → old ≡ writeBand first 0 f old
+  band-empty first = band-is first 0 f old old refl (λ i h a. refl) (λ i h a b. absurd (omega arith)) (λ i h a. refl)
+
+  pub band-one : (i : ℕ) → i < length old → set old i (f i) ≡ writeBand i 1 f old
+  band-one i h =
+      band-is i 1 f old (set old i (f i)) (length-set old i (f i))
+      (λ k l a. getD-set-other old i k (f i) 0 (λ e. absurd (omega (arith, a, e))))
+      (λ k l a b. subst (λ (n : ℕ). getD (set old i (f i)) n 0 ≡ f n) (here k a b) (getD-set-same old i (f i) 0 h))
+      (λ k l a. getD-set-other old i k (f i) 0 (λ e. absurd (omega (arith, a, e))))
+    where
+      here : (k : ℕ) → i ≤ k → k < i + 1 → i ≡ k
+      here k a b = omega arith
+
+  -- two bands, the second where the first ends, are one
+  pub band-join : (first n m : ℕ) → writeBand (first + n) m f (writeBand first n f old) ≡ writeBand first (n + m) f old
+  band-join first n m =
+      let half = writeBand first n f old in
+      let same = band-length first n f old in
+      band-is first (n + m) f old (writeBand (first + n) m f half) (band-length (first + n) m f half ∙ same)
+      (λ i h a. band-before (first + n) m f half i (rw same h) (omega arith) ∙ band-before first n f old i h a)
+      (λ i h a b. by-place {P = getD (writeBand (first + n) m f half) i 0 ≡ f i} (first + n) m i
+      (λ l. band-before (first + n) m f half i (rw same h) l ∙ band-within first n f old i h a l)
+      (λ l k. band-within (first + n) m f half i (rw same h) l k)
+      (λ l. absurd (omega (arith, b, l))))
+      (λ i h a. band-after (first + n) m f half i (rw same h) (omega arith) ∙ band-after first n f old i h (omega arith))
+
+module _ (f : ℕ → ℕ) (old : List ℕ) (first : ℕ) where
+  -- one place more
+  pub band-next : (n : ℕ) → first + n < length old → set (writeBand first n f old) (first + n) (f (first + n)) ≡ writeBand first (n + 1) f old
+  band-next n h = band-one f (writeBand first n f old) (first + n) (rw (band-length first n f old) h) ∙ band-join f old first n 1
+
+  pub band-four : first + 3 < length old → set (set (set (set old first (f first)) (first + 1) (f (first + 1))) (first + 2) (f (first + 2))) (first + 3) (f (first + 3)) ≡ writeBand first 4 f old
+  band-four h =
+      ap (λ (l : List ℕ). set (set (set l (first + 1) (f (first + 1))) (first + 2) (f (first + 2))) (first + 3) (f (first + 3))) (band-one f old first (omega arith))
+      ∙ ap (λ (l : List ℕ). set (set l (first + 2) (f (first + 2))) (first + 3) (f (first + 3))) (band-next 1 (omega arith))
+      ∙ ap (λ (l : List ℕ). set l (first + 3) (f (first + 3))) (band-next 2 (omega arith))
+      ∙ band-next 3 h
+
+-- a band of f is a band of whatever agrees with f there
+pub band-same : (first n : ℕ) (f h : ℕ → ℕ) (old : List ℕ) → ((i : ℕ) → first ≤ i → i < first + n → f i ≡ h i) → writeBand first n f old ≡ writeBand first n h old
+band-same first n f h old same =
+    band-is first n h old (writeBand first n f old) (band-length first n f old)
+    (band-before first n f old)
+    (λ i l a b. band-within first n f old i l a b ∙ same i a b)
+    (band-after first n f old)
+
 -- ---- a band from the front, as a loop writes it
 module _ (f : ℕ → ℕ) (old : List ℕ) where
   pub band-none : old ≡ writeBand 0 0 f old
   band-none = band-is 0 0 f old old refl (λ i h a. refl) (λ i h a b. absurd (omega arith)) (λ i h a. refl)
+
+  pub band-on : (n m : ℕ) → writeBand n m f (writeBand 0 n f old) ≡ writeBand 0 (n + m) f old
+  band-on n m = ap (λ (k : ℕ). writeBand k m f (writeBand 0 n f old)) (sym (zero-add n)) ∙ band-join f old 0 n m
 
   pub band-more : (n : ℕ) → n < length old → set (writeBand 0 n f old) n (f n) ≡ writeBand 0 (n + 1) f old
   band-more n h =

@@ -37,6 +37,11 @@ pub part-index : (g : Grid) (map frame : List ℕ) (first k i : ℕ) → 3 * i +
 unfolding indexAt
 part-index g map frame first k i h = ap (λ (x : Rgb). getD map (colourPlace g x) 0) (part-colour first k i frame h)
 
+-- a pixel of another's colour has its index
+pub same-index : (g : Grid) (map part : List ℕ) (i k : ℕ) → colourAt part k ≡ colourAt part i → indexAt g map part k ≡ indexAt g map part i
+unfolding indexAt
+same-index g map part i k alike = ap (λ (x : Rgb). getD map (colourPlace g x) 0) alike
+
 -- ---- painted bytes
 -- byte c of pixel i
 pub paint-byte : (g : Grid) (map palette frame : List ℕ) (i c : ℕ) → c < 3 → paintAt g map palette frame (3 * i + c) ≡ getD palette (3 * indexAt g map frame i + c) 0
