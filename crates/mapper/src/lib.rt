@@ -2,11 +2,11 @@
 use grid::Chosen;
 use grid::Grid;
 use grid::Rgb;
+use grid::bin_of;
 use grid::bins;
 use grid::colour;
 use grid::flat;
 use grid::grid_of;
-use grid::place_by_steps;
 use grid::steps;
 ghost use mathlib.Core.Path.{_≡_};
 ghost use Prim.Native.Nat.{ℕ, _+_, _*_, _/_, _%_, _≤_, _<_};
@@ -45,7 +45,9 @@ fn index_of(
     requires { ⌜ StepsOf g (now t1) (now t2) (now t3) × MapOf g (now map) ⌝ }
     ensures { λ r. ⌜ r ≡ getD (now (map .entry)) (colourPlace g x) 0 ⌝ }
 {
-    let p = place_by_steps(t1, t2, t3, x);
+    let i1 = x.c1 as usize;
+    let i2 = x.c2 as usize;
+    let p = t1[i1] + t2[i2] + bin_of(g.s3, x.c3);
     map[p]
 }
 
