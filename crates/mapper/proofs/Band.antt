@@ -6,7 +6,7 @@ use mathlib.Core.List.{List, _++_}
 use Prim.Native.Nat.{ℕ, _+_, _-_, _≤_, _<_}
 use native.Mathlib.Nat.{zero-add, lt-of-not-le}
 use native.Mathlib.Omega.{arith}
-use native.Mathlib.Decide.{ℕ-discrete, decLe}
+use native.Mathlib.Decide.{decLe}
 use borrow.Author.Tests.{le-leb, lt-leb, lt-ltb, le-ltb, leb-true, leb-false, ltb-true, ltb-false}
 use borrow.Rule.Slice.PartMut.{putMid, same-len-mid, mid-len, take-put, drop-put}
 use lib.Dec.{leb, ltb}
@@ -128,34 +128,10 @@ band-same first n f h old same =
     (λ i l a b. band-within first n f old i l a b ∙ same i a b)
     (band-after first n f old)
 
--- ---- a band from the front, as a loop writes it
+-- ---- a band from the front
 module _ (f : ℕ → ℕ) (old : List ℕ) where
-  pub band-none : old ≡ writeBand 0 0 f old
-  band-none = band-is 0 0 f old old refl (λ i h a. refl) (λ i h a b. absurd (omega arith)) (λ i h a. refl)
-
   pub band-on : (n m : ℕ) → writeBand n m f (writeBand 0 n f old) ≡ writeBand 0 (n + m) f old
   band-on n m = ap (λ (k : ℕ). writeBand k m f (writeBand 0 n f old)) (sym (zero-add n)) ∙ band-join f old 0 n m
-
-  pub band-more : (n : ℕ) → n < length old → set (writeBand 0 n f old) n (f n) ≡ writeBand 0 (n + 1) f old
-  band-more n h =
-      band-is 0 (n + 1) f old (set (writeBand 0 n f old) n (f n)) (length-set (writeBand 0 n f old) n (f n) ∙ band-length 0 n f old)
-      (λ i l a. absurd (omega arith))
-      (λ i l a b. go i l b (ℕ-discrete i n))
-      (λ i l a. getD-set-other (writeBand 0 n f old) n i (f n) 0 (λ e. absurd (omega (arith, a, e))) ∙ band-after 0 n f old i l (omega arith))
-    where
-      go : (i : ℕ) → i < length old → i < 0 + (n + 1) → Dec (i ≡ n) → getD (set (writeBand 0 n f old) n (f n)) i 0 ≡ f i
-      go i l b (yes e) = rw e (getD-set-same (writeBand 0 n f old) n (f n) 0 (rw (band-length 0 n f old) h))
-      go i l b (no d) = getD-set-other (writeBand 0 n f old) n i (f n) 0 d ∙ band-within 0 n f old i l (omega arith) (omega arith)
-
-  pub band-three : (n : ℕ) → n + 2 < length old → set (set (set (writeBand 0 n f old) n (f n)) (n + 1) (f (n + 1))) (n + 2) (f (n + 2)) ≡ writeBand 0 (n + 3) f old
-  band-three n h =
-      let two : (n + 1) + 1 ≡ n + 2 = omega arith in
-      let three : (n + 2) + 1 ≡ n + 3 = omega arith in
-      ap (λ (l : List ℕ). set (set l (n + 1) (f (n + 1))) (n + 2) (f (n + 2))) (band-more n (omega arith))
-      ∙ ap (λ (l : List ℕ). set l (n + 2) (f (n + 2))) (band-more (n + 1) (omega arith))
-      ∙ ap (λ (k : ℕ). set (writeBand 0 k f old) (n + 2) (f (n + 2))) two
-      ∙ band-more (n + 2) h
-      ∙ ap (λ (k : ℕ). writeBand 0 k f old) three
 
   pub band-whole : writeBand 0 (length old) f old ≡ listFrom 0 (length old) f
   band-whole =

@@ -6,7 +6,7 @@ use native.Mathlib.Omega.{arith}
 use denote.Ref.{now}
 use lib.ListN.{length}
 use Rattle.mapper.specs.Band.{indexAt, writeBand}
-use Rattle.mapper.proofs.Band.{band-length, band-none, band-on, band-whole}
+use Rattle.mapper.proofs.Band.{band-length, band-empty, band-on, band-whole}
 use Rattle.mapper.proofs.map_part.Statement.{statement}
 use Rattle.mapper.proofs.map_part.Tie as tie
 
@@ -22,7 +22,7 @@ same : (k : tie.At-loop Inv-loop μ-loop) → length (k .loop .indices) ≡ leng
 same k = ap length (k .loop .inv .1) ∙ band-length _ _ _ _
 
 loop-holds : tie.Need-loop-holds Inv-loop μ-loop
-loop-holds c = (omega arith, band-none _ _)
+loop-holds c = (omega arith, band-empty _ _ _)
 
 sub-loop : tie.Need-sub-loop Inv-loop μ-loop
 sub-loop c = omega arith
