@@ -1,7 +1,7 @@
 /*
- * Every call of seluvava.h, held to document 01: the worked boxes P1 to P10, every number of every call alone and with
- * each other one, lengths one off, NULL with length 0, bands, and batches and frames of every length up to 200.
- * What a lent buffer must hold afterwards is written down here once more, in C, from the same rules.
+ * Every call of seluvava.h, held to document 01: the worked boxes P1 to P10, every number of every call, alone and two
+ * at a time, lengths one off, NULL with length 0, bands, and batches and frames of every length up to 200.
+ * What a lent buffer must hold afterwards is said here once more, in C, by the same rules.
  */
 #define _DEFAULT_SOURCE
 #include "seluvava.h"
@@ -32,18 +32,18 @@ struct asked {
     uint8_t frame[3 * PIXELS], indices[PIXELS];
 };
 
-#define BUFFER(name)                                                                                                   \
-    {                                                                                                                  \
-        #name, offsetof(struct asked, name), sizeof(((struct asked *)0)->name[0]), sizeof(((struct asked *)0)->name)   \
-    }
+#define AT(member) offsetof(struct asked, member), sizeof(((struct asked *)0)->member)
 
 static const struct {
     const char *name;
-    size_t at, element, room;
+    size_t at, room, element;
 } buffers[] = {
-    [TABLE] = BUFFER(table),     [SECOND] = BUFFER(second),   [WORK] = BUFFER(work),       [COLOURS] = BUFFER(colours),
-    [WEIGHTS] = BUFFER(weights), [PALETTE] = BUFFER(palette), [COUNTS] = BUFFER(counts),   [MAP] = BUFFER(map),
-    [BOXES] = BUFFER(boxes),     [SPREADS] = BUFFER(spreads), [FRAME] = BUFFER(frame),     [INDICES] = BUFFER(indices),
+    [TABLE] = {"table", AT(table), 8},       [SECOND] = {"second", AT(second), 8},
+    [WORK] = {"work", AT(work), 8},          [COLOURS] = {"colours", AT(colours), 1},
+    [WEIGHTS] = {"weights", AT(weights), 4}, [PALETTE] = {"palette", AT(palette), 1},
+    [COUNTS] = {"counts", AT(counts), 4},    [MAP] = {"map", AT(map), 1},
+    [BOXES] = {"boxes", AT(boxes), 1},       [SPREADS] = {"spreads", AT(spreads), 8},
+    [FRAME] = {"frame", AT(frame), 1},       [INDICES] = {"indices", AT(indices), 1},
 };
 
 /* Which buffers a call is lent, and which of them it may change. */
@@ -62,7 +62,7 @@ static const struct {
     [PAINT] = {"paint", BIT(MAP) | BIT(PALETTE) | BIT(FRAME), BIT(FRAME)},
 };
 
-static struct seluvava_cut_answer made(enum call call, const struct asked *q, void *const *at)
+static struct seluvava_cut_answer answer_of(enum call call, const struct asked *q, void *const *at)
 {
     struct seluvava_cut_answer answer = {0, 0};
     const size_t b1 = q->b1, b2 = q->b2, b3 = q->b3, *length = q->length;
@@ -136,9 +136,10 @@ static size_t box_cut(struct asked *q, size_t i)
 {
     const uint8_t *box = q->boxes + 6 * i;
     uint64_t sum[5];
+    check(box[0] < box[1] && box[2] < box[3] && box[4] < box[5], "box %zu has no bin", i);
     check(box[1] <= q->b1 && box[3] <= q->b2 && box[5] <= q->b3, "box %zu is not inside the grid", i);
     box_sum(q, box, sum);
-    check(sum[0] > 0, "box %zu is empty", i);
+    check(sum[0] > 0, "box %zu has no weight", i);
     check(q->spreads[i] == (q->k == 1 ? INFINITY : spread(sum)) || q->spreads[i] == 0, "box %zu has another spread", i);
     for (size_t d = 0; d < 3; d++) q->palette[3 * i + d] = (uint8_t)(sum[1 + d] / sum[0]);
     q->counts[i] = (uint32_t)sum[0];
@@ -157,7 +158,7 @@ static void cut(struct asked *q, size_t boxes, const uint8_t *bounds, const doub
     memcpy(q->spreads, spreads, boxes * sizeof *spreads);
     memset(q->map, 255, q->length[MAP]);
     for (size_t i = 0; i < boxes; i++) bins += box_cut(q, i);
-    check(bins == q->length[MAP] && (boxes > 255 || !memchr(q->map, 255, bins)), "a bin lies in no box, or in two");
+    check(bins == q->length[MAP] && !memchr(q->map, 255, bins), "a bin lies in no box, or in two");
     for (size_t p = 0; p < bins; p++) {
         const uint8_t below[6] = {0, (uint8_t)(p / (q->b2 * q->b3) + 1), 0, (uint8_t)(p / q->b3 % q->b2 + 1),
                                   0, (uint8_t)(p % q->b3 + 1)};
@@ -178,9 +179,9 @@ static void painted(struct asked *q)
 
 /* ---- Lending and asking */
 
-/* Exactly as long as lent, for AddressSanitizer; with its end, or its start, at a page that nobody may touch. */
+/* A buffer has no byte that is not lent, for AddressSanitizer; or it ends, or starts, at a page that is shut. */
 enum way { EXACT, GUARD_BEHIND, GUARD_BEFORE, WAYS };
-static const char *const ways[] = {"no byte more lent", "a guard page behind", "a guard page before"};
+static const char *const ways[] = {"lent exactly", "lent with a guard page behind", "lent with a guard page before"};
 static enum way way;
 
 /* One page for each buffer, with a guard page on either side. */
@@ -227,7 +228,7 @@ static size_t ask(enum call call, struct asked *q, unsigned number, const char *
         if (calls[call].lent & BIT(b))
             at[b] = lend(b, (unsigned char *)q + buffers[b].at, q->length[b] * buffers[b].element,
                          number == 0 && (calls[call].changed & BIT(b)));
-    answer = made(call, q, at);
+    answer = answer_of(call, q, at);
     check(answer.number == number, "answered %u and not %u", answer.number, number);
     if (number != 0) check(answer.boxes == 0, "a refusal answered %zu boxes", answer.boxes);
     else if (call == LOAD) loaded(q);
@@ -299,7 +300,7 @@ static const struct worked {
     {"P10, third size 1", 2, 2, 1, SIZE_1},
 };
 
-/* Room for one box more than k everywhere, and nothing of what is written there before. */
+/* An empty table, and room for one box more than k. */
 static void start_worked(const struct worked *w, struct asked *q)
 {
     const size_t bins = w->b1 * w->b2 * w->b3;
@@ -371,14 +372,16 @@ static struct asked good(void)
     return q;
 }
 
-#define PUT(member, value) offsetof(struct asked, member), sizeof(((struct asked *)0)->member), value
+#define PUT(member, value) AT(member), value
 #define ALL (BIT(CALLS) - 1)
 #define TABLES (BIT(LOAD) | BIT(MERGE) | BIT(CUT))
 #define FRAMES (BIT(MAPPING) | BIT(PAINT))
-#define WRAPS(n) ((UINT64_C(1) << 32) + (n))
 
-/* What a good request is changed by, one number of it, and what each of the calls then answers. Place 16 is the bin of
- * reds 64..127 that holds colour (100, 5, 9) with weight 2. */
+/* Who looks at 32 bits alone takes it for n. */
+#define MORE_THAN(n) ((UINT64_C(1) << 32) + (n))
+
+/* One number of what is good, changed, and what each of these calls then answers. Place 16, from table[80] on, is a bin
+ * of reds 64..127; it holds (100, 5, 9) with weight 2. */
 static const struct change {
     unsigned calls, number;
     const char *what;
@@ -386,14 +389,14 @@ static const struct change {
     uint64_t to;
 } changes[] = {
     {ALL, 1, "first size 1", PUT(b1, 1)},
-    {ALL, 1, "first size 4 and 2^32", PUT(b1, WRAPS(4))},
+    {ALL, 1, "first size 4 and 2^32", PUT(b1, MORE_THAN(4))},
     {ALL, 1, "second size 0", PUT(b2, 0)},
     {ALL, 1, "second size 3", PUT(b2, 3)},
     {ALL, 1, "third size 256", PUT(b3, 256)},
     {ALL, 1, "third size the largest number", PUT(b3, SIZE_MAX)},
     {BIT(CUT), 2, "k 0", PUT(k, 0)},
     {BIT(CUT), 2, "k 257", PUT(k, 257)},
-    {BIT(CUT), 2, "k 3 and 2^32", PUT(k, WRAPS(3))},
+    {BIT(CUT), 2, "k 3 and 2^32", PUT(k, MORE_THAN(3))},
     {BIT(CUT), 2, "k the largest number", PUT(k, SIZE_MAX)},
     {BIT(LOAD), 3, "colours one byte short", PUT(length[COLOURS], 14)},
     {BIT(LOAD), 3, "colours one byte long", PUT(length[COLOURS], 16)},
@@ -429,7 +432,7 @@ static const struct change {
     {BIT(PAINT), 5, "palette of 257 colours", PUT(length[PALETTE], 771)},
     {BIT(MAPPING), 5, "0 colours", PUT(told, 0)},
     {BIT(MAPPING), 5, "257 colours", PUT(told, 257)},
-    {BIT(MAPPING), 5, "3 colours and 2^32", PUT(told, WRAPS(3))},
+    {BIT(MAPPING), 5, "3 colours and 2^32", PUT(told, MORE_THAN(3))},
     {BIT(MAPPING), 5, "indices one short", PUT(length[INDICES], 4)},
     {BIT(MAPPING), 5, "indices one long", PUT(length[INDICES], 6)},
     {BIT(MAPPING), 5, "no indices", PUT(length[INDICES], 0)},
@@ -442,17 +445,18 @@ static const struct change {
     {TABLES, 6, "second sum above n * high", PUT(table[82], 255)},
     {TABLES, 6, "third sum above n * high", PUT(table[83], 63)},
     {TABLES, 6, "squares above 195,075 * n", PUT(table[84], 390151)},
+    {TABLES, 6, "squares far too large", PUT(table[84], UINT64_MAX)},
     {TABLES, 6, "empty bin with a sum", PUT(table[6], 1)},
     {TABLES, 6, "weights past the limit", PUT(table[0], LIMIT - 9)},
-    {TABLES, 6, "weight that is far too large", PUT(table[0], UINT64_MAX)},
+    {TABLES, 6, "weight far too large", PUT(table[0], UINT64_MAX)},
     {BIT(MERGE), 6, "sum of the second table above n * high", PUT(second[81], 255)},
     {BIT(MERGE), 6, "weights of the second table past the limit", PUT(second[0], LIMIT - 9)},
     {BIT(LOAD), 7, "total one past the limit", PUT(weights[2], LIMIT - 18)},
     {BIT(LOAD), 7, "weight that is the limit", PUT(weights[4], LIMIT)},
     {BIT(LOAD) | BIT(MERGE), 7, "full table", PUT(table[0], LIMIT - 10)},
     {BIT(MERGE), 7, "total one past the limit", PUT(second[0], LIMIT - 22)},
-    {FRAMES, 9, "map's first entry is the palette's length", PUT(map[0], 3)},
-    {FRAMES, 9, "map's last entry is 255", PUT(map[63], 255)},
+    {FRAMES, 9, "the map's first entry the palette's length", PUT(map[0], 3)},
+    {FRAMES, 9, "the map's last entry 255", PUT(map[63], 255)},
     {BIT(PAINT), 9, "palette of one colour", PUT(length[PALETTE], 3)},
     {BIT(MAPPING), 9, "1 colour", PUT(told, 1)},
     {TABLES, 0, "sum at n * low", PUT(table[81], 128)},
@@ -495,14 +499,14 @@ static void ask_changed(enum call call)
     }
 }
 
-/* A table with total 0 takes more than one change. An unsound one gives the lower number. */
+/* A total of 0 takes more than one change. */
 static void ask_empty(void)
 {
     struct asked q = good();
     memset(q.table, 0, sizeof q.table);
     ask(CUT, &q, 8, "empty table", "");
     q.table[81] = 1;
-    ask(CUT, &q, 6, "empty table", "a sum");
+    ask(CUT, &q, 6, "empty table", "a sum in it");
     q.length[SPREADS] = 2;
     ask(CUT, &q, 5, "empty table", "spreads one short");
 }
@@ -561,35 +565,39 @@ static void ask_band(size_t frame, size_t first, size_t pixels, unsigned number)
     ask(MAPPING, &q, number, words, "");
     ask(PAINT, &q, number, words, "");
     q.map[63] = 255;
-    ask(PAINT, &q, number ? number : 9, words, "a map entry that it does not use");
-    ask(MAPPING, &q, number ? number : 9, words, "a map entry that it does not use");
+    ask(PAINT, &q, number ? number : 9, words, "the map's last entry 255");
+    ask(MAPPING, &q, number ? number : 9, words, "the map's last entry 255");
     q.told = 256;
     ask(MAPPING, &q, number, words, "256 colours");
 }
 
-static void ask_lengths(size_t pixels)
+static void ask_length(size_t pixels)
 {
+    char words[120];
     struct asked q = good();
     ask_band(pixels, 0, pixels, 0);
     ask_band(PIXELS, PIXELS - pixels, pixels, 0);
     q.length[COLOURS] = 3 * pixels;
     q.length[WEIGHTS] = pixels;
-    ask(LOAD, &q, 0, "batch of another length", "");
+    snprintf(words, sizeof words, "batch of %zu colours", pixels);
+    ask(LOAD, &q, 0, words, "weights");
+    memset(q.weights, 0xff, sizeof q.weights);
+    ask(LOAD, &q, pixels ? 7 : 0, words, "weights at the limit");
     q.weighted = 0;
-    ask(LOAD, &q, 0, "batch of another length", "no weights given");
+    ask(LOAD, &q, 0, words, "no weights");
     q.k = pixels + 1;
     q.length[PALETTE] = 3 * q.k;
     q.length[COUNTS] = q.length[SPREADS] = q.k;
     q.length[BOXES] = 6 * q.k;
-    ask(CUT, &q, 0, "another k", "");
+    ask(CUT, &q, 0, words, "k one more");
 }
 
 /* ---- The sizes that a caller has to lend */
 
 static void ask_sizes(void)
 {
-    static const size_t sizes[] = {2, 4,  8,  16, 32,  64,  128, 0,   1,        3,
-                                   5, 12, 24, 96, 127, 129, 255, 256, WRAPS(2), SIZE_MAX};
+    static const size_t sizes[] = {2, 4,  8,  16, 32,  64,  128, 0,   1,            3,
+                                   5, 12, 24, 96, 127, 129, 255, 256, MORE_THAN(2), SIZE_MAX};
     const size_t n = COUNT(sizes);
     for (size_t i = 0; i < n * n * n; i++) {
         const size_t x = i / n / n, y = i / n % n, z = i % n;
@@ -612,7 +620,7 @@ int main(void)
         ask_plain();
         for (size_t i = 0; i < COUNT(bands); i++)
             ask_band(bands[i].frame, bands[i].first, bands[i].pixels, bands[i].number);
-        for (size_t pixels = 0; pixels <= PIXELS; pixels++) ask_lengths(pixels);
+        for (size_t pixels = 0; pixels <= PIXELS; pixels++) ask_length(pixels);
     }
     ask_sizes();
     printf("calls: %zu checks\n", checks);
