@@ -129,7 +129,7 @@ fn octaves(
     sum
 }
 
-/// Light with detail down to eight pixels, colour that changes slowly, forty discs with edges, and a camera's grain.
+/// Light with detail down to eight pixels, colour that changes slowly, forty discs with edges, and grain in the light.
 fn picture(random: &mut Random, width: usize, height: usize) -> Vec<Colour> {
     let light = octaves(random, 256, 8, width, height);
     let red = octaves(random, 256, 64, width, height);
@@ -147,15 +147,21 @@ fn picture(random: &mut Random, width: usize, height: usize) -> Vec<Colour> {
         let (x, y) = (random.below(width), random.below(height));
         let size = 1 + random.below(height / 5);
         let shift = [0.0; 3].map(|_: f64| 45.0 * random.unit());
-        for (i, level) in level.iter_mut().enumerate() {
-            let (dx, dy) = ((i % width).abs_diff(x), (i / width).abs_diff(y));
-            if dx * dx + dy * dy < size * size {
-                *level = [0, 1, 2].map(|c| level[c] + shift[c]);
+        for row in y.saturating_sub(size)..height.min(y + size) {
+            for column in x.saturating_sub(size)..width.min(x + size) {
+                let (dx, dy) = (column.abs_diff(x), row.abs_diff(y));
+                if dx * dx + dy * dy < size * size {
+                    let level = &mut level[row * width + column];
+                    *level = [0, 1, 2].map(|c| level[c] + shift[c]);
+                }
             }
         }
     }
-    let mut grained = |level: f64| (level + 2.0 * random.unit() + 2.0 * random.unit()) as u8;
-    level.iter().map(|level| level.map(&mut grained)).collect()
+    let mut grained = |level: [f64; 3]| {
+        let grain = 2.0 * (random.unit() + random.unit());
+        level.map(|level| (level + grain) as u8)
+    };
+    level.into_iter().map(&mut grained).collect()
 }
 
 // ---- The console screen

@@ -1,7 +1,7 @@
 //! Times the proved code and the original's text in one process, on the same frames, and prints the ratios.
 //!
-//! `--quick` takes fewer runs, and `--only TEXT` only the rows whose grid or operation has that text. A whole run of both
-//! sides fills a draft, `--draft FILE`, and writes it to `--page FILE`.
+//! `--quick` takes fewer runs, and `--only TEXT` takes only the rows whose grid or operation has that text. A whole run
+//! of both sides fills a draft, `--draft FILE`, and writes it to `--page FILE`.
 mod inputs;
 mod measure;
 mod ours;
@@ -119,6 +119,9 @@ fn main() {
             Some(text) => format!("{} {o}", report::grid(sizes)).contains(text),
         };
         let operations: Vec<_> = OPERATIONS.into_iter().filter(wanted).collect();
+        if operations.is_empty() {
+            continue;
+        }
         let more = measure(sizes, &inputs, &operations, effort);
         print!("{}", report::tables(&more, &inputs));
         rows.extend(more);

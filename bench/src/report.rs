@@ -34,7 +34,8 @@ impl Row {
 
     /// What the ratios should be at most, for each input.
     fn targets(&self) -> Option<[f64; 3]> {
-        if ![[16, 32, 16], [32, 32, 32]].contains(&self.sizes) {
+        let alone = self.cells.iter().any(|cell| cell.theirs.is_none());
+        if alone || ![[16, 32, 16], [32, 32, 32]].contains(&self.sizes) {
             return None;
         }
         match (self.operation, self.moments) {
@@ -77,14 +78,13 @@ impl Row {
 pub const ON_A_COPY: &str = ", on a copy";
 pub const IN_PLACE: &str = ", in place";
 
-/// Three digits and no more.
+/// In three digits.
 fn milliseconds(seconds: f64) -> String {
     let time = 1000.0 * seconds;
-    let digits = if time < 9.995 {
-        2
-    } else {
-        usize::from(time < 99.95)
-    };
+    let digits = [0.9995, 9.995, 99.95]
+        .iter()
+        .filter(|&&bound| time < bound)
+        .count();
     format!("({time:.digits$} ms)")
 }
 

@@ -37,7 +37,7 @@ impl fmt::Display for Operation {
             Operation::Load => f.write_str("load"),
             Operation::LoadWeighted => f.write_str("load with weights"),
             Operation::Merge => f.write_str("merge"),
-            Operation::Moments => f.write_str("moments"),
+            Operation::Moments => f.write_str("moments (ours: cut, k = 1)"),
             Operation::Cut(k) => write!(f, "cut, k = {k}"),
             Operation::Map => f.write_str("map"),
             Operation::Paint => f.write_str("paint"),
