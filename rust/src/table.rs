@@ -40,9 +40,9 @@ impl Table {
     /// A table of numbers that come from elsewhere, as from another machine.
     ///
     /// Only their length is looked at. Every call looks at the numbers themselves and refuses an unsound table with
-    /// [`Refused::Unsound`]; a load of no colours does nothing else. A table is *sound* if in each bin every sum lies
-    /// where so many components of that bin can add up to, the squares are at most 195,075 times the weight, and all
-    /// weights add up to at most 4,294,967,295. Loads and merges keep a table sound.
+    /// [`Refused::Unsound`]; a load of no colours does nothing else. A table is *sound* if the sums and squares of each
+    /// bin are within the bounds that its weight sets, and all weights add up to at most 4,294,967,295. Loads and
+    /// merges keep a table sound.
     ///
     /// # Errors
     ///
