@@ -1,11 +1,21 @@
-//! The original Rust text as judge. `original` holds it unchanged, `stand_ins` what it leans on, `answer` asks it,
-//! and `script` reads cases and writes answers in the words of the program `cuts`.
+//! The original Rust text as judge, and the runner that holds a port to it. `original` has the text unchanged,
+//! `stand_ins` what it leans on, and `answer` asks it. `numbers` says from document 01 which number a call answers.
+//! `classes` makes the cases, `case` writes and reads them, `compare` holds a `port` to the judge, `shrink` looks for
+//! a smaller case that still differs, and `runner` does all of it as the arguments say.
 #![allow(dead_code)]
 extern crate alloc;
 
 pub mod answer;
+pub mod case;
+pub mod classes;
+pub mod compare;
+pub mod model;
+pub mod numbers;
 pub mod original;
-pub mod script;
+pub mod port;
+pub mod random;
+pub mod runner;
+pub mod shrink;
 pub mod stand_ins;
 
 // The original names these at the root of its crate.
