@@ -1,3 +1,4 @@
+pub mod Fronts
 pub mod Held
 pub mod Filled
 pub mod Maps
@@ -9,3 +10,4 @@ pub mod Refusals
 pub mod Tiling
 pub mod Finding
 pub mod Laws
+pub mod Few

@@ -1,7 +1,7 @@
 -- `listing::list` is safe and ends: a cut into 16 boxes finds no more, and for these there is room.
 -- Assumes nothing.
 use native.Mathlib.Omega.{arith}
-use Rattle.listing.proofs.Few.{few}
+use Rattle.cutter.proofs.Few.{few}
 use borrow.Author.Needs.{needs}
 use Rattle.listing.proofs.list.Statement.{statement}
 use Rattle.listing.proofs.list.Tie as tie

@@ -1,20 +1,22 @@
--- A cut finds no more boxes than it was asked for.
+-- A cut finds no more boxes than it was asked for, and its record always has 256 places.
 -- Assumes nothing.
-use mathlib.Core.Path.{_≡_}
+use mathlib.Core.Path.{_≡_, refl}
 use mathlib.Core.List.{List}
 use Prim.Native.Nat.{ℕ, zero, suc, _≤_}
 use native.Mathlib.Omega.{arith}
+use lib.ListN.{length}
 use Rattle.grid.specs.declared.Grid.{Grid}
 use Rattle.grid.specs.declared.Chosen.{Chosen}
 use Rattle.grid.specs.declared.Chosen.the-variants as chosen
 use Rattle.grid.specs.Answer.{whenDone}
 use Rattle.grid.specs.Grid.{gridOf, onGrid}
+use Rattle.grid.proofs.Range.{length-list}
 use Rattle.table.specs.Cell.{wide}
 use Rattle.table.specs.Sound.{limit}
-use Rattle.rounds.specs.Loop.{boxesOf}
+use Rattle.rounds.specs.Loop.{boxesOf, placesOf}
 use Rattle.rounds.proofs.Filled.{heap-most}
 use Rattle.cutter.specs.declared.CutRecord.{CutRecord}
 use Rattle.cutter.specs.Cut.{Buffers, Lengths, lengthsOf, cutNumberOn, refusedRecord, doneRecord, recordOn, cutRecord}
 
 module _ (k : ℕ) (least : 1 ≤ k) (most : k ≤ 256) (t : List ℕ) where
   few-on : (g : Grid) (l : Lengths) → recordOn g k t l .boxes ≤ k
@@ -35,3 +37,20 @@ module _ (k : ℕ) (least : 1 ≤ k) (most : k ≤ 256) (t : List ℕ) where
 
   pub few : (b1 b2 b3 : ℕ) (b : Buffers) {r : CutRecord} → r ≡ cutRecord b1 b2 b3 k t b → r .boxes ≤ k
   few b1 b2 b3 b e = rw e (few-cut b1 b2 b3 b)
+
+module _ (k : ℕ) (t : List ℕ) where
+  places-on : (g : Grid) (l : Lengths) → length (recordOn g k t l .places) ≡ 256
+  unfolding recordOn whenDone doneRecord refusedRecord boxesOf placesOf
+  places-on g l = go (cutNumberOn limit g k t l)
+    where
+      go : (n : ℕ) → length (whenDone n (doneRecord (boxesOf g (wide t) k)) (refusedRecord n) .places) ≡ 256
+      go zero = length-list 0 256 _
+      go (suc n) = refl
+
+  pub all-places : (b1 b2 b3 : ℕ) (b : Buffers) {r : CutRecord} → r ≡ cutRecord b1 b2 b3 k t b → length (r .places) ≡ 256
+  unfolding cutRecord onGrid refusedRecord
+  all-places b1 b2 b3 b e = rw e (go (gridOf b1 b2 b3))
+    where
+      go : (c : Chosen) → length (onGrid c (refusedRecord 1) (λ g. recordOn g k t (lengthsOf b)) .places) ≡ 256
+      go (chosen.Of g) = places-on g (lengthsOf b)
+      go chosen.Refused = refl

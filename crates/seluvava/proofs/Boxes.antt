@@ -1,0 +1,67 @@
+-- The boxes of a record, written one after the other.
+-- Assumes nothing.
+use mathlib.Core.Path.{_≡_, refl, sym, ap, _∙_}
+use mathlib.Core.List.{List}
+use Prim.Native.Nat.{ℕ, _+_, _*_, _≤_, _<_}
+use native.Mathlib.Nat.{one-mul}
+use native.Mathlib.Omega.{arith}
+use lib.ListN.{length, getD, take, set}
+use lib.Seq.{length-take-le, getD-take, take-all}
+use lib.Ieee.{Float, nan}
+use Rattle.rounds.specs.declared.BoxSpread.{BoxSpread}
+use Rattle.cutter.specs.declared.CutRecord.{CutRecord}
+use Rattle.cutter.specs.Cut.{pastPlaces}
+use Rattle.cutter.specs.Fronts.{filled, putFrom}
+use Rattle.cutter.proofs.Fronts.{filled-none, filled-next, length-filled}
+use Rattle.seluvava.specs.Cut.{boxBytes, spreadOf, told, withBoxAt}
+
+-- the six bytes of a box are six stores
+pub six-bytes : (old : List ℕ) (i : ℕ) (x : BoxSpread) → withBoxAt old i x ≡ set (set (set (set (set (set old (6 * i) (x .r0)) (6 * i + 1) (x .r1)) (6 * i + 2) (x .g0)) (6 * i + 3) (x .g1)) (6 * i + 4) (x .b0)) (6 * i + 5) (x .b1)
+unfolding withBoxAt putFrom boxBytes
+six-bytes old i x = simp (next 1, next 2, next 3, next 4) refl
+  where
+    next : (n : ℕ) → 6 * i + n + 1 ≡ 6 * i + (n + 1)
+    next n = omega arith
+
+one-store : (old : List Float) (i : ℕ) (x : BoxSpread) → set old i (x .spread) ≡ putFrom old (1 * i) (spreadOf x)
+unfolding putFrom spreadOf
+one-store old i x = ap (λ (n : ℕ). set old n (x .spread)) (sym (one-mul i))
+
+pub six : (x : BoxSpread) → length (boxBytes x) ≡ 6
+unfolding boxBytes
+six x = refl
+
+pub one : (x : BoxSpread) → length (spreadOf x) ≡ 1
+unfolding spreadOf
+one x = refl
+
+-- the boxes told of are the first places of the record
+module _ (r : CutRecord) (long : length (r .places) ≡ 256) (few : r .boxes ≤ 256) where
+  pub told-length : length (told r) ≡ r .boxes
+  unfolding told
+  told-length = length-take-le (r .boxes) (r .places) (omega arith)
+
+  pub told-all : {i : ℕ} → i ≡ r .boxes → take i (told r) ≡ told r
+  told-all {i} e = take-all i (told r) (omega (arith, told-length))
+
+  module _ (i : ℕ) (l : i < r .boxes) {x : BoxSpread} (at : x ≡ getD (r .places) i pastPlaces) where
+    item : getD (told r) i pastPlaces ≡ x
+    unfolding told
+    item = getD-take (r .boxes) (r .places) i pastPlaces l ∙ sym at
+
+    pub boxes-next : (old : List ℕ) → 6 * r .boxes ≤ length old → {before later : List ℕ} → before ≡ filled 6 boxBytes (take i (told r)) old → later ≡ withBoxAt before i x → later ≡ filled 6 boxBytes (take (i + 1) (told r)) old
+    unfolding withBoxAt
+    boxes-next old h {before} e f =
+        filled-next 6 boxBytes six (told r) i pastPlaces 0 (omega (arith, told-length)) old (omega (arith, told-length)) e
+        (f ∙ ap (λ (y : BoxSpread). putFrom before (6 * i) (boxBytes y)) (sym item))
+
+    pub spreads-next : (old : List Float) → r .boxes ≤ length old → {before later : List Float} → before ≡ filled 1 spreadOf (take i (told r)) old → later ≡ set before i (x .spread) → later ≡ filled 1 spreadOf (take (i + 1) (told r)) old
+    spreads-next old h {before} e f =
+        filled-next 1 spreadOf one (told r) i pastPlaces nan (omega (arith, told-length)) old (omega (arith, told-length)) e
+        (f ∙ one-store before i x ∙ ap (λ (y : BoxSpread). putFrom before (1 * i) (spreadOf y)) (sym item))
+
+  pub boxes-long : (i : ℕ) → i ≤ r .boxes → (old : List ℕ) → 6 * r .boxes ≤ length old → length (filled 6 boxBytes (take i (told r)) old) ≡ length old
+  boxes-long i l old h = length-filled 6 boxBytes six (take i (told r)) old (omega (arith, length-take-le i (told r) (omega (arith, told-length))))
+
+  pub spreads-long : (i : ℕ) → i ≤ r .boxes → (old : List Float) → r .boxes ≤ length old → length (filled 1 spreadOf (take i (told r)) old) ≡ length old
+  spreads-long i l old h = length-filled 1 spreadOf one (take i (told r)) old (omega (arith, length-take-le i (told r) (omega (arith, told-length))))
