@@ -91,9 +91,9 @@ pub struct Maker<'a> {
 }
 
 impl Maker<'_> {
-    /// Mostly a grid of at most 4,096 bins, one time in 16 any.
+    /// Mostly a grid of at most 4,096 bins, one time in 64 any.
     fn grid(&mut self) -> Grid {
-        if self.r.once_in(16) {
+        if self.r.once_in(64) {
             self.r.one_of(&self.grids.all)
         } else {
             self.r.one_of(&self.grids.light)
@@ -250,7 +250,11 @@ fn each_grid(m: &mut Maker<'_>, i: usize) -> Case {
     let n = m.r.from(1, 60);
     let weight = |r: &mut Random| r.one_of(&[0, 1, 1, 2, 9, 250, 65_536]);
     let input = m.input(n, Random::color, weight);
-    let grid = m.grids.all[i % m.grids.all.len()];
+    let (all, light) = (&m.grids.all, &m.grids.light);
+    let grid = match i % 4 {
+        0 => all[i / 4 % all.len()],
+        _ => light[i % light.len()],
+    };
     let k = m.k();
     m.whole(grid, k, input)
 }
