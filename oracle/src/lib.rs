@@ -1,11 +1,15 @@
 //! The original Rust text as judge, and the runner that holds a port to it. `original` has the text unchanged,
 //! `stand_ins` what it leans on, and `answer` asks it. `numbers` says from document 01 which number a call answers.
-//! `classes` makes the cases, `case` writes and reads them, `compare` holds a `port` to the judge, `shrink` looks for
-//! a smaller case that still differs, and `runner` does all of it as the arguments say.
+//! `classes` makes the cases and `case` writes and reads them; `compare` holds a `port` to the judge, by `whole` or by
+//! `calls`, with what `buffer` lends and `batches` splits; `shrink` looks for a smaller case that still differs; and `runner` does all of it
+//! as the arguments say. `model` is a port in plain Rust.
 #![allow(dead_code)]
 extern crate alloc;
 
 pub mod answer;
+mod batches;
+mod buffer;
+mod calls;
 pub mod case;
 pub mod classes;
 pub mod compare;
@@ -17,6 +21,7 @@ pub mod random;
 pub mod runner;
 pub mod shrink;
 pub mod stand_ins;
+mod whole;
 
 // The original names these at the root of its crate.
 pub use original::palette_counts::PaletteCounts;

@@ -1,13 +1,14 @@
 //! Runs the cases of the classes, or those of a file, on a port.
 use crate::{
+    buffer::Differs,
     case::Case,
     classes::{CLASSES, Cases, Class, Grids, Maker},
-    compare::{Differs, Tally, check},
+    compare::{Tally, check},
     port::{Grid, Port},
     random::Random,
     shrink::shrink,
 };
-use std::{collections::HashSet, env, fs, io::Read as _, panic, process::ExitCode, time::Instant};
+use std::{collections::HashSet, env, fs, panic, process::ExitCode, time::Instant};
 
 /// A case that differs, and what of it does.
 pub struct Found {
@@ -123,69 +124,68 @@ fn report(name: &str, ran: &Ran, seconds: f64) {
     }
 }
 
+/// What stands after a word of the arguments.
+fn after(word: &str) -> Option<String> {
+    env::args().skip_while(|w| w != word).nth(1)
+}
+
+fn number(word: &str, usual: u64) -> u64 {
+    after(word).map_or(usual, |n| {
+        n.parse().unwrap_or_else(|_| panic!("{word} {n}"))
+    })
+}
+
+/// The text of a file, or of standard input.
+fn text(file: &str) -> String {
+    let read = match file {
+        "-" => std::io::read_to_string(std::io::stdin()),
+        _ => fs::read_to_string(file),
+    };
+    read.unwrap_or_else(|e| panic!("{file}: {e}"))
+}
+
+/// Runs a class, prints what was seen, and shrinks the first case that differs.
+fn run_and_tell(port: &dyn Port, class: &Class, cases: usize, seed: u64) -> Ran {
+    let start = Instant::now();
+    let ran = run(port, class, cases, seed, usize::MAX);
+    report(class.name, &ran, start.elapsed().as_secs_f64());
+    if let Some(found) = &ran.first {
+        println!("A CASE DIFFERS\n{}\n  {}", found.case, found.differs);
+        let small = found.shrunk(port);
+        println!("SHRUNK\n{}\n  {}", small.case, small.differs);
+    }
+    ran
+}
+
 /// Does what the arguments say with a port.
 pub fn main(port: &dyn Port) -> ExitCode {
-    let words: Vec<String> = env::args().collect();
-    let after = |word: &str| {
-        let at = words.iter().position(|w| w == word)?;
-        words.get(at + 1)
-    };
-    let number = |word: &str, usual: u64| {
-        after(word).map_or(usual, |n| {
-            n.parse().unwrap_or_else(|_| panic!("{word} {n}"))
-        })
-    };
     if let Some(file) = after("--replay") {
-        let mut text = String::new();
-        if file == "-" {
-            std::io::stdin().read_to_string(&mut text).expect("text");
-        } else {
-            text = fs::read_to_string(file).unwrap_or_else(|e| panic!("{file}: {e}"));
-        }
-        return ended(replay(port, &text));
+        return ended(replay(port, &text(&file)));
     }
-
     let (cases, seed) = (number("--cases", 1000) as usize, number("--seed", 1));
     let named = after("--class");
+    let chosen = |class: &&Class| match &named {
+        Some(name) => name == class.name,
+        None => !matches!(class.cases, Cases::OnlyNamed(_)),
+    };
     // A panic is told as a difference.
     panic::set_hook(Box::new(|_| {}));
     let mut grids: HashSet<Grid> = HashSet::new();
     let (mut all, mut differ) = (0, 0);
-    for class in &CLASSES {
-        let runs = match named {
-            Some(name) => name == class.name,
-            None => !matches!(class.cases, Cases::OnlyNamed(_)),
-        };
-        if !runs {
-            continue;
-        }
-        let start = Instant::now();
-        let ran = run(port, class, cases, seed, usize::MAX);
-        report(class.name, &ran, start.elapsed().as_secs_f64());
-        if let Some(found) = &ran.first {
-            println!("A CASE DIFFERS\n{}\n  {}", found.case, found.differs);
-            let small = found.shrunk(port);
-            println!(
-                "SHRUNK, to be run again by --replay\n{}\n  {}",
-                small.case, small.differs
-            );
-        }
+    for class in CLASSES.iter().filter(chosen) {
+        let ran = run_and_tell(port, class, cases, seed);
         grids.extend(&ran.grids);
         all += ran.tally.cases;
         differ += ran.differ;
     }
-    assert!(all > 0, "no class {named:?}");
-    println!(
-        "seed {seed}: {all} cases at {} grids, {differ} differ",
-        grids.len()
-    );
-    ended(differ)
+    let grids = grids.len();
+    println!("seed {seed}: {all} cases at {grids} grids, {differ} differ");
+    ended(differ + usize::from(all == 0))
 }
 
 fn ended(differ: usize) -> ExitCode {
-    if differ == 0 {
-        ExitCode::SUCCESS
-    } else {
-        ExitCode::FAILURE
+    match differ {
+        0 => ExitCode::SUCCESS,
+        _ => ExitCode::FAILURE,
     }
 }
