@@ -45,6 +45,15 @@ use Rattle.mapper.proofs.paint as paint
 use Rattle.lines.proofs.listing as listing
 use Rattle.lines.proofs.refused as refused
 use Rattle.cutter.proofs.cut as cut
+use Rattle.seluvava.specs.declared.CutAnswer.{CutAnswer}
+use Rattle.seluvava.specs.Cut.{Lent, lent}
+use Rattle.seluvava.proofs.seluvava_bins as exported-bins
+use Rattle.seluvava.proofs.seluvava_numbers as exported-numbers
+use Rattle.seluvava.proofs.seluvava_load as exported-load
+use Rattle.seluvava.proofs.seluvava_merge as exported-merge
+use Rattle.seluvava.proofs.seluvava_cut as exported-cut
+use Rattle.seluvava.proofs.seluvava_map as exported-map
+use Rattle.seluvava.proofs.seluvava_paint as exported-paint
 use Rattle.promises.specs.Determined.{Determines}
 
 both : {A B : Type 0} {a c : A} {b d : B} → a ≡ c → b ≡ d → _≡_ {A = A × B} (a, b) (c, d)
@@ -167,3 +176,25 @@ listing-determined κs a r s x y p q = both (determined (p .0) (q .0)) (determin
 
 pub refused-determined : Determines {A = ℕ × List ℕ} 1 refused.Kinds.ps refused.Kinds.r refused.Reads.Learnt (λ κs r e. (r, now (e .1 .0)))
 refused-determined κs a r s x y p q = both (determined (p .0) (q .0)) (determined (p .1 .0) (q .1 .0))
+
+-- ---- seluvava
+pub exported-bins-determined : Determines 0 exported-bins.Kinds.ps exported-bins.Kinds.r exported-bins.Reads.Learnt (λ κs r e. r)
+exported-bins-determined κs a r s x y p q = determined p q
+
+pub exported-numbers-determined : Determines 0 exported-numbers.Kinds.ps exported-numbers.Kinds.r exported-numbers.Reads.Learnt (λ κs r e. r)
+exported-numbers-determined κs a r s x y p q = determined p q
+
+pub exported-load-determined : Determines {A = ℕ × List ℕ} 3 exported-load.Kinds.ps exported-load.Kinds.r exported-load.Reads.Learnt (λ κs r e. (r, now (e .1 .1 .1 .0)))
+exported-load-determined κs a r s x y p q = both (determined (p .0) (q .0)) (determined (p .1) (q .1))
+
+pub exported-merge-determined : Determines {A = ℕ × List ℕ} 2 exported-merge.Kinds.ps exported-merge.Kinds.r exported-merge.Reads.Learnt (λ κs r e. (r, now (e .1 .1 .1 .0)))
+exported-merge-determined κs a r s x y p q = both (determined (p .0) (q .0)) (determined (p .1) (q .1))
+
+pub exported-cut-determined : Determines {A = CutAnswer × Lent} 7 exported-cut.Kinds.ps exported-cut.Kinds.r exported-cut.Reads.Learnt (λ κs r e. (r, lent (buffers (now (e .1 .1 .1 .1 .1 .0)) (now (e .1 .1 .1 .1 .1 .1 .0)) (now (e .1 .1 .1 .1 .1 .1 .1 .0)) (now (e .1 .1 .1 .1 .1 .1 .1 .1 .0))) (now (e .1 .1 .1 .1 .1 .1 .1 .1 .1 .0)) (now (e .1 .1 .1 .1 .1 .1 .1 .1 .1 .1 .0))))
+exported-cut-determined κs a r s x y p q = both (determined (p .0) (q .0)) (determined (p .1) (q .1))
+
+pub exported-map-determined : Determines {A = ℕ × List ℕ} 3 exported-map.Kinds.ps exported-map.Kinds.r exported-map.Reads.Learnt (λ κs r e. (r, now (e .1 .1 .1 .1 .1 .1 .0)))
+exported-map-determined κs a r s x y p q = both (determined (p .0) (q .0)) (determined (p .1) (q .1))
+
+pub exported-paint-determined : Determines {A = ℕ × List ℕ} 3 exported-paint.Kinds.ps exported-paint.Kinds.r exported-paint.Reads.Learnt (λ κs r e. (r, now (e .1 .1 .1 .1 .1 .0)))
+exported-paint-determined κs a r s x y p q = both (determined (p .0) (q .0)) (determined (p .1) (q .1))

@@ -19,8 +19,11 @@ use Rattle.grid.proofs.Ends.{passed}
 use Rattle.cutter.specs.declared.CutRecord.{CutRecord}
 use Rattle.cutter.specs.Fronts.{filled}
 use Rattle.cutter.specs.Cut.{Buffers, refusedRecord, cutRecord, cutLater}
+use Rattle.cutter.proofs.Fronts.{filled-none}
+use Rattle.cutter.proofs.Laws.{record-number, cut-refuses}
 use Rattle.seluvava.specs.declared.CutAnswer.{CutAnswer}
 use Rattle.seluvava.specs.Sizes.{binsFor}
+use Rattle.seluvava.proofs.Boxes.{six, one}
 use Rattle.seluvava.specs.Cut.{Lent, lent, hasRoom, roomOn, roomNumber, callRecord, answerOf, cutAnswer, boxBytes, spreadOf, told, callLater}
 
 module _ (b1 b2 b3 : ℕ) where
@@ -132,3 +135,19 @@ module _ (b1 b2 b3 k : ℕ) (t : List ℕ) (l : Lent) where
     pub call-done : n ≡ 0 → {r : CutRecord} → r ≡ cutRecord b1 b2 b3 k t (l .buffers) → {b : Buffers} {boxes : List ℕ} {spreads : List Float} → b ≡ cutLater b1 b2 b3 k t (l .buffers) → boxes ≡ filled 6 boxBytes (told r) (l .boxes) → spreads ≡ filled 1 spreadOf (told r) (l .spreads) → Ends (record { number = r .number; boxes = r .boxes }) (lent b boxes spreads)
     unfolding cutAnswer answerOf callRecord callLater whenDone
     call-done z q later p s = (ap answerOf q ∙ rw (← e, z) refl, (λ i. lent (later i) ((p ∙ ap (λ (r : CutRecord). filled 6 boxBytes (told r) (l .boxes)) q) i) ((s ∙ ap (λ (r : CutRecord). filled 1 spreadOf (told r) (l .spreads)) q) i)) ∙ rw (← e, z) refl)
+
+  cut-kept : (n : ℕ) → (cutRecord b1 b2 b3 k t (l .buffers) ≡ refusedRecord (suc n)) × (cutLater b1 b2 b3 k t (l .buffers) ≡ l .buffers) → (cutRecord b1 b2 b3 k t (l .buffers) .boxes ≡ 0) × (cut ≡ l)
+  unfolding told refusedRecord
+  cut-kept n (e, f) = (
+    ap (λ (r : CutRecord). r .boxes) e,
+    (λ i. lent (f i) ((ap (λ (r : CutRecord). filled 6 boxBytes (told r) (l .boxes)) e ∙ filled-none 6 boxBytes six (l .boxes)) i) ((ap (λ (r : CutRecord). filled 1 spreadOf (told r) (l .spreads)) e ∙ filled-none 1 spreadOf one (l .spreads)) i)),
+  )
+
+  -- "a refusal writes nothing", and tells of no box
+  pub call-kept : {n : ℕ} → cutAnswer b1 b2 b3 k t l .number ≡ suc n → (cutAnswer b1 b2 b3 k t l .boxes ≡ 0) × (callLater b1 b2 b3 k t l ≡ l)
+  unfolding cutAnswer answerOf callRecord callLater whenDone refusedRecord
+  call-kept {n} = go (roomNumber b1 b2 b3 k (length (l .boxes)) (length (l .spreads)))
+    where
+      go : (m : ℕ) → whenDone m (cutRecord b1 b2 b3 k t (l .buffers)) (refusedRecord m) .number ≡ suc n → (whenDone m (cutRecord b1 b2 b3 k t (l .buffers)) (refusedRecord m) .boxes ≡ 0) × (whenDone m cut l ≡ l)
+      go zero e = cut-kept n (cut-refuses b1 b2 b3 k t (l .buffers) (sym (record-number b1 b2 b3 k t (l .buffers)) ∙ e))
+      go (suc m) e = (refl, refl)

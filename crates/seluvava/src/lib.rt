@@ -85,7 +85,7 @@ pub struct CutAnswer {
 fn room_number(b1: usize, b2: usize, b3: usize, k: usize, boxes: usize, spreads: usize) -> u8
     ensures { λ r. ⌜ r ≡ roomNumber b1 b2 b3 k boxes spreads ⌝ }
 {
-    let Chosen::Of(g) = grid_of(b1, b2, b3) else {
+    let Chosen::Of(accepted) = grid_of(b1, b2, b3) else {
         return 1;
     };
     if k < 1 {

@@ -9,13 +9,13 @@ use Rattle.seluvava.proofs.room_number.Statement.{statement}
 use Rattle.seluvava.proofs.room_number.Tie as tie
 
 chosen : (k : tie.After-known-told) → roomNumber (k .before .before .before .before .args .b1) (k .before .before .before .before .args .b2) (k .before .before .before .before .args .b3) (k .before .before .before .before .args .k) (k .before .before .before .before .args .boxes) (k .before .before .before .before .args .spreads) ≡ roomOn (k .before .before .before .before .args .k) (k .before .before .before .before .args .boxes) (k .before .before .before .before .args .spreads)
-chosen k = let s = k .before .before .before .before in room-on (s .args .b1) (s .args .b2) (s .args .b3) (s .args .k) (s .args .boxes) (s .args .spreads) (sym (k .before .before .before .grid-of .ensures) ∙ k .before .g .given .1)
+chosen k = let s = k .before .before .before .before in room-on (s .args .b1) (s .args .b2) (s .args .b3) (s .args .k) (s .args .boxes) (s .args .spreads) (sym (k .before .before .before .grid-of .ensures) ∙ k .before .accepted .given .1)
 
 grid-of-requires : tie.Need-grid-of-requires
 grid-of-requires c κs = search needs
 
-enum-known-g : tie.Need-enum-known-g
-enum-known-g c = search needs
+enum-known-accepted : tie.Need-enum-known-accepted
+enum-known-accepted c = search needs
 
 enum-told : tie.Need-enum-told
 enum-told c = search needs
@@ -54,7 +54,7 @@ room-number-spec =
     tie.close
     (tie.spec
     grid-of-requires
-    enum-known-g
+    enum-known-accepted
     enum-told
     returns
     returns-2
