@@ -1,42 +1,6 @@
 //! One case, and the line by which it can be run again.
-use crate::{answer::Input, numbers::bins, port::Band};
+use crate::{answer::Input, damage::Damage, numbers::bins, port::Band};
 use std::fmt;
-
-/// One thing put wrong in the calls of a case: a length off by `value`, a number of a table or an entry of the map
-/// off by `value` at `place`, or a size, k, the colours told, or a band replaced by `value`.
-#[derive(Clone, Copy, Debug, PartialEq)]
-pub struct Damage {
-    pub what: &'static str,
-    pub place: usize,
-    pub value: i64,
-}
-
-/// What can be put wrong. Those that have a place come first.
-pub const DAMAGES: [&str; 22] = [
-    "number",
-    "second-number",
-    "entry",
-    "size",
-    "k",
-    "table",
-    "second",
-    "work",
-    "palette",
-    "counts",
-    "map",
-    "boxes",
-    "spreads",
-    "colour-bytes",
-    "weights",
-    "frame",
-    "indices",
-    "paint-palette",
-    "colours",
-    "first",
-    "pixels",
-    "weighted",
-];
-const WITH_PLACE: usize = 4;
 
 /// What is done with a case.
 #[derive(Clone, Debug, PartialEq)]
@@ -103,7 +67,7 @@ impl fmt::Display for Case {
                 write!(f, "; split {split}; damages")?;
                 for (i, d) in damages.iter().enumerate() {
                     let comma = if i == 0 { "" } else { "," };
-                    write!(f, "{comma} {} {} {}", d.what, d.place, d.value)?;
+                    write!(f, "{comma} {d}")?;
                 }
                 Ok(())
             }
@@ -112,7 +76,7 @@ impl fmt::Display for Case {
 }
 
 /// The numbers among the words of a text.
-fn numbers<T: std::str::FromStr>(text: &str) -> Vec<T> {
+pub fn numbers<T: std::str::FromStr>(text: &str) -> Vec<T> {
     text.split_whitespace()
         .filter_map(|w| w.parse().ok())
         .collect()
@@ -122,16 +86,6 @@ fn colors(text: &str) -> impl Iterator<Item = ([u8; 3], u64)> {
     text.split(',').filter_map(|one| {
         let [r, g, b, n] = numbers::<u64>(one).try_into().ok()?;
         Some(([r, g, b].map(|c| c as u8), n))
-    })
-}
-
-fn damage(text: &str) -> Option<Damage> {
-    let name = text.split_whitespace().next()?;
-    let [place, value] = numbers::<i64>(text).try_into().ok()?;
-    Some(Damage {
-        what: DAMAGES.into_iter().find(|d| *d == name)?,
-        place: place as usize,
-        value,
     })
 }
 
@@ -152,7 +106,10 @@ impl Case {
         let kind = match one("split") {
             Some(split) => Kind::Calls {
                 split: split as usize,
-                damages: field("damages")?.split(',').filter_map(damage).collect(),
+                damages: field("damages")?
+                    .split(',')
+                    .filter_map(Damage::of_text)
+                    .collect(),
             },
             None => Kind::Whole {
                 by_pixels: one("pixels")? != 0,

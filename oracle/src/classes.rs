@@ -1,8 +1,9 @@
 //! Makes the cases of each class.
 use crate::{
     answer::{Input, grids},
-    case::{Case, Damage, Kind},
-    numbers::{bins, place},
+    case::{Case, Kind},
+    damage::one,
+    numbers::bins,
     port::{Band, Grid},
     random::Random,
 };
@@ -355,167 +356,11 @@ fn sound_calls(m: &mut Maker<'_>, _: usize) -> Case {
 fn damaged(m: &mut Maker<'_>, _: usize) -> Case {
     let mut case = calls(m);
     let wrong = m.r.one_of(&[1, 1, 1, 2, 3]);
-    let made = (0..wrong).map(|_| damage(&case, &mut m.r)).collect();
+    let made = (0..wrong).map(|_| one(&case, &mut m.r)).collect();
     if let Kind::Calls { damages, .. } = &mut case.kind {
         *damages = made;
     }
     case
-}
-
-/// One thing to put wrong in a case.
-fn damage(case: &Case, r: &mut Random) -> Damage {
-    let pixels: usize = case.frame.iter().map(|f| f.1).sum();
-    let near = |r: &mut Random| r.one_of(&[-1, 1, -2, 2, -3, 3, -5, 5, 4, -4, -1_000_000_000]);
-    let what = r.one_of(&crate::case::DAMAGES);
-    let mut at = 0;
-    let value = match what {
-        "number" | "second-number" => {
-            at = number_place(case, r);
-            change(case, at, r)
-        }
-        "entry" => {
-            at = r.from(0, case.bins() - 1);
-            let k = case.k as i64;
-            r.one_of(&[k - 1, k, k + 1, 255, 0]).clamp(0, 255)
-        }
-        "size" => {
-            at = r.from(0, 2);
-            r.one_of(&[
-                0,
-                1,
-                2,
-                3,
-                4,
-                5,
-                6,
-                7,
-                8,
-                12,
-                16,
-                32,
-                64,
-                127,
-                128,
-                129,
-                255,
-                256,
-                258,
-                1 << 33,
-                -1,
-            ])
-        }
-        "k" => r.one_of(&[
-            0,
-            1,
-            2,
-            256,
-            257,
-            258,
-            512,
-            65_537,
-            1 << 32,
-            (1 << 32) + 1,
-            -1,
-            i64::MIN,
-        ]),
-        "colours" => {
-            let k = case.k as i64;
-            r.one_of(&[
-                0,
-                1,
-                k - 1,
-                k + 1,
-                256,
-                257,
-                258,
-                1 << 32,
-                (1 << 32) + 1,
-                -1,
-            ])
-        }
-        "paint-palette" => {
-            let bytes = 3 * case.k as i64;
-            let to = r.one_of(&[0, 1, 2, 3, 4, 766, 767, 768, 769, 770, 771, 774]);
-            r.one_of(&[-3, -2, -1, 1, 2, 3, to - bytes])
-        }
-        "first" | "pixels" => {
-            let p = pixels as i64;
-            r.one_of(&[
-                0,
-                1,
-                p - 1,
-                p,
-                p + 1,
-                -1,
-                -2,
-                -p,
-                i64::MIN,
-                i64::MAX,
-                1 << 32,
-                -1 - p,
-            ])
-        }
-        _ => near(r),
-    };
-    Damage {
-        what,
-        place: at,
-        value,
-    }
-}
-
-/// A place of the table: mostly one of a bin that a colour of the input falls in.
-fn number_place(case: &Case, r: &mut Random) -> usize {
-    let bin = if case.input.colors.is_empty() || r.once_in(3) {
-        r.from(0, case.bins() - 1)
-    } else {
-        place(case.grid, r.one_of(&case.input.colors))
-    };
-    5 * bin + r.from(0, 4)
-}
-
-/// By how much a number of a table is changed: a little, much, or to a bound of its bin or just past it.
-fn change(case: &Case, at: usize, r: &mut Random) -> i64 {
-    let [_, b2, b3] = case.grid;
-    let bin = at / 5;
-    let bins = [bin / (b2 * b3), bin / b3 % b2, bin % b3];
-    let Kind::Calls { split, .. } = case.kind else {
-        return 1;
-    };
-    let first = r.once_in(2);
-    let colors = case.input.colors.iter().zip(&case.input.weights);
-    let mut numbers = [0; 5];
-    for (i, (&color, &w)) in colors.enumerate() {
-        if (i < split) == first && place(case.grid, color) == bin {
-            let more = crate::numbers::added(color, w);
-            numbers
-                .iter_mut()
-                .zip(more)
-                .for_each(|(n, m)| *n += m as i64);
-        }
-    }
-    let [n, ..] = numbers;
-    let old = numbers[at % 5];
-    let bounds = match at % 5 {
-        0 => vec![-n, 4_294_967_295 - n, 4_294_967_296 - n],
-        4 => vec![195_075 * n - old, 195_075 * n + 1 - old, -old],
-        d => {
-            let values = 256 / case.grid[d - 1];
-            let low = (bins[d - 1] * values) as i64;
-            let high = low + values as i64 - 1;
-            vec![
-                n * low - old,
-                n * low - 1 - old,
-                n * high - old,
-                n * high + 1 - old,
-            ]
-        }
-    };
-    if r.once_in(2) {
-        r.one_of(&bounds)
-    } else {
-        r.one_of(&[1, -1, 2, -2, 1 << 32, 1 << 40, i64::MAX, i64::MIN, -1 - old])
-    }
 }
 
 /// The last total at which the original's sums have 32 bits and the first at which they have 64.
