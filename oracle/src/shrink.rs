@@ -22,6 +22,14 @@ pub fn shrink(case: &Case, differs: &dyn Fn(&Case) -> bool) -> Case {
     };
     loop {
         let mut smaller = false;
+        for step in STEPS {
+            for other in step(&best) {
+                if take(&mut best, other) {
+                    smaller = true;
+                    break;
+                }
+            }
+        }
         let mut part = best.input.colors.len();
         while part > 0 {
             let mut at = 0;
@@ -34,14 +42,6 @@ pub fn shrink(case: &Case, differs: &dyn Fn(&Case) -> bool) -> Case {
                 }
             }
             part /= 2;
-        }
-        for step in STEPS {
-            for other in step(&best) {
-                if take(&mut best, other) {
-                    smaller = true;
-                    break;
-                }
-            }
         }
         if !smaller {
             return best;
@@ -91,7 +91,8 @@ fn with(case: &Case, old: usize, put: impl Fn(&mut Case, usize)) -> Vec<Case> {
     below(old).into_iter().map(one).collect()
 }
 
-const STEPS: [fn(&Case) -> Vec<Case>; 7] = [kinds, sizes, ks, weights, colors, frames, spares];
+/// Smaller grids first: what comes after is quicker there.
+const STEPS: [fn(&Case) -> Vec<Case>; 7] = [sizes, kinds, ks, weights, colors, frames, spares];
 
 /// Nothing by pixels, fewer batches, or less put wrong.
 fn kinds(case: &Case) -> Vec<Case> {
