@@ -3,3 +3,4 @@ pub mod Range
 pub mod Size
 pub mod Places
 pub mod Ends
+pub mod OneColour

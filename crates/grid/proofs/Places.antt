@@ -161,6 +161,11 @@ pub step-at : (g : Grid) (d c : ℕ) → c < 256 → getD (stepsOf g d) c 0 ≡ 
 unfolding stepsOf
 step-at g d c h = list-at 0 256 (λ k. binOf (shiftAt g d) k * strideAt g d) c 0 h ∙ ap (λ (k : ℕ). binOf (shiftAt g d) k * strideAt g d) (zero-add c)
 
+-- in the last dimension it is the bin itself
+pub last-step : (g : Grid) (c : ℕ) → c < 256 → getD (stepsOf g 2) c 0 ≡ binOf (g .s3) c
+unfolding shiftAt strideAt choose
+last-step g c h = step-at g 2 c h ∙ mul-one (binOf (g .s3) c)
+
 -- the three steps add up to the place
 steps-add : (g : Grid) (x : Rgb) → Bytes x → getD (stepsOf g 0) (x .c1) 0 + getD (stepsOf g 1) (x .c2) 0 + getD (stepsOf g 2) (x .c3) 0 ≡ colourPlace g x
 unfolding colourPlace placeOf strideAt shiftAt choose

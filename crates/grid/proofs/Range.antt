@@ -203,6 +203,11 @@ pub and-assoc : (a b c : Bool) → ((a && b) && c) ≡ (a && (b && c))
 and-assoc true b c = refl
 and-assoc false b c = refl
 
+pub tests-same : (a b : Bool) → (a ≡ true → b ≡ true) → (b ≡ true → a ≡ true) → a ≡ b
+tests-same true b f g = sym (f refl)
+tests-same false true f g = g refl
+tests-same false false f g = refl
+
 pub all-true : (i n : ℕ) (f : ℕ → Bool) → ((p : ℕ) → i ≤ p → p < i + n → f p ≡ true) → allFrom i n f ≡ true
 unfolding allFrom
 all-true i zero f h = refl

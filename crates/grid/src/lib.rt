@@ -2,9 +2,10 @@
 ghost use mathlib.Core.Path.{_≡_};
 ghost use Prim.Native.Nat.{_+_, _*_, _≤_, _<_};
 ghost use lib.ListN.{length, getD};
-ghost use Rattle.grid.specs.Range.{listFrom};
+ghost use Rattle.grid.specs.Range.{listFrom, sumFrom};
 ghost use Rattle.grid.specs.Size.{shiftOf, binOf, spanOf, InSize};
 ghost use Rattle.grid.specs.Grid.{gridOf, binsOf, placeOf, colourAt, stepsOf, Accepted, Inside, Steps};
+ghost use Rattle.grid.specs.OneColour.{sameColour, oneColour, differs};
 
 // What a size is answered with.
 pub enum Shift {
@@ -164,4 +165,45 @@ pub fn place_by_steps(t1: &[usize; 256], t2: &[usize; 256], t3: &[usize; 256], x
     let i2 = x.c2 as usize;
     let i3 = x.c3 as usize;
     t1[i1] + t2[i2] + t3[i3]
+}
+
+// Whether two colours are one.
+fn same_colour(x: Rgb, y: Rgb) -> bool
+    ensures { λ r. ⌜ r ≡ sameColour x y ⌝ }
+{
+    if x.c1 != y.c1 {
+        return false;
+    }
+    if x.c2 != y.c2 {
+        return false;
+    }
+    x.c3 == y.c3
+}
+
+// How many of 192 bytes differ from the byte three after. All are compared, whatever the first give, so that the
+// machine can compare many at once.
+fn differences(bytes: &[u8], at: usize) -> u8
+    requires { ⌜ at + 194 < length (now bytes) ⌝ }
+    ensures { λ r. ⌜ r ≡ sumFrom at 192 (differs (now (bytes .entry))) ⌝ }
+{
+    let mut count = 0u8;
+    let mut k = 0;
+    while k < 192 {
+        if bytes[at + k] != bytes[at + k + 3] {
+            count = count + 1;
+        }
+        k = k + 1;
+    }
+    count
+}
+
+// Whether the 65 colours from colour i on are one. The two ends settle most pictures.
+pub fn flat(bytes: &[u8], i: usize) -> bool
+    requires { ⌜ 3 * i + 194 < length (now bytes) ⌝ }
+    ensures { λ r. ⌜ r ≡ oneColour (now (bytes .entry)) i ⌝ }
+{
+    if !same_colour(colour(bytes, i + 64), colour(bytes, i)) {
+        return false;
+    }
+    differences(bytes, 3 * i) == 0
 }

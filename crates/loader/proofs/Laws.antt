@@ -20,7 +20,7 @@ use Rattle.loader.specs.Load.{weightOf, batchOf, loaded, loadNumberOn, l
 use Rattle.loader.specs.Merge.{merged, mergeNumberOn, mergeNumber, mergeLater}
 use Rattle.table.proofs.Cells.{Holds, list-holds}
 use Rattle.table.proofs.Soundness.{Sound, sound-same, total-same}
-use Rattle.loader.proofs.Loading.{load-sound, load-total, all-bytes-of}
+use Rattle.loader.proofs.Loading.{held-sound, held-total, all-bytes-of}
 use Rattle.loader.proofs.Merging.{merge-sound, merge-total}
 
 -- ---- load
@@ -71,16 +71,12 @@ module _ (b1 b2 b3 : ℕ) (t colours : List ℕ) (given : Bool) (weights : List 
     pub load-keeps : Sound limit (load-says e .g) (wide later)
     load-keeps =
         let d = load-says e in
-        record {
-          holds = sound-same (d .g) (wide later) (loaded (d .g) (batchOf colours given weights) (wide t)) (d .holds .at) limit
-              ∙ load-sound (chose b1 b2 b3 (d .g) (d .chosen) .accepted) (batchOf colours given weights) (all-bytes-of colours given weights bytes) (d .sound-before) (d .under) .holds;
-        }
+        held-sound (chose b1 b2 b3 (d .g) (d .chosen) .accepted) (batchOf colours given weights) (all-bytes-of colours given weights bytes) (wide t) (d .holds) (d .sound-before) (d .under)
 
     pub load-sum : total (load-says e .g) (wide later) ≡ total (load-says e .g) (wide t) + weightOf (batchOf colours given weights)
     load-sum =
         let d = load-says e in
-        total-same (d .g) (wide later) (loaded (d .g) (batchOf colours given weights) (wide t)) (d .holds .at)
-        ∙ load-total (chose b1 b2 b3 (d .g) (d .chosen) .accepted) (batchOf colours given weights) (all-bytes-of colours given weights bytes) (wide t)
+        held-total (chose b1 b2 b3 (d .g) (d .chosen) .accepted) (batchOf colours given weights) (all-bytes-of colours given weights bytes) (wide t) (d .holds)
 
 -- ---- merge
 module _ (b1 b2 b3 : ℕ) (t s : List ℕ) where

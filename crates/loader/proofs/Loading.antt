@@ -6,7 +6,7 @@ use mathlib.Core.List.{List, [], _∷_, _++_, List·Permᴰ, Perm}
 use mathlib.Core.HLevel.{hedberg}
 use mathlib.Core.List as L
 use Prim.Native.Nat.{ℕ, zero, suc, _+_, _-_, _*_, _/_, _≤_, _<_}
-use native.Mathlib.Nat.{zero-add, add-assoc, add-left-comm, mul-le-mul, mul-le-mul-left, mul-comm, mul-one, lt-of-not-le, lt-trans}
+use native.Mathlib.Nat.{zero-add, add-zero, add-suc, suc-add, add-assoc, add-left-comm, zero-mul, add-mul, mul-le-mul, mul-le-mul-left, mul-comm, mul-one, lt-of-not-le, lt-trans}
 use native.Mathlib.Decide.{ℕ-discrete, decLe}
 use native.Mathlib.Omega.{arith}
 use borrow.Author.Tests.{eq-eqb, ne-eqb, le-leb, lt-leb}
@@ -17,15 +17,15 @@ use Rattle.grid.specs.declared.Rgb.{Rgb}
 use Rattle.grid.specs.Range.{listFrom, sumFrom}
 use Rattle.grid.specs.Size.{spanOf, binOf}
 use Rattle.grid.specs.Grid.{Accepted, binsOf, shiftAt, componentAt, colourPlace, colourAt, choose}
-use Rattle.grid.proofs.Range.{sum-last, sum-split, sum-plus, sum-zero, sum-hit, sum-equal, term-le, hit}
+use Rattle.grid.proofs.Range.{sum-append, sum-grow, sum-plus, sum-zero, sum-hit, sum-equal, hit}
 use Rattle.grid.proofs.Size.{span-low, span-high}
 use Rattle.grid.proofs.Places.{Bytes, colour-bin, colour-place-lt}
 use Rattle.table.specs.Cell.{View, wide, numberOf, cellOf}
 use Rattle.table.specs.Sound.{limit, spanAt, total}
 use Rattle.loader.specs.Load.{Weighted, share, adds, sumOver, weightOf, loaded, weightedAt, batchOf}
-use Rattle.loader.specs.Step.{withColour, Adds, Fits}
-use Rattle.table.proofs.Soundness.{Keeps, keeps-zero, keeps-plus, Sound, sound-by, sound-keeps, number-below, total-is, span-is}
-use Rattle.table.proofs.Cells.{Holds, holds-same, add-holds, number-cell}
+use Rattle.loader.specs.Step.{partOf, withPart, withColour, Adds, Fits}
+use Rattle.table.proofs.Soundness.{Keeps, keeps-zero, keeps-plus, Sound, sound-by, sound-keeps, sound-same, number-below, total-is, total-same, span-is}
+use Rattle.table.proofs.Cells.{Holds, holds-same, holds-itself, list-holds, add-holds, number-cell}
 
 -- a test of a rest is one of a sum
 pub rest-test : (m had n : ℕ) → had ≤ m → leb n (m - had) ≡ leb (had + n) m
@@ -45,13 +45,6 @@ pub over-list : (i n : ℕ) (c : ℕ → Weighted) (f : Weighted → ℕ) → su
 unfolding sumOver sumFrom listFrom
 over-list i zero c f = refl
 over-list i (suc n) c f = ap (λ (x : ℕ). f (c i) + x) (over-list (suc i) n c f)
-
--- one colour more
-pub over-last : (n : ℕ) (c : ℕ → Weighted) (f : Weighted → ℕ) → sumOver (listFrom 0 (n + 1) c) f ≡ sumOver (listFrom 0 n c) f + f (c n)
-over-last n c f =
-    over-list 0 (n + 1) c f
-    ∙ sum-last 0 n (λ k. f (c k))
-    ∙ (λ i. sym (over-list 0 n c f) i + f (c (zero-add n i)))
 
 over-permᴰ : {cs ds : List Weighted} (f : Weighted → ℕ) → List·Permᴰ cs ds → sumOver cs f ≡ sumOver ds f
 unfolding sumOver
@@ -146,121 +139,220 @@ module _ {g : Grid} (a : Accepted g) where
       sound-by most g (loaded g cs v) (λ p h. keeps-plus (sound-keeps s p h) (over-keeps cs b p))
       (omega (arith, load-total cs b v))
 
--- ---- a table to which the first colours of a batch are added
-prefix-weight : (n i : ℕ) (c : ℕ → Weighted) → i ≤ n → weightOf (listFrom 0 i c) ≤ weightOf (listFrom 0 n c)
-unfolding weightOf
-prefix-weight n i c h =
-    omega (arith, over-list 0 i c (λ d. d .weight), over-list 0 n c (λ d. d .weight), sum-split i n (λ k. c k .weight) h)
+-- ---- colours that are one
+share-none : (x : Rgb) (j : ℕ) → share (record { colour = x; weight = 0 }) j ≡ 0
+unfolding share
+share-none x zero = refl
+share-none x (suc zero) = zero-mul (x .c1)
+share-none x (suc (suc zero)) = zero-mul (x .c2)
+share-none x (suc (suc (suc zero))) = zero-mul (x .c3)
+share-none x (suc (suc (suc (suc j)))) = zero-mul (x .c1 * x .c1 + x .c2 * x .c2 + x .c3 * x .c3)
 
-prefix-bytes : (i n : ℕ) (c : ℕ → Weighted) → ((k : ℕ) → Bytes (c k .colour)) → AllBytes (listFrom i n c)
+share-plus : (x : Rgb) (a b j : ℕ) → share (record { colour = x; weight = a + b }) j ≡ share (record { colour = x; weight = a }) j + share (record { colour = x; weight = b }) j
+unfolding share
+share-plus x a b zero = refl
+share-plus x a b (suc zero) = add-mul a b (x .c1)
+share-plus x a b (suc (suc zero)) = add-mul a b (x .c2)
+share-plus x a b (suc (suc (suc zero))) = add-mul a b (x .c3)
+share-plus x a b (suc (suc (suc (suc j)))) = add-mul a b (x .c1 * x .c1 + x .c2 * x .c2 + x .c3 * x .c3)
+
+module _ (g : Grid) (x : Rgb) (c : ℕ → Weighted) (p j : ℕ) where
+  -- x with a weight, where it counts
+  here : ℕ → ℕ
+  here w = adds g (record { colour = x; weight = w }) p j
+
+  here-none : 0 ≡ here 0
+  unfolding here adds
+  here-none = go (eqb (colourPlace g x) p)
+    where
+      go : (b : Bool) → 0 ≡ cond b (share (record { colour = x; weight = 0 }) j) 0
+      go true = sym (share-none x j)
+      go false = refl
+
+  here-plus : (a b : ℕ) → here a + here b ≡ here (a + b)
+  unfolding here adds
+  here-plus a b = go (eqb (colourPlace g x) p)
+    where
+      go : (t : Bool) → cond t (share (record { colour = x; weight = a }) j) 0 + cond t (share (record { colour = x; weight = b }) j) 0 ≡ cond t (share (record { colour = x; weight = a + b }) j) 0
+      go true = sym (share-plus x a b j)
+      go false = refl
+
+  -- any number of colours that are one add what it adds with the sum of their weights
+  run-adds : (i n : ℕ) → ((k : ℕ) → k < n → c (i + k) .colour ≡ x) → sumOver (listFrom i n c) (λ d. adds g d p j) ≡ adds g (record { colour = x; weight = weightOf (listFrom i n c) }) p j
+  unfolding here listFrom sumOver weightOf
+  run-adds i zero same = here-none
+  run-adds i (suc n) same =
+      (λ m. adds g (record { colour = first m; weight = c i .weight }) p j + run-adds (suc i) n rest m)
+      ∙ here-plus (c i .weight) (weightOf (listFrom (suc i) n c))
+    where
+      at : {k l : ℕ} → k ≡ l → c k .colour ≡ c l .colour
+      at e = ap (λ (k : ℕ). c k .colour) e
+
+      first : c i .colour ≡ x
+      first = at (sym (add-zero i)) ∙ same 0 (omega arith)
+
+      rest : (k : ℕ) → k < n → c (suc i + k) .colour ≡ x
+      rest k h = at (suc-add i k ∙ sym (add-suc i k)) ∙ same (suc k) (omega arith)
+
+-- ---- a table that holds what was there with colours loaded
+over-part : (i n m : ℕ) (c : ℕ → Weighted) (f : Weighted → ℕ) → sumOver (listFrom i n c) f + sumOver (listFrom (i + n) m c) f ≡ sumOver (listFrom i (n + m) c) f
+over-part i n m c f =
+    (λ k. over-list i n c f k + over-list (i + n) m c f k)
+    ∙ sym (sum-append i n m (λ d. f (c d)))
+    ∙ sym (over-list i (n + m) c f)
+
+run-bytes : (i n : ℕ) (c : ℕ → Weighted) → ((k : ℕ) → Bytes (c k .colour)) → AllBytes (listFrom i n c)
 unfolding listFrom
-prefix-bytes i zero c b = tt
-prefix-bytes i (suc n) c b = (b i, prefix-bytes (suc i) n c b)
+run-bytes i zero c b = tt
+run-bytes i (suc n) c b = (b i, run-bytes (suc i) n c b)
 
-module _ {g : Grid} (a : Accepted g) {v : View} (s : Sound limit g v) (c : ℕ → Weighted) (b : (k : ℕ) → Bytes (c k .colour)) {n : ℕ} (under : total g v + weightOf (listFrom 0 n c) ≤ limit) where
-  first-sound : (i : ℕ) → i ≤ n → Sound limit g (loaded g (listFrom 0 i c) v)
-  first-sound i h = load-sound a (listFrom 0 i c) (prefix-bytes 0 i c b) s (omega (arith, prefix-weight n i c h))
+module _ {g : Grid} (a : Accepted g) (cs : List Weighted) (b : AllBytes cs) (v : View) {s : List ℕ} (holds : Holds (binsOf g) s (loaded g cs v)) where
+  pub held-sound : {most : ℕ} → Sound most g v → total g v + weightOf cs ≤ most → Sound most g (wide s)
+  held-sound {most} k u = record { holds = sound-same g (wide s) (loaded g cs v) (holds .at) most ∙ load-sound a cs b k u .holds }
 
-  module _ {i : ℕ} (h : i < n) {t : List ℕ} (holds : Holds (binsOf g) t (loaded g (listFrom 0 i c) v)) where
-    here : ℕ
-    here = colourPlace g (c i .colour)
+  pub held-total : total g (wide s) ≡ total g v + weightOf cs
+  held-total = total-same g (wide s) (loaded g cs v) (holds .at) ∙ load-total a cs b v
 
-    inside : here < binsOf g
-    unfolding here
-    inside = colour-place-lt a (b i)
-
-    next : (p j : ℕ) → loaded g (listFrom 0 i c) v p j + adds g (c i) p j ≡ loaded g (listFrom 0 (i + 1) c) v p j
-    unfolding loaded
-    next p j =
-        add-assoc (v p j) (sumOver (listFrom 0 i c) (λ d. adds g d p j)) (adds g (c i) p j)
-        ∙ ap (λ (x : ℕ). v p j + x) (sym (over-last i c (λ d. adds g d p j)))
-
-    -- one colour more
-    colour-added : Holds (binsOf g) (withColour g t (c i)) (loaded g (listFrom 0 (i + 1) c) v)
-    unfolding withColour adds here
-    colour-added =
-        holds-same (add-holds holds (colourPlace g (c i .colour)) (cellOf (share (c i))) inside)
-        (λ p j l k.
-        ap (λ (x : ℕ). loaded g (listFrom 0 i c) v p j + cond (eqb (colourPlace g (c i .colour)) p) x 0) (number-cell (share (c i)) j k)
-        ∙ next p j)
-
-    colour-fits : Adds t (colourPlace g (c i .colour)) (cellOf (share (c i)))
-    unfolding adds here
-    colour-fits =
-        record {
-          cell = omega (arith, holds .lent, inside);
-          fits = λ j k.
-              let sums : wide t here j + numberOf (cellOf (share (c i))) j ≡ loaded g (listFrom 0 (i + 1) c) v here j =
-              (λ m. holds .at here j inside k m + number-cell (share (c i)) j k m)
-              ∙ ap (λ (x : Bool). loaded g (listFrom 0 i c) v here j + cond x (share (c i) j) 0) (sym (eq-eqb here here refl))
-              ∙ next here j in
-              rw sums (lt-trans (number-below a (first-sound (i + 1) (omega arith)) here inside (omega arith) j k) (lit< tt));
-        }
+-- more colours loaded into such a table
+held-more : (g : Grid) (v : View) (s e : List ℕ) (i n m : ℕ) (c : ℕ → Weighted) → Holds (binsOf g) s (loaded g (listFrom i n c) v) → Holds (binsOf g) e (loaded g (listFrom (i + n) m c) (wide s)) → Holds (binsOf g) e (loaded g (listFrom i (n + m) c) v)
+unfolding loaded
+held-more g v s e i n m c first then =
+    holds-same then
+    (λ p j h k.
+    ap (λ (x : ℕ). x + sumOver (listFrom (i + n) m c) (λ d. adds g d p j)) (first .at p j h k)
+    ∙ add-assoc (v p j) (sumOver (listFrom i n c) (λ d. adds g d p j)) (sumOver (listFrom (i + n) m c) (λ d. adds g d p j))
+    ∙ ap (λ (x : ℕ). v p j + x) (over-part i n m c (λ d. adds g d p j)))
 
 -- ---- the colours of a batch
-colour-weight : (n : ℕ) (c : ℕ → Weighted) (i : ℕ) → i < n → c i .weight ≤ weightOf (listFrom 0 n c)
-unfolding weightOf
-colour-weight n c i h = rw (over-list 0 n c (λ d. d .weight)) (term-le 0 n (λ k. c k .weight) i (omega arith) (omega arith))
+-- their weight, by whether weights are given
+pub part-weight : (colours : List ℕ) (given : Bool) (weights : List ℕ) (i n : ℕ) → weightOf (partOf colours given weights i n) ≡ cond given (sumFrom i n (λ k. getD weights k 0)) n
+unfolding weightOf partOf weightedAt
+part-weight colours true weights i n = over-list i n (weightedAt colours true weights) (λ d. d .weight)
+part-weight colours false weights i n =
+    over-list i n (weightedAt colours false weights) (λ d. d .weight) ∙ sum-equal i n 1 ∙ mul-one n
 
--- the weight of a batch, by whether weights are given
 pub batch-weight : (colours : List ℕ) (given : Bool) (weights : List ℕ) → (given ≡ true → length weights ≡ length colours / 3)
     → weightOf (batchOf colours given weights) ≡ cond given (sumFrom 0 (length weights) (λ i. getD weights i 0)) (length colours / 3)
-unfolding weightOf batchOf weightedAt
+unfolding batchOf partOf
 batch-weight colours true weights e =
-    over-list 0 (length colours / 3) (weightedAt colours true weights) (λ d. d .weight)
-    ∙ ap (λ (n : ℕ). sumFrom 0 n (λ i. getD weights i 0)) (sym (e refl))
-batch-weight colours false weights e =
-    over-list 0 (length colours / 3) (weightedAt colours false weights) (λ d. d .weight)
-    ∙ sum-equal 0 (length colours / 3) 1
-    ∙ mul-one (length colours / 3)
+    part-weight colours true weights 0 (length colours / 3) ∙ ap (λ (n : ℕ). sumFrom 0 n (λ i. getD weights i 0)) (sym (e refl))
+batch-weight colours false weights e = part-weight colours false weights 0 (length colours / 3)
 
--- colour i of a batch that fits, as the loop has it
-module _ {g : Grid} {t colours : List ℕ} {given : Bool} {weights : List ℕ} (fits : Fits g t colours given weights) (bytes : (k : ℕ) → getD colours k 0 < 256)
-    {i : ℕ} (h : i < length colours / 3) {x : Rgb} (p : x ≡ colourAt colours i) {w : ℕ} (q : w ≡ cond given (getD weights i 0) 1) where
-  batch : ℕ → Weighted
-  batch = weightedAt colours given weights
+module _ (colours : List ℕ) (given : Bool) (weights : List ℕ) (bytes : (k : ℕ) → getD colours k 0 < 256) where
+  colour-bytes : (k : ℕ) → Bytes (colourAt colours k)
+  unfolding colourAt
+  colour-bytes k = record { one = bytes (3 * k); two = bytes (3 * k + 1); three = bytes (3 * k + 2) }
 
-  it : Weighted
+  part-bytes : (i n : ℕ) → AllBytes (partOf colours given weights i n)
+  unfolding partOf weightedAt
+  part-bytes i n = run-bytes i n (weightedAt colours given weights) colour-bytes
+
+-- before the first of them
+pub held-none : (g : Grid) (t colours : List ℕ) (given : Bool) (weights : List ℕ) (i : ℕ) → length t ≡ 5 * binsOf g → Holds (binsOf g) t (loaded g (partOf colours given weights i 0) (wide t))
+unfolding loaded partOf listFrom sumOver
+held-none g t colours given weights i e = holds-same (holds-itself (binsOf g) t e) (λ p j h k. sym (add-zero (wide t p j)))
+
+-- after the first m of n colours that fit, those that follow fit
+module _ {g : Grid} {t colours : List ℕ} {given : Bool} {weights : List ℕ} {i n : ℕ} (fits : Fits g t colours given weights i n) (bytes : (k : ℕ) → getD colours k 0 < 256)
+    {s : List ℕ} (m : ℕ) (holds : Holds (binsOf g) s (loaded g (partOf colours given weights i m) (wide t))) where
+  part-within : (l : ℕ) → m + l ≤ n → weightOf (partOf colours given weights i m) + weightOf (partOf colours given weights (i + m) l) ≤ weightOf (partOf colours given weights i n)
+  unfolding partOf weightOf
+  part-within l h =
+      let c = weightedAt colours given weights in
+      omega (
+        arith,
+        over-part i m l c (λ d. d .weight),
+        over-list i (m + l) c (λ d. d .weight),
+        over-list i n c (λ d. d .weight),
+        sum-grow i (m + l) n (λ k. c k .weight) h,
+      )
+
+  pub fits-later : (at l : ℕ) → at ≡ i + m → m + l ≤ n → Fits g s colours given weights at l
+  fits-later at l e h =
+      let a = fits .table .accepted in
+      let first = partOf colours given weights i m in
+      let b = part-bytes colours given weights bytes i m in
+      let within = part-within l h in
+      record {
+        table = record { accepted = a; lent = holds .lent };
+        is-sound = held-sound a first b (wide t) holds (record { holds = fits .is-sound }) (omega (arith, fits .under)) .holds;
+        there = omega (arith, fits .there);
+        one-each = fits .one-each;
+        under = rw e (omega (arith, held-total a first b (wide t) holds, fits .under));
+      }
+
+  pub held-later : (at l : ℕ) → at ≡ i + m → {e : List ℕ} → Holds (binsOf g) e (loaded g (partOf colours given weights at l) (wide s)) → Holds (binsOf g) e (loaded g (partOf colours given weights i (m + l)) (wide t))
+  unfolding partOf
+  held-later at l q {e} more = held-more g (wide t) s e i m l (weightedAt colours given weights) holds (rw q at more)
+
+-- a table with colours added holds what was there with them loaded
+pub part-held : (g : Grid) (t colours : List ℕ) (given : Bool) (weights : List ℕ) (i n : ℕ) {e : List ℕ} → e ≡ withPart g t colours given weights i n → Holds (binsOf g) e (loaded g (partOf colours given weights i n) (wide t))
+unfolding withPart
+part-held g t colours given weights i n r = rw r (list-holds (binsOf g) (loaded g (partOf colours given weights i n) (wide t)))
+
+-- colours that fit and are one can be added at once
+module _ {g : Grid} {t colours : List ℕ} {given : Bool} {weights : List ℕ} {i n : ℕ} (fits : Fits g t colours given weights i n) (bytes : (k : ℕ) → getD colours k 0 < 256)
+    (same : (k : ℕ) → k < n → colourAt colours (i + k) ≡ colourAt colours i)
+    {x : Rgb} (p : x ≡ colourAt colours i) {w : ℕ} (q : w ≡ cond given (sumFrom i n (λ k. getD weights k 0)) n) where
+  abbrev it : Weighted
   it = record { colour = x; weight = w }
 
-  same : it ≡ batch i
-  unfolding it batch weightedAt
-  same = λ m. record { colour = p m; weight = q m }
+  abbrev these : List Weighted
+  these = partOf colours given weights i n
 
-  all-bytes : (k : ℕ) → Bytes (batch k .colour)
-  unfolding batch weightedAt colourAt
-  all-bytes k = record { one = bytes (3 * k); two = bytes (3 * k + 1); three = bytes (3 * k + 2) }
+  abbrev place : ℕ
+  place = colourPlace g x
 
-  sound-before : Sound limit g (wide t)
-  sound-before = record { holds = fits .is-sound }
+  inside : place < binsOf g
+  inside = colour-place-lt (fits .table .accepted) (subst Bytes (sym p) (colour-bytes colours given weights bytes i))
 
-  under : total g (wide t) + weightOf (listFrom 0 (length colours / 3) batch) ≤ limit
-  unfolding batch batchOf
-  under = fits .under
+  adds-it : (r j : ℕ) → adds g it r j ≡ sumOver these (λ d. adds g d r j)
+  unfolding partOf weightedAt
+  adds-it r j =
+      (λ m. adds g (record { colour = p m; weight = (q ∙ sym (part-weight colours given weights i n)) m }) r j)
+      ∙ sym (run-adds g (colourAt colours i) (weightedAt colours given weights) r j i n same)
 
   pub light : w ≤ limit
-  unfolding it
-  light = omega (arith, ap (λ (c : Weighted). c .weight) same, colour-weight (length colours / 3) batch i h, under)
+  light = omega (arith, q, part-weight colours given weights i n, fits .under)
 
-  module _ {s : List ℕ} (holds : Holds (binsOf g) s (loaded g (listFrom 0 i (weightedAt colours given weights)) (wide t))) where
-    pub has-room : Adds s (colourPlace g x) (cellOf (share (record { colour = x; weight = w })))
-    unfolding it batch
-    has-room =
-        subst (λ (c : Weighted). Adds s (colourPlace g (c .colour)) (cellOf (share c))) (sym same)
-        (colour-fits (fits .table .accepted) sound-before batch all-bytes under h holds)
+  pub has-room : Adds t (colourPlace g x) (cellOf (share (record { colour = x; weight = w })))
+  unfolding adds loaded
+  has-room =
+      let a = fits .table .accepted in
+      let after = load-sound a these (part-bytes colours given weights bytes i n) (record { holds = fits .is-sound }) (fits .under) in
+      record {
+        cell = omega (arith, fits .table .lent, inside);
+        fits = λ j k.
+            let sums : wide t place j + numberOf (cellOf (share it)) j ≡ loaded g these (wide t) place j =
+            ap (λ (y : ℕ). wide t place j + y)
+            (number-cell (share it) j k
+            ∙ ap (λ (b : Bool). cond b (share it j) 0) (sym (eq-eqb place place refl))
+            ∙ adds-it place j) in
+            rw sums (lt-trans (number-below a after place inside (omega arith) j k) (lit< tt));
+      }
 
-    pub next-holds : {e : List ℕ} → e ≡ withColour g s (record { colour = x; weight = w }) → Holds (binsOf g) e (loaded g (listFrom 0 (i + 1) (weightedAt colours given weights)) (wide t))
-    unfolding it batch
-    next-holds r =
-        rw (r ∙ ap (withColour g s) same)
-        (colour-added (fits .table .accepted) sound-before batch all-bytes under h holds)
+  pub at-once : {e : List ℕ} → e ≡ withColour g t (record { colour = x; weight = w }) → Holds (binsOf g) e (loaded g (partOf colours given weights i n) (wide t))
+  unfolding withColour adds loaded
+  at-once r =
+      rw r
+      (holds-same (add-holds (holds-itself (binsOf g) t (fits .table .lent)) place (cellOf (share it)) inside)
+      (λ q j l k. ap (λ (y : ℕ). wide t q j + y) (ap (λ (y : ℕ). cond (eqb place q) y 0) (number-cell (share it) j k) ∙ adds-it q j)))
+
+-- a colour by itself is one, with its own weight
+pub alone : (colours : List ℕ) (i k : ℕ) → k < 1 → colourAt colours (i + k) ≡ colourAt colours i
+alone colours i k h = ap (colourAt colours) (there i k h)
+  where
+    there : (i k : ℕ) → k < 1 → i + k ≡ i
+    there i k h = omega arith
+
+pub own-weight : (given : Bool) (weights : List ℕ) (i : ℕ) → cond given (getD weights i 0) 1 ≡ cond given (sumFrom i 1 (λ k. getD weights k 0)) 1
+unfolding sumFrom
+own-weight given weights i = ap (λ (w : ℕ). cond given w 1) (sym (add-zero (getD weights i 0)))
 
 -- the colours of any batch of bytes
 pub all-bytes-of : (colours : List ℕ) (given : Bool) (weights : List ℕ) → ((k : ℕ) → getD colours k 0 < 256) → AllBytes (batchOf colours given weights)
-unfolding batchOf weightedAt colourAt
-all-bytes-of colours given weights h =
-    prefix-bytes 0 (length colours / 3) (weightedAt colours given weights)
-    (λ k. record { one = h (3 * k); two = h (3 * k + 1); three = h (3 * k + 2) })
+unfolding batchOf partOf
+all-bytes-of colours given weights h = part-bytes colours given weights h 0 (length colours / 3)
 
 -- number j of place p, after a load and by what one colour adds to it
 pub loaded-at : (g : Grid) (cs : List Weighted) (v : View) (p j : ℕ) → loaded g cs v p j ≡ v p j + sumOver cs (λ c. adds g c p j)

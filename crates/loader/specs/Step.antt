@@ -5,11 +5,20 @@ use mathlib.Core.List.{List}
 use Prim.Native.Nat.{ℕ, _+_, _*_, _/_, _^_, _≤_, _<_}
 use lib.ListN.{length}
 use Rattle.grid.specs.declared.Grid.{Grid}
-use Rattle.grid.specs.Grid.{colourPlace}
+use Rattle.grid.specs.Range.{listFrom}
+use Rattle.grid.specs.Grid.{binsOf, colourPlace}
 use Rattle.table.specs.declared.Cell.{Cell}
-use Rattle.table.specs.Cell.{wide, numberOf, cellOf, plusCell, putAt, TableOf}
+use Rattle.table.specs.Cell.{wide, wideList, numberOf, cellOf, plusCell, putAt, TableOf}
 use Rattle.table.specs.Sound.{limit, sound, total}
-use Rattle.loader.specs.Load.{Weighted, share, weightOf, batchOf}
+use Rattle.loader.specs.Load.{Weighted, share, weightOf, loaded, weightedAt}
+
+-- n colours of a batch, from colour i on
+unfoldable pub partOf : List ℕ → Bool → List ℕ → ℕ → ℕ → List Weighted
+partOf colours given weights i n = listFrom i n (weightedAt colours given weights)
+
+-- a table with them added
+unfoldable pub withPart : Grid → List ℕ → List ℕ → Bool → List ℕ → ℕ → ℕ → List ℕ
+withPart g t colours given weights i n = wideList (binsOf g) (loaded g (partOf colours given weights i n) (wide t))
 
 -- a table with one colour added
 unfoldable pub withColour : Grid → List ℕ → Weighted → List ℕ
@@ -21,9 +30,11 @@ pub record Adds (t : List ℕ) (p : ℕ) (c : Cell) : Type 0 where
   pub cell : 5 * p + 5 ≤ length t
   pub fits : (j : ℕ) → j < 5 → wide t p j + numberOf c j < 2 ^ 64
 
--- a batch can be added to a sound table: one weight a colour where weights are given, and the total fits
-pub record Fits (g : Grid) (t colours : List ℕ) (given : Bool) (weights : List ℕ) : Type 0 where
+-- n colours of a batch, from colour i on, can be added to a sound table: they are there, with one weight a colour where
+-- weights are given, and the total fits
+pub record Fits (g : Grid) (t colours : List ℕ) (given : Bool) (weights : List ℕ) (i n : ℕ) : Type 0 where
   pub table : TableOf g t
   pub is-sound : sound limit g (wide t) ≡ true
+  pub there : i + n ≤ length colours / 3
   pub one-each : given ≡ true → length weights ≡ length colours / 3
-  pub under : total g (wide t) + weightOf (batchOf colours given weights) ≤ limit
+  pub under : total g (wide t) + weightOf (partOf colours given weights i n) ≤ limit

@@ -4,6 +4,7 @@ use grid::Grid;
 use grid::Rgb;
 use grid::bins;
 use grid::colour;
+use grid::flat;
 use grid::grid_of;
 use grid::place_by_steps;
 use grid::steps;
@@ -16,16 +17,16 @@ use table::put_at;
 use table::weigh;
 ghost use mathlib.Core.Path.{_≡_};
 ghost use mathlib.Core.Bool.{true, cond};
-ghost use Prim.Native.Nat.{ℕ, _+_, _-_, _^_, _≤_, _<_};
+ghost use Prim.Native.Nat.{ℕ, _+_, _-_, _*_, _^_, _≤_, _<_};
 ghost use lib.Dec.{leb};
 ghost use lib.ListN.{length, getD};
 ghost use Rattle.grid.specs.Range.{sumFrom};
 ghost use Rattle.grid.specs.Grid.{binsOf, colourPlace, StepsOf};
 ghost use Rattle.table.specs.Cell.{wide, wideList, cellOf, plusCell, putAt, TableOf};
 ghost use Rattle.table.specs.Sound.{limit};
-ghost use Rattle.loader.specs.Load.{share, loaded, batchOf, loadNumber, loadLater};
+ghost use Rattle.loader.specs.Load.{share, loadNumber, loadLater};
 ghost use Rattle.loader.specs.Merge.{merged, mergeNumber, mergeLater};
-ghost use Rattle.loader.specs.Step.{withColour, Adds, Fits};
+ghost use Rattle.loader.specs.Step.{withColour, withPart, Adds, Fits};
 
 // Adds a cell to the one at a place.
 fn add_at(table: &mut [u64], place: usize, c: Cell)
@@ -99,6 +100,17 @@ fn weight_at(weighted: bool, weights: &[u32], i: usize) -> u64
     1
 }
 
+// The weight of the 64 colours from colour i on.
+fn block_weight(weighted: bool, weights: &[u32], i: usize) -> u64
+    requires { ⌜ (weighted ≡ true → i + 64 ≤ length (now weights)) ⌝ }
+    ensures { λ r. ⌜ r ≡ cond weighted (sumFrom i 64 (λ k. getD (now (weights .entry)) k 0)) 64 ⌝ }
+{
+    if weighted {
+        return block_sum(weights, i, i + 64);
+    }
+    64
+}
+
 // Adds one colour to a table by the steps of its grid, which the contract alone names.
 fn add_colour(
     g: Grid,
@@ -117,8 +129,8 @@ fn add_colour(
     add_at(table, p, share_of(x, w));
 }
 
-// Adds a batch of colours to a table by the steps of its grid.
-fn add_by_steps(
+// Adds n colours of a batch, from colour at on, one after the other.
+fn add_each(
     g: Grid,
     table: &mut [u64],
     t1: &[usize; 256],
@@ -127,36 +139,93 @@ fn add_by_steps(
     colours: &[u8],
     weighted: bool,
     weights: &[u32],
+    at: usize,
+    n: usize,
 )
-    requires { ⌜ Fits g (now table) (now colours) weighted (now weights) ⌝ }
+    requires { ⌜ Fits g (now table) (now colours) weighted (now weights) at n ⌝ }
     requires { ⌜ StepsOf g (now t1) (now t2) (now t3) ⌝ }
-    ensures { λ r. ⌜ now (table .exit) ≡ wideList (binsOf g) (loaded g (batchOf (now (colours .entry)) weighted (now (weights .entry))) (wide (now (table .entry)))) ⌝ }
+    ensures { λ r. ⌜ now (table .exit) ≡ withPart g (now (table .entry)) (now (colours .entry)) weighted (now (weights .entry)) at n ⌝ }
 {
-    let n = colours.len() / 3;
-    let mut i = 0;
-    while i < n {
-        add_colour(
-            g,
-            table,
-            t1,
-            t2,
-            t3,
-            colour(colours, i),
-            weight_at(weighted, weights, i),
-        );
-        i = i + 1;
+    let mut k = 0;
+    while k < n {
+        let i = at + k;
+        let x = colour(colours, i);
+        let w = weight_at(weighted, weights, i);
+        add_colour(g, table, t1, t2, t3, x, w);
+        k = k + 1;
     }
 }
 
-// Adds a batch of colours to a table that is known to be sound.
-fn add_colours(g: Grid, table: &mut [u64], colours: &[u8], weighted: bool, weights: &[u32])
-    requires { ⌜ Fits g (now table) (now colours) weighted (now weights) ⌝ }
-    ensures { λ r. ⌜ now (table .exit) ≡ wideList (binsOf g) (loaded g (batchOf (now (colours .entry)) weighted (now (weights .entry))) (wide (now (table .entry)))) ⌝ }
+// Adds a block of 64 colours: at once where they are one, else each by itself. Whether weights are given is asked
+// before each loop, so that the loop without them need not multiply.
+fn add_block(
+    g: Grid,
+    table: &mut [u64],
+    t1: &[usize; 256],
+    t2: &[usize; 256],
+    t3: &[usize; 256],
+    colours: &[u8],
+    weighted: bool,
+    weights: &[u32],
+    at: usize,
+)
+    requires { ⌜ Fits g (now table) (now colours) weighted (now weights) at 64 × (3 * at + 194 < length (now colours)) ⌝ }
+    requires { ⌜ StepsOf g (now t1) (now t2) (now t3) ⌝ }
+    ensures { λ r. ⌜ now (table .exit) ≡ withPart g (now (table .entry)) (now (colours .entry)) weighted (now (weights .entry)) at 64 ⌝ }
+{
+    if flat(colours, at) {
+        let x = colour(colours, at);
+        let w = block_weight(weighted, weights, at);
+        add_colour(g, table, t1, t2, t3, x, w);
+        return;
+    }
+    if weighted {
+        add_each(g, table, t1, t2, t3, colours, true, weights, at, 64);
+        return;
+    }
+    add_each(g, table, t1, t2, t3, colours, false, weights, at, 64);
+}
+
+// Adds the first n colours of a batch, a block at a time.
+fn add_blocks(
+    g: Grid,
+    table: &mut [u64],
+    t1: &[usize; 256],
+    t2: &[usize; 256],
+    t3: &[usize; 256],
+    colours: &[u8],
+    weighted: bool,
+    weights: &[u32],
+    n: usize,
+)
+    requires { ⌜ Fits g (now table) (now colours) weighted (now weights) 0 n ⌝ }
+    requires { ⌜ StepsOf g (now t1) (now t2) (now t3) ⌝ }
+    ensures { λ r. ⌜ now (table .exit) ≡ withPart g (now (table .entry)) (now (colours .entry)) weighted (now (weights .entry)) 0 n ⌝ }
+{
+    let mut i = 0;
+    while 64 < n - i {
+        add_block(g, table, t1, t2, t3, colours, weighted, weights, i);
+        i = i + 64;
+    }
+    add_each(g, table, t1, t2, t3, colours, weighted, weights, i, n - i);
+}
+
+// Adds the first n colours of a batch to a table that is known to be sound.
+fn add_colours(
+    g: Grid,
+    table: &mut [u64],
+    colours: &[u8],
+    weighted: bool,
+    weights: &[u32],
+    n: usize,
+)
+    requires { ⌜ Fits g (now table) (now colours) weighted (now weights) 0 n ⌝ }
+    ensures { λ r. ⌜ now (table .exit) ≡ withPart g (now (table .entry)) (now (colours .entry)) weighted (now (weights .entry)) 0 n ⌝ }
 {
     let t1 = steps(g, 0);
     let t2 = steps(g, 1);
     let t3 = steps(g, 2);
-    add_by_steps(g, table, &t1, &t2, &t3, colours, weighted, weights);
+    add_blocks(g, table, &t1, &t2, &t3, colours, weighted, weights, n);
 }
 
 // Whether the colours of a batch, with the total that is there, stay within the limit.
@@ -204,7 +273,7 @@ pub fn load(
     if !batch_fits(had, n, weighted, weights) {
         return 7;
     }
-    add_colours(g, table, colours, weighted, weights);
+    add_colours(g, table, colours, weighted, weights, n);
     0
 }
 

@@ -6,7 +6,7 @@ use mathlib.Core.List.{List, _++_}
 use Prim.Native.Nat.{ℕ, _+_, _-_, _≤_, _<_}
 use native.Mathlib.Nat.{zero-add, lt-of-not-le}
 use native.Mathlib.Omega.{arith}
-use native.Mathlib.Decide.{ℕ-discrete, decLe}
+use native.Mathlib.Decide.{decLe}
 use borrow.Author.Tests.{le-leb, lt-leb, lt-ltb, le-ltb, leb-true, leb-false, ltb-true, ltb-false}
 use borrow.Rule.Slice.PartMut.{putMid, same-len-mid, mid-len, take-put, drop-put}
 use lib.Dec.{leb, ltb}
@@ -80,31 +80,58 @@ module _ (first n : ℕ) (f : ℕ → ℕ) (old : List ℕ) where
       (λ a b. within i h a b ∙ ap (λ (t : Bool). cond t (f i) (getD old i 0)) (sym (among-yes first n i a b)))
       (λ a. after i h a ∙ ap (λ (t : Bool). cond t (f i) (getD old i 0)) (sym (among-after first n i a))))
 
--- ---- a band from the front, as a loop writes it
+-- ---- one band after the other
 module _ (f : ℕ → ℕ) (old : List ℕ) where
-  pub band-none : old ≡ writeBand 0 0 f old
-  band-none = band-is 0 0 f old old refl (λ i h a. refl) (λ i h a b. absurd (omega arith)) (λ i h a. refl)
+  pub band-empty : (first : ℕ) → old ≡ writeBand first 0 f old
+  band-empty first = band-is first 0 f old old refl (λ i h a. refl) (λ i h a b. absurd (omega arith)) (λ i h a. refl)
 
-  pub band-more : (n : ℕ) → n < length old → set (writeBand 0 n f old) n (f n) ≡ writeBand 0 (n + 1) f old
-  band-more n h =
-      band-is 0 (n + 1) f old (set (writeBand 0 n f old) n (f n)) (length-set (writeBand 0 n f old) n (f n) ∙ band-length 0 n f old)
-      (λ i l a. absurd (omega arith))
-      (λ i l a b. go i l b (ℕ-discrete i n))
-      (λ i l a. getD-set-other (writeBand 0 n f old) n i (f n) 0 (λ e. absurd (omega (arith, a, e))) ∙ band-after 0 n f old i l (omega arith))
+  pub band-one : (i : ℕ) → i < length old → set old i (f i) ≡ writeBand i 1 f old
+  band-one i h =
+      band-is i 1 f old (set old i (f i)) (length-set old i (f i))
+      (λ k l a. getD-set-other old i k (f i) 0 (λ e. absurd (omega (arith, a, e))))
+      (λ k l a b. subst (λ (n : ℕ). getD (set old i (f i)) n 0 ≡ f n) (here k a b) (getD-set-same old i (f i) 0 h))
+      (λ k l a. getD-set-other old i k (f i) 0 (λ e. absurd (omega (arith, a, e))))
     where
-      go : (i : ℕ) → i < length old → i < 0 + (n + 1) → Dec (i ≡ n) → getD (set (writeBand 0 n f old) n (f n)) i 0 ≡ f i
-      go i l b (yes e) = rw e (getD-set-same (writeBand 0 n f old) n (f n) 0 (rw (band-length 0 n f old) h))
-      go i l b (no d) = getD-set-other (writeBand 0 n f old) n i (f n) 0 d ∙ band-within 0 n f old i l (omega arith) (omega arith)
+      here : (k : ℕ) → i ≤ k → k < i + 1 → i ≡ k
+      here k a b = omega arith
 
-  pub band-three : (n : ℕ) → n + 2 < length old → set (set (set (writeBand 0 n f old) n (f n)) (n + 1) (f (n + 1))) (n + 2) (f (n + 2)) ≡ writeBand 0 (n + 3) f old
-  band-three n h =
-      let two : (n + 1) + 1 ≡ n + 2 = omega arith in
-      let three : (n + 2) + 1 ≡ n + 3 = omega arith in
-      ap (λ (l : List ℕ). set (set l (n + 1) (f (n + 1))) (n + 2) (f (n + 2))) (band-more n (omega arith))
-      ∙ ap (λ (l : List ℕ). set l (n + 2) (f (n + 2))) (band-more (n + 1) (omega arith))
-      ∙ ap (λ (k : ℕ). set (writeBand 0 k f old) (n + 2) (f (n + 2))) two
-      ∙ band-more (n + 2) h
-      ∙ ap (λ (k : ℕ). writeBand 0 k f old) three
+  -- two bands, the second where the first ends, are one
+  pub band-join : (first n m : ℕ) → writeBand (first + n) m f (writeBand first n f old) ≡ writeBand first (n + m) f old
+  band-join first n m =
+      let half = writeBand first n f old in
+      let same = band-length first n f old in
+      band-is first (n + m) f old (writeBand (first + n) m f half) (band-length (first + n) m f half ∙ same)
+      (λ i h a. band-before (first + n) m f half i (rw same h) (omega arith) ∙ band-before first n f old i h a)
+      (λ i h a b. by-place {P = getD (writeBand (first + n) m f half) i 0 ≡ f i} (first + n) m i
+      (λ l. band-before (first + n) m f half i (rw same h) l ∙ band-within first n f old i h a l)
+      (λ l k. band-within (first + n) m f half i (rw same h) l k)
+      (λ l. absurd (omega (arith, b, l))))
+      (λ i h a. band-after (first + n) m f half i (rw same h) (omega arith) ∙ band-after first n f old i h (omega arith))
+
+module _ (f : ℕ → ℕ) (old : List ℕ) (first : ℕ) where
+  -- one place more
+  pub band-next : (n : ℕ) → first + n < length old → set (writeBand first n f old) (first + n) (f (first + n)) ≡ writeBand first (n + 1) f old
+  band-next n h = band-one f (writeBand first n f old) (first + n) (rw (band-length first n f old) h) ∙ band-join f old first n 1
+
+  pub band-four : first + 3 < length old → set (set (set (set old first (f first)) (first + 1) (f (first + 1))) (first + 2) (f (first + 2))) (first + 3) (f (first + 3)) ≡ writeBand first 4 f old
+  band-four h =
+      ap (λ (l : List ℕ). set (set (set l (first + 1) (f (first + 1))) (first + 2) (f (first + 2))) (first + 3) (f (first + 3))) (band-one f old first (omega arith))
+      ∙ ap (λ (l : List ℕ). set (set l (first + 2) (f (first + 2))) (first + 3) (f (first + 3))) (band-next 1 (omega arith))
+      ∙ ap (λ (l : List ℕ). set l (first + 3) (f (first + 3))) (band-next 2 (omega arith))
+      ∙ band-next 3 h
+
+-- a band of f is a band of whatever agrees with f there
+pub band-same : (first n : ℕ) (f h : ℕ → ℕ) (old : List ℕ) → ((i : ℕ) → first ≤ i → i < first + n → f i ≡ h i) → writeBand first n f old ≡ writeBand first n h old
+band-same first n f h old same =
+    band-is first n h old (writeBand first n f old) (band-length first n f old)
+    (band-before first n f old)
+    (λ i l a b. band-within first n f old i l a b ∙ same i a b)
+    (band-after first n f old)
+
+-- ---- a band from the front
+module _ (f : ℕ → ℕ) (old : List ℕ) where
+  pub band-on : (n m : ℕ) → writeBand n m f (writeBand 0 n f old) ≡ writeBand 0 (n + m) f old
+  band-on n m = ap (λ (k : ℕ). writeBand k m f (writeBand 0 n f old)) (sym (zero-add n)) ∙ band-join f old 0 n m
 
   pub band-whole : writeBand 0 (length old) f old ≡ listFrom 0 (length old) f
   band-whole =

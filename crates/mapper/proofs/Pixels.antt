@@ -1,17 +1,19 @@
 -- The pixels of a part of a frame: their colours, indices and painted bytes are those of the frame, counted from the part's first pixel.
 -- Assumes nothing.
-use mathlib.Core.Path.{_≡_, sym, ap, _∙_}
+use mathlib.Core.Path.{_≡_, ap, _∙_}
+use mathlib.Core.Bool.{true}
 use mathlib.Core.List.{List}
-use Prim.Native.Nat.{ℕ, _+_, _-_, _*_, _/_, _%_, _<_}
-use native.Mathlib.Nat.{add-zero}
+use Prim.Native.Nat.{ℕ, _+_, _-_, _*_, _/_, _%_, _≤_, _<_}
 use native.Mathlib.Omega.{arith}
-use lib.ListN.{length, getD, set, take, drop}
+use lib.ListN.{getD, take, drop}
 use Rattle.grid.specs.declared.Grid.{Grid}
 use Rattle.grid.specs.declared.Rgb.{Rgb}
 use Rattle.grid.specs.Grid.{colourAt, colourPlace}
-use Rattle.mapper.specs.Band.{indexAt, writeBand}
-use Rattle.mapper.specs.Paint.{putColour, paintAt}
-use Rattle.mapper.proofs.Band.{part-at, band-after, band-three}
+use Rattle.grid.specs.OneColour.{oneColour}
+use Rattle.grid.proofs.OneColour.{one-colour}
+use Rattle.mapper.specs.Band.{indexAt}
+use Rattle.mapper.specs.Paint.{paintAt}
+use Rattle.mapper.proofs.Band.{part-at}
 
 byte-from : (first k i j : ℕ) (frame : List ℕ) → 3 * i + j < k → getD (take k (drop (3 * first) frame)) (3 * i + j) 0 ≡ getD frame (3 * (first + i) + j) 0
 byte-from first k i j frame h = part-at (3 * first) k frame (3 * i + j) h ∙ ap (λ (n : ℕ). getD frame n 0) (there first i j)
@@ -37,6 +39,18 @@ pub part-index : (g : Grid) (map frame : List ℕ) (first k i : ℕ) → 3 * i +
 unfolding indexAt
 part-index g map frame first k i h = ap (λ (x : Rgb). getD map (colourPlace g x) 0) (part-colour first k i frame h)
 
+-- a pixel of another's colour has its index
+pub same-index : (g : Grid) (map part : List ℕ) (i k : ℕ) → colourAt part k ≡ colourAt part i → indexAt g map part k ≡ indexAt g map part i
+unfolding indexAt
+same-index g map part i k alike = ap (λ (x : Rgb). getD map (colourPlace g x) 0) alike
+
+-- the 64 pixels of a run of one colour
+pub run-colour : (part : List ℕ) (from : ℕ) → oneColour part from ≡ true → (i : ℕ) → from ≤ i → i < from + 64 → colourAt part i ≡ colourAt part from
+run-colour part from one i a b = ap (colourAt part) (along from i a) ∙ one-colour part from one (i - from) (omega arith)
+  where
+    along : (from i : ℕ) → from ≤ i → i ≡ from + (i - from)
+    along from i h = omega arith
+
 -- ---- painted bytes
 -- byte c of pixel i
 pub paint-byte : (g : Grid) (map palette frame : List ℕ) (i c : ℕ) → c < 3 → paintAt g map palette frame (3 * i + c) ≡ getD palette (3 * indexAt g map frame i + c) 0
@@ -60,34 +74,3 @@ part-paint g map palette frame first k j h =
 
     byte : (first j : ℕ) → j % 3 ≡ (3 * first + j) % 3
     byte first j = omega arith
-
--- ---- a frame that a loop paints from the front
-module _ (g : Grid) (map palette old : List ℕ) where
-  abbrev pub paintedTo : ℕ → List ℕ
-  paintedTo i = writeBand 0 (3 * i) (paintAt g map palette old) old
-
-  -- pixel i is not painted yet
-  pub next-colour : (i : ℕ) → 3 * i + 2 < length old → colourAt (paintedTo i) i ≡ colourAt old i
-  unfolding colourAt
-  next-colour i h =
-      let one = band-after 0 (3 * i) (paintAt g map palette old) old (3 * i) (omega arith) (omega arith) in
-      let two = band-after 0 (3 * i) (paintAt g map palette old) old (3 * i + 1) (omega arith) (omega arith) in
-      let three = band-after 0 (3 * i) (paintAt g map palette old) old (3 * i + 2) h (omega arith) in
-      cc
-
-  -- and then it is
-  pub next-painted : (i : ℕ) → 3 * i + 2 < length old → putColour (paintedTo i) i (colourAt palette (indexAt g map old i)) ≡ paintedTo (i + 1)
-  unfolding putColour colourAt
-  next-painted i h =
-      (λ t. set (set (set (paintedTo i) (3 * i) (first i t)) (3 * i + 1) (sym (paint-byte g map palette old i 1 (omega arith)) t)) (3 * i + 2) (sym (paint-byte g map palette old i 2 (omega arith)) t))
-      ∙ band-three (paintAt g map palette old) old (3 * i) h
-      ∙ ap (λ (n : ℕ). writeBand 0 n (paintAt g map palette old) old) (more i)
-    where
-      first : (i : ℕ) → getD palette (3 * indexAt g map old i) 0 ≡ paintAt g map palette old (3 * i)
-      first i =
-          ap (λ (n : ℕ). getD palette n 0) (sym (add-zero (3 * indexAt g map old i)))
-          ∙ sym (paint-byte g map palette old i 0 (omega arith))
-          ∙ ap (paintAt g map palette old) (add-zero (3 * i))
-
-      more : (i : ℕ) → 3 * i + 3 ≡ 3 * (i + 1)
-      more i = omega arith

@@ -1,4 +1,5 @@
 pub mod Band
 pub mod Map
 pub mod Paint
+pub mod Packed
 pub mod Bands

@@ -4,9 +4,8 @@ use mathlib.Core.Bool.{true, not, _&&_}
 use mathlib.Core.List.{List}
 use Prim.Native.Nat.{ℕ, _+_, _*_, _/_, _%_, _≤_}
 use lib.Dec.{eqb, leb, ltb}
-use lib.ListN.{length, getD, set}
+use lib.ListN.{length, getD}
 use Rattle.grid.specs.declared.Grid.{Grid}
-use Rattle.grid.specs.declared.Rgb.{Rgb}
 use Rattle.grid.specs.Answer.{refuse, whenDone}
 use Rattle.grid.specs.Grid.{gridOf, onGrid, numberOn, binsOf}
 use Rattle.mapper.specs.Band.{indexAt, writeBand, allBelow, MapOf}
@@ -15,14 +14,11 @@ use Rattle.mapper.specs.Band.{indexAt, writeBand, allBelow, MapOf}
 unfoldable pub paintAt : Grid → List ℕ → List ℕ → List ℕ → ℕ → ℕ
 paintAt g map palette frame j = getD palette (3 * indexAt g map frame (j / 3) + j % 3) 0
 
--- a colour written as pixel i of a row of bytes
-unfoldable pub putColour : List ℕ → ℕ → Rgb → List ℕ
-putColour bytes i x = set (set (set bytes (3 * i) (x .c1)) (3 * i + 1) (x .c2)) (3 * i + 2) (x .c3)
-
 -- a map of an accepted grid, and a palette that has a colour for each of its entries
 pub record Fits (g : Grid) (map palette : List ℕ) : Type 0 where
   pub of-grid : MapOf g map
   pub some : 3 ≤ length palette
+  pub few : length palette ≤ 768
   pub below : allBelow (length palette / 3) map ≡ true
 
 -- the number of a painting on an accepted grid: "the palette for painting 3..768 bytes, a multiple of three"

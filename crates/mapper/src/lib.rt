@@ -2,20 +2,22 @@
 use grid::Chosen;
 use grid::Grid;
 use grid::Rgb;
+use grid::bin_of;
 use grid::bins;
 use grid::colour;
+use grid::flat;
 use grid::grid_of;
-use grid::place_by_steps;
 use grid::steps;
 ghost use mathlib.Core.Path.{_≡_};
 ghost use Prim.Native.Nat.{ℕ, _+_, _*_, _/_, _%_, _≤_, _<_};
 ghost use lib.Dec.{ltb};
 ghost use lib.ListN.{length, getD};
 ghost use Rattle.grid.specs.Range.{listFrom};
-ghost use Rattle.grid.specs.Grid.{colourPlace, StepsOf};
+ghost use Rattle.grid.specs.Grid.{colourPlace, componentAt, StepsOf};
 ghost use Rattle.mapper.specs.Band.{indexAt, writeBand, allBelow, MapOf};
 ghost use Rattle.mapper.specs.Map.{mapNumber, mapLater};
-ghost use Rattle.mapper.specs.Paint.{putColour, paintAt, Fits, paintNumber, paintLater};
+ghost use Rattle.mapper.specs.Paint.{paintAt, Fits, paintNumber, paintLater};
+ghost use Rattle.mapper.specs.Packed.{unpacked, fillAt, packedAt, Packed};
 
 // The largest entry of a map, or 0.
 fn largest(map: &[u8]) -> u8
@@ -44,8 +46,27 @@ fn index_of(
     requires { ⌜ StepsOf g (now t1) (now t2) (now t3) × MapOf g (now map) ⌝ }
     ensures { λ r. ⌜ r ≡ getD (now (map .entry)) (colourPlace g x) 0 ⌝ }
 {
-    let p = place_by_steps(t1, t2, t3, x);
+    let i1 = x.c1 as usize;
+    let i2 = x.c2 as usize;
+    let p = t1[i1] + t2[i2] + bin_of(g.s3, x.c3);
     map[p]
+}
+
+// The index of pixel i of a part of a frame.
+fn index_at(
+    g: Grid,
+    t1: &[usize; 256],
+    t2: &[usize; 256],
+    t3: &[usize; 256],
+    map: &[u8],
+    part: &[u8],
+    i: usize,
+) -> u8
+    requires { ⌜ StepsOf g (now t1) (now t2) (now t3) × MapOf g (now map) ⌝ }
+    requires { ⌜ 3 * i + 2 < length (now part) ⌝ }
+    ensures { λ r. ⌜ r ≡ indexAt g (now (map .entry)) (now (part .entry)) i ⌝ }
+{
+    index_of(g, t1, t2, t3, map, colour(part, i))
 }
 
 // Whether a band reaches past a frame of n pixels. Its first pixel and its length can add up past the largest number.
@@ -60,7 +81,113 @@ fn reaches_past(n: usize, first: usize, pixels: usize) -> bool
 
 // ---- Mapping
 
-// The index of each pixel of a part of a frame, into the same part of the index buffer.
+// The indices of some pixels of a part, one after the other.
+fn map_some(
+    g: Grid,
+    t1: &[usize; 256],
+    t2: &[usize; 256],
+    t3: &[usize; 256],
+    map: &[u8],
+    part: &[u8],
+    indices: &mut [u8],
+    from: usize,
+    count: usize,
+)
+    requires { ⌜ StepsOf g (now t1) (now t2) (now t3) × MapOf g (now map) ⌝ }
+    requires { ⌜ (3 * (from + count) ≤ length (now part)) × (from + count ≤ length (now indices)) ⌝ }
+    ensures { λ r. ⌜ now (indices .exit) ≡ writeBand from count (indexAt g (now (map .entry)) (now (part .entry))) (now (indices .entry)) ⌝ }
+{
+    let mut k = 0;
+    while k < count {
+        let i = from + k;
+        indices[i] = index_at(g, t1, t2, t3, map, part, i);
+        k = k + 1;
+    }
+}
+
+// The indices of four pixels, all read before any is written.
+fn map_four(
+    g: Grid,
+    t1: &[usize; 256],
+    t2: &[usize; 256],
+    t3: &[usize; 256],
+    map: &[u8],
+    part: &[u8],
+    indices: &mut [u8],
+    i: usize,
+)
+    requires { ⌜ StepsOf g (now t1) (now t2) (now t3) × MapOf g (now map) ⌝ }
+    requires { ⌜ (3 * (i + 4) ≤ length (now part)) × (i + 4 ≤ length (now indices)) ⌝ }
+    ensures { λ r. ⌜ now (indices .exit) ≡ writeBand i 4 (indexAt g (now (map .entry)) (now (part .entry))) (now (indices .entry)) ⌝ }
+{
+    let a = index_at(g, t1, t2, t3, map, part, i);
+    let b = index_at(g, t1, t2, t3, map, part, i + 1);
+    let c = index_at(g, t1, t2, t3, map, part, i + 2);
+    let d = index_at(g, t1, t2, t3, map, part, i + 3);
+    indices[i] = a;
+    indices[i + 1] = b;
+    indices[i + 2] = c;
+    indices[i + 3] = d;
+}
+
+// The indices of 64 pixels, four at a time.
+fn map_by_fours(
+    g: Grid,
+    t1: &[usize; 256],
+    t2: &[usize; 256],
+    t3: &[usize; 256],
+    map: &[u8],
+    part: &[u8],
+    indices: &mut [u8],
+    from: usize,
+)
+    requires { ⌜ StepsOf g (now t1) (now t2) (now t3) × MapOf g (now map) ⌝ }
+    requires { ⌜ (3 * (from + 64) ≤ length (now part)) × (from + 64 ≤ length (now indices)) ⌝ }
+    ensures { λ r. ⌜ now (indices .exit) ≡ writeBand from 64 (indexAt g (now (map .entry)) (now (part .entry))) (now (indices .entry)) ⌝ }
+{
+    let mut k = 0;
+    while k < 16 {
+        map_four(g, t1, t2, t3, map, part, indices, from + 4 * k);
+        k = k + 1;
+    }
+}
+
+// One index at 64 places.
+fn fill_block(indices: &mut [u8], from: usize, index: u8)
+    requires { ⌜ from + 64 ≤ length (now indices) ⌝ }
+    ensures { λ r. ⌜ now (indices .exit) ≡ writeBand from 64 (λ i. index) (now (indices .entry)) ⌝ }
+{
+    let mut k = 0;
+    while k < 64 {
+        indices[from + k] = index;
+        k = k + 1;
+    }
+}
+
+// The indices of 64 pixels, looked up once where they are of one colour with the pixel after them.
+fn map_block(
+    g: Grid,
+    t1: &[usize; 256],
+    t2: &[usize; 256],
+    t3: &[usize; 256],
+    map: &[u8],
+    part: &[u8],
+    indices: &mut [u8],
+    from: usize,
+)
+    requires { ⌜ StepsOf g (now t1) (now t2) (now t3) × MapOf g (now map) ⌝ }
+    requires { ⌜ (3 * (from + 65) ≤ length (now part)) × (from + 64 ≤ length (now indices)) ⌝ }
+    ensures { λ r. ⌜ now (indices .exit) ≡ writeBand from 64 (indexAt g (now (map .entry)) (now (part .entry))) (now (indices .entry)) ⌝ }
+{
+    if flat(part, from) {
+        let index = index_at(g, t1, t2, t3, map, part, from);
+        fill_block(indices, from, index);
+    } else {
+        map_by_fours(g, t1, t2, t3, map, part, indices, from);
+    }
+}
+
+// The index of each pixel of a part of a frame, into the same part of the index buffer: 64 at a time, and then the rest.
 fn map_part(
     g: Grid,
     t1: &[usize; 256],
@@ -76,10 +203,11 @@ fn map_part(
 {
     let n = indices.len();
     let mut i = 0;
-    while i < n {
-        indices[i] = index_of(g, t1, t2, t3, map, colour(part, i));
-        i = i + 1;
+    while 64 < n - i {
+        map_block(g, t1, t2, t3, map, part, indices, i);
+        i = i + 64;
     }
+    map_some(g, t1, t2, t3, map, part, indices, i, n - i);
 }
 
 // Hands the band of the frame and of the index buffer on as parts.
@@ -150,38 +278,139 @@ pub fn map(
 
 // ---- Painting
 
-// Writes a colour as pixel i of a row of bytes.
-fn put_colour(bytes: &mut [u8], i: usize, x: Rgb)
-    requires { ⌜ 3 * i + 2 < length (now bytes) ⌝ }
-    ensures { λ r. ⌜ now (bytes .exit) ≡ putColour (now (bytes .entry)) i x ⌝ }
+// A colour as one number.
+fn packed(x: Rgb) -> u32
+    ensures { λ r. ⌜ ((d : ℕ) → unpacked r d ≡ componentAt x d) ⌝ }
 {
-    let at = 3 * i;
-    bytes[at] = x.c1;
-    bytes[at + 1] = x.c2;
-    bytes[at + 2] = x.c3;
+    x.c1 as u32 + 256 * (x.c2 as u32) + 65536 * (x.c3 as u32)
 }
 
-// The palette's colour at each pixel's index, in the place of a part of a frame.
+// Each colour of a palette as one number, so that painting a pixel reads its colour at once.
+fn packed_palette(palette: &[u8]) -> [u32; 256]
+    requires { ⌜ length (now palette) ≤ 768 ⌝ }
+    ensures { λ r. ⌜ Packed (now (palette .entry)) r ⌝ }
+{
+    let mut out = [0u32; 256];
+    let n = palette.len() / 3;
+    let mut i = 0;
+    while i < n {
+        out[i] = packed(colour(palette, i));
+        i = i + 1;
+    }
+    out
+}
+
+// The packed colour that pixel i of a part of a frame is painted with.
+fn painted(
+    g: Grid,
+    t1: &[usize; 256],
+    t2: &[usize; 256],
+    t3: &[usize; 256],
+    map: &[u8],
+    colours: &[u32; 256],
+    part: &[u8],
+    i: usize,
+) -> u32
+    requires { ⌜ StepsOf g (now t1) (now t2) (now t3) × MapOf g (now map) × (length (now colours) ≡ 256) ⌝ }
+    requires { ⌜ 3 * i + 2 < length (now part) ⌝ }
+    ensures { λ r. ⌜ r ≡ getD (now (colours .entry)) (indexAt g (now (map .entry)) (now (part .entry)) i) 0 ⌝ }
+{
+    let index = index_at(g, t1, t2, t3, map, part, i) as usize;
+    colours[index]
+}
+
+// Writes a packed colour as pixel i of a row of bytes.
+fn put_packed(bytes: &mut [u8], i: usize, v: u32)
+    requires { ⌜ 3 * i + 2 < length (now bytes) ⌝ }
+    ensures { λ r. ⌜ now (bytes .exit) ≡ writeBand (3 * i) 3 (fillAt v) (now (bytes .entry)) ⌝ }
+{
+    let at = 3 * i;
+    bytes[at] = (v % 256) as u8;
+    bytes[at + 1] = (v / 256 % 256) as u8;
+    bytes[at + 2] = (v / 65536 % 256) as u8;
+}
+
+// Writes a packed colour as some pixels, one after the other.
+fn fill_some(bytes: &mut [u8], from: usize, count: usize, v: u32)
+    requires { ⌜ 3 * (from + count) ≤ length (now bytes) ⌝ }
+    ensures { λ r. ⌜ now (bytes .exit) ≡ writeBand (3 * from) (3 * count) (fillAt v) (now (bytes .entry)) ⌝ }
+{
+    let mut k = 0;
+    while k < count {
+        put_packed(bytes, from + k, v);
+        k = k + 1;
+    }
+}
+
+// Paints some pixels of a part, one after the other.
+fn paint_some(
+    g: Grid,
+    t1: &[usize; 256],
+    t2: &[usize; 256],
+    t3: &[usize; 256],
+    map: &[u8],
+    colours: &[u32; 256],
+    part: &mut [u8],
+    from: usize,
+    count: usize,
+)
+    requires { ⌜ StepsOf g (now t1) (now t2) (now t3) × MapOf g (now map) × (length (now colours) ≡ 256) ⌝ }
+    requires { ⌜ 3 * (from + count) ≤ length (now part) ⌝ }
+    ensures { λ r. ⌜ now (part .exit) ≡ writeBand (3 * from) (3 * count) (packedAt g (now (map .entry)) (now (colours .entry)) (now (part .entry))) (now (part .entry)) ⌝ }
+{
+    let mut k = 0;
+    while k < count {
+        let i = from + k;
+        let v = painted(g, t1, t2, t3, map, colours, part, i);
+        put_packed(part, i, v);
+        k = k + 1;
+    }
+}
+
+// Paints 64 pixels of a part, at once where they are of one colour.
+fn paint_block(
+    g: Grid,
+    t1: &[usize; 256],
+    t2: &[usize; 256],
+    t3: &[usize; 256],
+    map: &[u8],
+    colours: &[u32; 256],
+    part: &mut [u8],
+    from: usize,
+)
+    requires { ⌜ StepsOf g (now t1) (now t2) (now t3) × MapOf g (now map) × (length (now colours) ≡ 256) ⌝ }
+    requires { ⌜ 3 * from + 194 < length (now part) ⌝ }
+    ensures { λ r. ⌜ now (part .exit) ≡ writeBand (3 * from) (3 * 64) (packedAt g (now (map .entry)) (now (colours .entry)) (now (part .entry))) (now (part .entry)) ⌝ }
+{
+    if flat(part, from) {
+        let v = painted(g, t1, t2, t3, map, colours, part, from);
+        fill_some(part, from, 64, v);
+    } else {
+        paint_some(g, t1, t2, t3, map, colours, part, from, 64);
+    }
+}
+
+// The packed colour at each pixel's index, in the place of a part of a frame.
 fn paint_part(
     g: Grid,
     t1: &[usize; 256],
     t2: &[usize; 256],
     t3: &[usize; 256],
     map: &[u8],
-    palette: &[u8],
+    colours: &[u32; 256],
     part: &mut [u8],
 )
-    requires { ⌜ StepsOf g (now t1) (now t2) (now t3) × Fits g (now map) (now palette) ⌝ }
+    requires { ⌜ StepsOf g (now t1) (now t2) (now t3) × MapOf g (now map) × (length (now colours) ≡ 256) ⌝ }
     requires { ⌜ length (now part) % 3 ≡ 0 ⌝ }
-    ensures { λ r. ⌜ now (part .exit) ≡ listFrom 0 (length (now (part .entry))) (paintAt g (now (map .entry)) (now (palette .entry)) (now (part .entry))) ⌝ }
+    ensures { λ r. ⌜ now (part .exit) ≡ listFrom 0 (length (now (part .entry))) (packedAt g (now (map .entry)) (now (colours .entry)) (now (part .entry))) ⌝ }
 {
     let n = part.len() / 3;
     let mut i = 0;
-    while i < n {
-        let index = index_of(g, t1, t2, t3, map, colour(part, i));
-        put_colour(part, i, colour(palette, index as usize));
-        i = i + 1;
+    while 64 < n - i {
+        paint_block(g, t1, t2, t3, map, colours, part, i);
+        i = i + 64;
     }
+    paint_some(g, t1, t2, t3, map, colours, part, i, n - i);
 }
 
 // Hands the band of the frame on as a part.
@@ -194,7 +423,8 @@ fn paint_band(g: Grid, map: &[u8], palette: &[u8], frame: &mut [u8], first: usiz
     let t3 = steps(g, 2);
     let from = 3 * first;
     let to = from + 3 * pixels;
-    paint_part(g, &t1, &t2, &t3, map, palette, &mut frame[from..to]);
+    let colours = packed_palette(palette);
+    paint_part(g, &t1, &t2, &t3, map, &colours, &mut frame[from..to]);
 }
 
 // The palette's colour at each pixel's index, in the place of a band of a frame.

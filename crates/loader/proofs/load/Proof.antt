@@ -17,6 +17,7 @@ use Rattle.grid.specs.Grid.{gridOf, Accepted}
 use Rattle.grid.proofs.Places.{chose, bins-high}
 use Rattle.table.specs.declared.Weighed.the-variants.{Total, Unsound}
 use Rattle.loader.specs.Load.{Weighted, weightOf, batchOf}
+use Rattle.loader.specs.Step.{partOf, withPart}
 use Rattle.table.specs.Sound.{limit, total, sound}
 use Rattle.table.specs.Cell.{wide, TableOf}
 use Rattle.loader.proofs.Calls.{pairs, load-no-grid, load-not-threes, load-not-paired, load-length, load-unsound, load-over, load-done}
@@ -142,10 +143,12 @@ returns-6 c =
     (leb-false _ _ (sym (tested (c .before)) ∙ not-true _ (c .if5 .taken)))
 
 add-colours-requires : tie.Need-add-colours-requires
+unfolding batchOf partOf
 add-colours-requires c κs =
     record {
       table = the-table (c .before .before .before .before .before .before .before .before);
       is-sound = is-sound (c .before .before .before) .0;
+      there = omega arith;
       one-each = one-each (c .before .before .before .before .before .before .before .before .before .before);
       under = leb-true _ _ (sym (tested (c .before .before)) ∙ not-false _ (c .before .if5 .left));
     }
@@ -154,6 +157,7 @@ same-length-3 : tie.Need-same-length-3
 same-length-3 c = search needs
 
 returns-7 : tie.Need-returns-7
+unfolding batchOf partOf withPart
 returns-7 c =
     let a = c .before .before .before .before .before .before .before .before .before .before .before .before .before .before .before .before .before .before .before .before .before .before .args in
     load-done (a .b1) (a .b2) (a .b3) (now (a .table)) (now (a .colours)) (a .weighted) (now (a .weights)) (on-grid (c .before .before .before .before .before .before .before .before .before .before .before .before .before .before .before)) (c .before .before .before .before .before .before .before .before .before .before .before .before .before .before .if1 .left) (paired (c .before .before .before .before .before .before .before .before .before .before .before .before .before)) (the-table (c .before .before .before .before .before .before .before .before .before .before .before) .lent) (is-sound (c .before .before .before .before .before .before) .0)

@@ -1,34 +1,83 @@
--- `mapper::index_of` meets its contract: the steps lead to the place of the colour, which lies in the map.
+-- `mapper::index_of` meets its contract: two steps and a bin lead to the place of the colour, which lies in the map.
 -- Assumes nothing.
-use mathlib.Core.Path.{_≡_, ap, _∙_}
-use Prim.Native.Nat.{ℕ, _+_}
+use mathlib.Core.Path.{_≡_, refl, ap, _∙_}
+use mathlib.Core.List.{List}
+use Prim.Native.Nat.{ℕ, _+_, _<_, _^_}
 use native.Mathlib.Omega.{arith}
 use borrow.Author.Needs.{needs}
 use denote.Ref.{now}
-use lib.ListN.{getD}
+use lib.ListN.{getD, length}
 use Rattle.grid.specs.Grid.{colourPlace}
-use Rattle.grid.proofs.Places.{Bytes, steps-place, colour-place-lt}
+use Rattle.grid.specs.Size.{binOf}
+use Rattle.grid.proofs.Places.{Bytes, three, last-step, steps-place, colour-place-lt}
 use Rattle.mapper.proofs.index_of.Statement.{statement}
 use Rattle.mapper.proofs.index_of.Tie as tie
 
 bytes : (s : tie.Start) → Bytes (s .args .x)
 bytes s = let known = s .good in record { one = omega (arith, known); two = omega (arith, known); three = omega (arith, known) }
 
-place-is : (s : tie.Start) {p : ℕ} → p ≡ getD (now (s .args .t1)) (s .args .x .c1) 0 + getD (now (s .args .t2)) (s .args .x .c2) 0 + getD (now (s .args .t3)) (s .args .x .c3) 0 → p ≡ colourPlace (s .args .g) (s .args .x)
-place-is s e = e ∙ steps-place (s .pre .0) {x = s .args .x} (bytes s)
+-- what the code adds up
+place-is : (s : tie.Start) {n : ℕ} → n ≡ binOf (s .args .g .s3) (s .args .x .c3) → getD (now (s .args .t1)) (s .args .x .c1) 0 + getD (now (s .args .t2)) (s .args .x .c2) 0 + n ≡ colourPlace (s .args .g) (s .args .x)
+place-is s e =
+    let x = s .args .x in
+    let last : getD (now (s .args .t3)) (x .c3) 0 ≡ binOf (s .args .g .s3) (x .c3) =
+    ap (λ (t : List ℕ). getD t (x .c3) 0) (s .pre .0 .three) ∙ last-step (s .args .g) (x .c3) (bytes s .three) in
+    omega (arith, e, last, steps-place (s .pre .0) {x = x} (bytes s))
 
-place-by-steps-requires : tie.Need-place-by-steps-requires
-place-by-steps-requires c κs = search needs
+inside : (s : tie.Start) → colourPlace (s .args .g) (s .args .x) < length (now (s .args .map))
+inside s = omega (arith, colour-place-lt (s .pre .1 .accepted) (bytes s), s .pre .1 .lent)
+
+-- and it is small
+small : (s : tie.Start) → colourPlace (s .args .g) (s .args .x) < 2 ^ 64
+small s = omega (arith, inside s)
+
+cast-i1 : tie.Need-cast-i1
+cast-i1 c = search needs
+
+cast-i2 : tie.Need-cast-i2
+cast-i2 c = search needs
+
+mul-p : tie.Need-mul-p
+mul-p c = search needs
+
+element-copy-out-p : tie.Need-element-copy-out-p
+element-copy-out-p c = search needs
+
+mul-p-2 : tie.Need-mul-p-2
+mul-p-2 c = search needs
+
+element-copy-out-p-2 : tie.Need-element-copy-out-p-2
+element-copy-out-p-2 c = search needs
+
+add-p : tie.Need-add-p
+add-p c = let s = c .before .before .before .before .before in omega (arith, place-is s refl, small s)
+
+bin-of-requires : tie.Need-bin-of-requires
+bin-of-requires c κs = omega (arith, three (c .before .before .before .before .before .pre .1 .accepted) .few)
+
+add-p-2 : tie.Need-add-p-2
+add-p-2 c = let s = c .before .before .before .before .before .before in omega (arith, place-is s (c .bin-of .ensures), small s)
 
 shared-slice-read-result : tie.Need-shared-slice-read-result
-shared-slice-read-result c =
-    let s = c .before .before .before in
-    omega (arith, place-is s (c .before .place-by-steps .ensures), colour-place-lt (s .pre .1 .accepted) (bytes s), s .pre .1 .lent)
+shared-slice-read-result c = let s = c .before .before .before .before .before .before .before in omega (arith, place-is s (c .before .bin-of .ensures), inside s)
 
 returns : tie.Need-returns
 returns c =
-    let s = c .before .before .before in
-    ap (λ (p : ℕ). getD (now (s .args .map)) p 0) (place-is s (c .before .place-by-steps .ensures))
+    let s = c .before .before .before .before .before .before .before in
+    ap (λ (p : ℕ). getD (now (s .args .map)) p 0) (place-is s (c .before .bin-of .ensures))
 
 pub index-of-spec : {M : Type 1} → statement M
-index-of-spec = tie.close (tie.spec place-by-steps-requires shared-slice-read-result returns)
+index-of-spec =
+    tie.close
+    (tie.spec
+    cast-i1
+    cast-i2
+    mul-p
+    element-copy-out-p
+    mul-p-2
+    element-copy-out-p-2
+    add-p
+    bin-of-requires
+    add-p-2
+    shared-slice-read-result
+    returns)

@@ -126,7 +126,7 @@ paint-band-requires : tie.Need-paint-band-requires
 paint-band-requires c κs =
     let band = inside (c .before .before .before) in
     let threes = c .before .before .before .before .before .before .before .before .before .before .if1 .left in
-    (record { of-grid = the-map (c .before .before .before .before .before .before .before .before); some = c .before .before .before .before .before .before .before .if3 .left; below = below (c .before) }, omega arith)
+    (record { of-grid = the-map (c .before .before .before .before .before .before .before .before); some = c .before .before .before .before .before .before .before .if3 .left; few = c .before .before .before .before .before .before .if4 .left; below = below (c .before) }, omega arith)
 
 same-length : tie.Need-same-length
 same-length c = search needs

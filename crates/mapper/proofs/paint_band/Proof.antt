@@ -1,12 +1,14 @@
 -- `mapper::paint_band` meets its contract: the part that is put back is painted, and the rest is as it was.
 -- Assumes nothing.
+use mathlib.Core.Path.{_∙_}
 use Prim.Native.Nat.{_+_, _*_, _-_, _≤_}
 use native.Mathlib.Omega.{arith}
 use borrow.Author.Needs.{needs}
 use denote.Ref.{now}
-use lib.ListN.{length}
+use lib.ListN.{length, take, drop}
 use Rattle.mapper.proofs.Band.{part-length, part-written}
 use Rattle.mapper.proofs.Pixels.{part-paint}
+use Rattle.mapper.proofs.Runs.{packed-is}
 use Rattle.mapper.proofs.paint_band.Statement.{statement}
 use Rattle.mapper.proofs.paint_band.Tie as tie
 
@@ -28,6 +30,9 @@ mul-to c = search needs
 add-to : tie.Need-add-to
 add-to c = search needs
 
+packed-palette-requires : tie.Need-packed-palette-requires
+packed-palette-requires c κs = search needs
+
 sub-paint-part : tie.Need-sub-paint-part
 sub-paint-part c = search needs
 
@@ -45,11 +50,12 @@ same-length c = search needs
 
 returns : tie.Need-returns
 returns c =
-    let s = c .before .before .before .before .before .before .before .before .before .before .before .before .before in
+    let s = c .before .before .before .before .before .before .before .before .before .before .before .before .before .before .before in
     let a = s .args in
+    let k = (3 * a .first + 3 * a .pixels) - 3 * a .first in
     let fits : 3 * a .first + 3 * a .pixels ≤ length (now (a .frame)) = omega (arith, s .pre .1) in
     part-written (3 * a .first) (3 * a .pixels) _ _ _ (now (a .frame)) _ fits (part-length (3 * a .first) (3 * a .pixels) (now (a .frame)) fits) (c .before .before .paint-part .ensures)
-    (λ i h. part-paint (a .g) (now (a .map)) (now (a .palette)) (now (a .frame)) (a .first) ((3 * a .first + 3 * a .pixels) - 3 * a .first) i (omega (arith, h)))
+    (λ i h. packed-is (a .g) (now (a .map)) (now (a .palette)) _ (take k (drop (3 * a .first) (now (a .frame)))) (s .pre .0) (c .before .before .before .before .before .before .before .before .packed-palette .ensures) i ∙ part-paint (a .g) (now (a .map)) (now (a .palette)) (now (a .frame)) (a .first) k i (omega (arith, h)))
 
 pub paint-band-spec : {M : Type 1} → statement M
 paint-band-spec =
@@ -61,6 +67,7 @@ paint-band-spec =
     mul-from
     mul-to
     add-to
+    packed-palette-requires
     sub-paint-part
     part-paint-part-start
     part-paint-part-end

@@ -1,0 +1,158 @@
+/*
+ * Seluvava: a colour quantizer by Wu's method of 1992, with every call proved to do what stands here.
+ *
+ * load counts colours into a table, merge adds a second table into a first, cut makes of a table a palette of at
+ * most 256 colours and a map to it, and map and paint take the pixels of a frame to that palette.
+ *
+ * GRID. Each call is told three sizes, one for each component of a colour, each from 2, 4, 8, 16, 32, 64, 128.
+ * The bin of component c at size b is c * b / 256, rounded down. Bin (r, g, b) stands at place (r * b2 + g) * b3 + b.
+ * The choice of the Rust crate quantette for RGB is 16, 32, 16.
+ *
+ * TABLE. Five numbers per bin, from 5 * place on: weight n, three component sums, the sum of squared components.
+ * An empty table is all zeros. A table is sound if, in each bin, every component sum lies between n * low and
+ * n * high, where low and high are the smallest and largest value of that component that fall in the bin, the
+ * squares are at most 195,075 * n, and all weights total at most 4,294,967,295. What load and merge make of sound
+ * tables is sound.
+ *
+ * LENT BUFFERS. A buffer is a pointer and, right after it, its length in elements (not in bytes). A caller sees to
+ * three things, and no call can test them: a pointer is aligned for its type and has that many elements behind it;
+ * no two buffers that are lent to one call overlap (so no table is merged into itself); and nobody else writes to a
+ * buffer, or reads one that is not const, before the call returns. A buffer of length 0 is never looked at, so its
+ * pointer may be NULL; 0 is a length like any other, accepted or refused as each call says.
+ * Buffers that are const are only read, and any number of calls may read them at once. No call keeps anything,
+ * allocates, waits or fails in any other way than by its number. A stack of 64 KiB is enough for each.
+ *
+ * NUMBERS. What load, merge, map and paint answer, and a cut in `number`:
+ *
+ *   0  done
+ *   1  a grid size not among the seven
+ *   2  k outside 1..256
+ *   3  colour bytes not a multiple of three
+ *   4  weights given and not one per colour
+ *   5  a lent length is wrong, or a band reaches past the frame
+ *   6  a table is not sound
+ *   7  the total after a load or merge would pass 4,294,967,295
+ *   8  cut of a table with total 0
+ *   9  some entry of the map is not below the palette's length
+ *
+ * The lowest number that applies is given, and none is given otherwise. Any number but 0 is a refusal, which writes
+ * nothing: every lent byte stays as it was.
+ */
+#ifndef SELUVAVA_H
+#define SELUVAVA_H
+
+#include <stdbool.h>
+#include <stddef.h>
+#include <stdint.h>
+
+#ifdef __cplusplus
+extern "C" {
+#endif
+
+/* How many bins a grid has: b1 * b2 * b3, or 0 where a size is not among the seven. */
+size_t seluvava_bins(size_t b1, size_t b2, size_t b3);
+
+/* How many numbers a table of a grid has: 5 * bins, or 0 where a size is not among the seven. */
+size_t seluvava_numbers(size_t b1, size_t b2, size_t b3);
+
+/*
+ * Load: adds colours to a table. A colour c1, c2, c3 of weight w adds, in its bin, w to n, w * c to each sum and
+ * w * (c1*c1 + c2*c2 + c3*c3) to the squares. Weight 0 adds nothing; no colours at all change nothing. In whatever
+ * order and batches the same colours are loaded, the table is the same.
+ *
+ *   table     5 * bins numbers, sound. Changed.
+ *   colours   three bytes per colour.
+ *   weighted  whether weights are given. If not, each colour has weight 1.
+ *   weights   one per colour if they are given. If not, any list, which is not looked at.
+ *
+ * Answers 0, 1, 3, 4, 5, 6, 7.
+ */
+uint8_t seluvava_load(size_t b1, size_t b2, size_t b3,
+                      uint64_t *table, size_t table_len,
+                      const uint8_t *colours, size_t colours_len,
+                      bool weighted,
+                      const uint32_t *weights, size_t weights_len);
+
+/*
+ * Merge: adds a second table into a first, number by number.
+ *
+ *   table     5 * bins numbers, sound. Changed.
+ *   second    5 * bins numbers, sound.
+ *
+ * Answers 0, 1, 5, 6, 7.
+ */
+uint8_t seluvava_merge(size_t b1, size_t b2, size_t b3,
+                       uint64_t *table, size_t table_len,
+                       const uint64_t *second, size_t second_len);
+
+/* What a cut answers: its number, and how many boxes there are. A refusal has none. */
+struct seluvava_cut_answer {
+    uint8_t number;
+    size_t boxes;
+};
+
+/*
+ * Cut: divides the grid into at most k boxes, each with weight in it, and each bin in exactly one.
+ *
+ *   table     5 * bins numbers, sound, with a total above 0.
+ *   work      5 * bins numbers, whatever they are. Afterwards the moments: at each place the sum over all bins
+ *             with r, g and b at most its own.
+ *   palette   at least 3 * k bytes. Box i's colour, from 3 * i on: each sum divided by n, rounded down.
+ *   counts    at least k. Box i's weight n, at place i.
+ *   map       bins bytes. At the place of each bin the index i of its box.
+ *   boxes     at least 6 * k bytes. Box i's bins, from 6 * i on: r0, r1, g0, g1, b0, b1, where r0 is the first bin in
+ *             the first dimension and r1 the first that is not, and so on.
+ *   spreads   at least k. Box i's spread, at place i: squares - (c1*c1 + c2*c2 + c3*c3) / n of its sums, each
+ *             operation rounded once; 0.0 for a box of one bin, or one found impossible to cut; infinity at k = 1.
+ *
+ * Of palette, counts, boxes and spreads, places past the last box stay as they were.
+ * Answers 0, 1, 2, 5, 6, 8.
+ */
+struct seluvava_cut_answer
+seluvava_cut(size_t b1, size_t b2, size_t b3, size_t k,
+             const uint64_t *table, size_t table_len,
+             uint64_t *work, size_t work_len,
+             uint8_t *palette, size_t palette_len,
+             uint32_t *counts, size_t counts_len,
+             uint8_t *map, size_t map_len,
+             uint8_t *boxes, size_t boxes_len,
+             double *spreads, size_t spreads_len);
+
+/*
+ * Map: writes the index of each pixel of a band, which is the map's byte at the pixel's bin. The band is the
+ * `pixels` pixels from pixel `first` on. It must end inside the frame or at its end, and may have no pixels.
+ *
+ *   map       bins bytes, all of them below `colours`, used by the band or not.
+ *   colours   the palette's length in colours, 1..256; after a cut the number of boxes.
+ *   frame     three bytes per pixel.
+ *   indices   one byte per pixel of the frame. Changed in the band; the rest stays.
+ *
+ * Answers 0, 1, 3, 5, 9.
+ */
+uint8_t seluvava_map(size_t b1, size_t b2, size_t b3,
+                     const uint8_t *map, size_t map_len,
+                     size_t colours,
+                     const uint8_t *frame, size_t frame_len,
+                     uint8_t *indices, size_t indices_len,
+                     size_t first, size_t pixels);
+
+/*
+ * Paint: replaces each pixel of a band by the palette's colour at its index. Band and map are as above.
+ *
+ *   map       bins bytes, all of them below the palette's length in colours, used by the band or not.
+ *   palette   3..768 bytes, a multiple of three; after a cut the first 3 * boxes bytes.
+ *   frame     three bytes per pixel. Changed in the band; the rest stays.
+ *
+ * Answers 0, 1, 3, 5, 9.
+ */
+uint8_t seluvava_paint(size_t b1, size_t b2, size_t b3,
+                       const uint8_t *map, size_t map_len,
+                       const uint8_t *palette, size_t palette_len,
+                       uint8_t *frame, size_t frame_len,
+                       size_t first, size_t pixels);
+
+#ifdef __cplusplus
+}
+#endif
+
+#endif

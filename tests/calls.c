@@ -1,0 +1,628 @@
+/*
+ * Every call of seluvava.h, held to document 01: the worked boxes P1 to P10, every number of every call, alone and two
+ * at a time, lengths one off, NULL with length 0, bands, and batches and frames of every length up to 200.
+ * What a lent buffer must hold afterwards is said here once more, in C, by the same rules.
+ */
+#define _DEFAULT_SOURCE
+#include "seluvava.h"
+
+#include "check.h"
+
+#include <math.h>
+#include <sys/mman.h>
+
+#define LIMIT UINT64_C(4294967295)
+#define PIXELS 200
+
+/* ---- What a call is asked with */
+
+enum buffer { TABLE, SECOND, WORK, COLOURS, WEIGHTS, PALETTE, COUNTS, MAP, BOXES, SPREADS, FRAME, INDICES, BUFFERS };
+
+/* Numbers, and the length and content of each buffer. Grids have at most 64 bins here. */
+struct asked {
+    size_t b1, b2, b3, k, weighted, told, first, pixels;
+    size_t length[BUFFERS];
+    uint64_t table[321], second[321], work[321];
+    uint8_t colours[3 * PIXELS];
+    uint32_t weights[PIXELS];
+    uint8_t palette[780];
+    uint32_t counts[260];
+    uint8_t map[65], boxes[1560];
+    double spreads[260];
+    uint8_t frame[3 * PIXELS], indices[PIXELS];
+};
+
+#define AT(member) offsetof(struct asked, member), sizeof(((struct asked *)0)->member)
+
+static const struct {
+    const char *name;
+    size_t at, room, element;
+} buffers[] = {
+    [TABLE] = {"table", AT(table), 8},       [SECOND] = {"second", AT(second), 8},
+    [WORK] = {"work", AT(work), 8},          [COLOURS] = {"colours", AT(colours), 1},
+    [WEIGHTS] = {"weights", AT(weights), 4}, [PALETTE] = {"palette", AT(palette), 1},
+    [COUNTS] = {"counts", AT(counts), 4},    [MAP] = {"map", AT(map), 1},
+    [BOXES] = {"boxes", AT(boxes), 1},       [SPREADS] = {"spreads", AT(spreads), 8},
+    [FRAME] = {"frame", AT(frame), 1},       [INDICES] = {"indices", AT(indices), 1},
+};
+
+/* Which buffers a call is lent, and which of them it may change. */
+enum call { LOAD, MERGE, CUT, MAPPING, PAINT, CALLS };
+#define BIT(n) (1u << (n))
+
+static const struct {
+    const char *name;
+    unsigned lent, changed;
+} calls[] = {
+    [LOAD] = {"load", BIT(TABLE) | BIT(COLOURS) | BIT(WEIGHTS), BIT(TABLE)},
+    [MERGE] = {"merge", BIT(TABLE) | BIT(SECOND), BIT(TABLE)},
+    [CUT] = {"cut", BIT(TABLE) | BIT(WORK) | BIT(PALETTE) | BIT(COUNTS) | BIT(MAP) | BIT(BOXES) | BIT(SPREADS),
+             BIT(WORK) | BIT(PALETTE) | BIT(COUNTS) | BIT(MAP) | BIT(BOXES) | BIT(SPREADS)},
+    [MAPPING] = {"map", BIT(MAP) | BIT(FRAME) | BIT(INDICES), BIT(INDICES)},
+    [PAINT] = {"paint", BIT(MAP) | BIT(PALETTE) | BIT(FRAME), BIT(FRAME)},
+};
+
+static struct seluvava_cut_answer answer_of(enum call call, const struct asked *q, void *const *at)
+{
+    struct seluvava_cut_answer answer = {0, 0};
+    const size_t b1 = q->b1, b2 = q->b2, b3 = q->b3, *length = q->length;
+    switch (call) {
+    case LOAD:
+        answer.number = seluvava_load(b1, b2, b3, at[TABLE], length[TABLE], at[COLOURS], length[COLOURS],
+                                      q->weighted != 0, at[WEIGHTS], length[WEIGHTS]);
+        break;
+    case MERGE:
+        answer.number = seluvava_merge(b1, b2, b3, at[TABLE], length[TABLE], at[SECOND], length[SECOND]);
+        break;
+    case CUT:
+        answer = seluvava_cut(b1, b2, b3, q->k, at[TABLE], length[TABLE], at[WORK], length[WORK],
+                              at[PALETTE], length[PALETTE], at[COUNTS], length[COUNTS], at[MAP], length[MAP],
+                              at[BOXES], length[BOXES], at[SPREADS], length[SPREADS]);
+        break;
+    case MAPPING:
+        answer.number = seluvava_map(b1, b2, b3, at[MAP], length[MAP], q->told, at[FRAME], length[FRAME],
+                                     at[INDICES], length[INDICES], q->first, q->pixels);
+        break;
+    default:
+        answer.number = seluvava_paint(b1, b2, b3, at[MAP], length[MAP], at[PALETTE], length[PALETTE],
+                                       at[FRAME], length[FRAME], q->first, q->pixels);
+    }
+    return answer;
+}
+
+/* ---- What must be there afterwards */
+
+static size_t place(const struct asked *q, const uint8_t *c)
+{
+    return (c[0] * q->b1 / 256 * q->b2 + c[1] * q->b2 / 256) * q->b3 + c[2] * q->b3 / 256;
+}
+
+static void loaded(struct asked *q)
+{
+    for (size_t i = 0; i < q->length[COLOURS] / 3; i++) {
+        const uint8_t *c = q->colours + 3 * i;
+        uint64_t *cell = q->table + 5 * place(q, c), w = q->weighted ? q->weights[i] : 1;
+        cell[0] += w;
+        for (size_t d = 0; d < 3; d++) {
+            cell[1 + d] += w * c[d];
+            cell[4] += w * c[d] * c[d];
+        }
+    }
+}
+
+static void merged(struct asked *q)
+{
+    for (size_t i = 0; i < q->length[TABLE]; i++) q->table[i] += q->second[i];
+}
+
+/* The sum over the bins of a box. */
+static void box_sum(const struct asked *q, const uint8_t *box, uint64_t *sum)
+{
+    memset(sum, 0, 5 * sizeof *sum);
+    for (size_t r = box[0]; r < box[1]; r++)
+        for (size_t g = box[2]; g < box[3]; g++)
+            for (size_t b = box[4]; b < box[5]; b++)
+                for (size_t j = 0; j < 5; j++) sum[j] += q->table[5 * ((r * q->b2 + g) * q->b3 + b) + j];
+}
+
+static double spread(const uint64_t *sum)
+{
+    const double c1 = (double)sum[1], c2 = (double)sum[2], c3 = (double)sum[3];
+    return (double)sum[4] - (c1 * c1 + c2 * c2 + c3 * c3) / (double)sum[0];
+}
+
+/* Colour, count and map of box i; answers how many bins it has. */
+static size_t box_cut(struct asked *q, size_t i)
+{
+    const uint8_t *box = q->boxes + 6 * i;
+    uint64_t sum[5];
+    check(box[0] < box[1] && box[2] < box[3] && box[4] < box[5], "box %zu has no bin", i);
+    check(box[1] <= q->b1 && box[3] <= q->b2 && box[5] <= q->b3, "box %zu is not inside the grid", i);
+    box_sum(q, box, sum);
+    check(sum[0] > 0, "box %zu has no weight", i);
+    check(q->spreads[i] == (q->k == 1 ? INFINITY : spread(sum)) || q->spreads[i] == 0, "box %zu has another spread", i);
+    for (size_t d = 0; d < 3; d++) q->palette[3 * i + d] = (uint8_t)(sum[1 + d] / sum[0]);
+    q->counts[i] = (uint32_t)sum[0];
+    for (size_t r = box[0]; r < box[1]; r++)
+        for (size_t g = box[2]; g < box[3]; g++)
+            memset(q->map + (r * q->b2 + g) * q->b3 + box[4], (int)i, (size_t)(box[5] - box[4]));
+    return (size_t)((box[1] - box[0]) * (box[3] - box[2]) * (box[5] - box[4]));
+}
+
+/* All that follows from the boxes. Which they are, and whose spread is 0.0, the worked ones tell. */
+static void cut(struct asked *q, size_t boxes, const uint8_t *bounds, const double *spreads)
+{
+    size_t bins = 0;
+    check(1 <= boxes && boxes <= q->k, "%zu boxes", boxes);
+    memcpy(q->boxes, bounds, 6 * boxes);
+    memcpy(q->spreads, spreads, boxes * sizeof *spreads);
+    memset(q->map, 255, q->length[MAP]);
+    for (size_t i = 0; i < boxes; i++) bins += box_cut(q, i);
+    check(bins == q->length[MAP] && !memchr(q->map, 255, bins), "a bin lies in no box, or in two");
+    for (size_t p = 0; p < bins; p++) {
+        const uint8_t below[6] = {0, (uint8_t)(p / (q->b2 * q->b3) + 1), 0, (uint8_t)(p / q->b3 % q->b2 + 1),
+                                  0, (uint8_t)(p % q->b3 + 1)};
+        box_sum(q, below, q->work + 5 * p);
+    }
+}
+
+static void mapped(struct asked *q)
+{
+    for (size_t p = q->first; p < q->first + q->pixels; p++) q->indices[p] = q->map[place(q, q->frame + 3 * p)];
+}
+
+static void painted(struct asked *q)
+{
+    for (size_t p = q->first; p < q->first + q->pixels; p++)
+        memcpy(q->frame + 3 * p, q->palette + 3 * q->map[place(q, q->frame + 3 * p)], 3);
+}
+
+/* ---- Lending and asking */
+
+/* A buffer has no byte that is not lent, for AddressSanitizer; or it ends, or starts, at a page that is shut. */
+enum way { EXACT, GUARD_BEHIND, GUARD_BEFORE, WAYS };
+static const char *const ways[] = {"lent exactly", "lent with a guard page behind", "lent with a guard page before"};
+static enum way way;
+
+/* One page for each buffer, with a guard page on either side. */
+static unsigned char *pages;
+static size_t page;
+
+static unsigned char *page_of(size_t buffer)
+{
+    return pages + (2 * buffer + 1) * page;
+}
+
+static void make_pages(void)
+{
+    page = (size_t)sysconf(_SC_PAGESIZE);
+    pages = mmap(NULL, (2 * BUFFERS + 1) * page, PROT_NONE, MAP_PRIVATE | MAP_ANONYMOUS, -1, 0);
+    need(pages != MAP_FAILED, "memory");
+    for (size_t b = 0; b < BUFFERS; b++) need(buffers[b].room <= page, "pages that a buffer fits in");
+}
+
+/* Lends what a buffer is to hold. Under a guard, what the call may not change is also shut to writing. */
+static void *lend(size_t buffer, const void *content, size_t size, bool changes)
+{
+    unsigned char *at;
+    if (way == EXACT) {
+        at = size ? malloc(size) : NULL;
+        need(at || !size, "memory");
+    } else {
+        need(mprotect(page_of(buffer), page, PROT_READ | PROT_WRITE) == 0, "a page");
+        at = way == GUARD_BEHIND ? page_of(buffer) + page - size : page_of(buffer);
+    }
+    if (size) memcpy(at, content, size);
+    if (way != EXACT && !changes) need(mprotect(page_of(buffer), page, PROT_READ) == 0, "a page that is only read");
+    return at;
+}
+
+/* Asks a call, which must answer the number, and holds every lent byte to what must be there then: on a refusal what
+ * was there before. What was asked with becomes what is there then. Answers the number of boxes. */
+static size_t ask(enum call call, struct asked *q, unsigned number, const char *what, const char *and)
+{
+    void *at[BUFFERS] = {NULL};
+    struct seluvava_cut_answer answer;
+    now("%s, %s%s%s, %s", calls[call].name, what, *and ? " and " : "", and, ways[way]);
+    for (size_t b = 0; b < BUFFERS; b++)
+        if (calls[call].lent & BIT(b))
+            at[b] = lend(b, (unsigned char *)q + buffers[b].at, q->length[b] * buffers[b].element,
+                         number == 0 && (calls[call].changed & BIT(b)));
+    answer = answer_of(call, q, at);
+    check(answer.number == number, "answered %u and not %u", answer.number, number);
+    if (number != 0) check(answer.boxes == 0, "a refusal answered %zu boxes", answer.boxes);
+    else if (call == LOAD) loaded(q);
+    else if (call == MERGE) merged(q);
+    else if (call == CUT) cut(q, answer.boxes, at[BOXES], at[SPREADS]);
+    else if (call == MAPPING) mapped(q);
+    else painted(q);
+    for (size_t b = 0; b < BUFFERS; b++) {
+        const size_t size = q->length[b] * buffers[b].element;
+        if (!(calls[call].lent & BIT(b)) || !size) continue;
+        check(memcmp(at[b], (unsigned char *)q + buffers[b].at, size) == 0, "%s holds other bytes", buffers[b].name);
+        if (way == EXACT) free(at[b]);
+    }
+    return answer.boxes;
+}
+
+/* ---- The worked boxes */
+
+struct batch {
+    unsigned number;
+    size_t colours;
+    uint8_t bytes[9];
+    bool weighted;
+    uint32_t weights[2];
+};
+
+#define BLACK_WHITE .loads = 1, .batches = {{0, 2, {0, 0, 0, 255, 255, 255}, true, {1, 3}}}
+#define PLAIN(n, ...) .loads = 1, .batches = {{0, n, {__VA_ARGS__}, false, {0}}}
+#define REDS PLAIN(3, 0, 0, 0, 64, 0, 0, 255, 0, 0)
+#define SIZE_1 .loads = 1, .batches = {{1, 1, {0, 0, 0}, false, {0}}}, .k = 2, .number = 1
+
+static const struct worked {
+    const char *name;
+    size_t b1, b2, b3, k, loads;
+    struct batch batches[2];
+    unsigned number;
+    size_t boxes;
+    uint8_t palette[9];
+    uint32_t counts[3];
+    uint8_t bounds[18];
+    double spreads[3];
+    const char *map;
+} worked[] = {
+    {"P1", 2, 2, 2, BLACK_WHITE, .k = 2, .boxes = 2, .palette = {0, 0, 0, 255, 255, 255}, .counts = {1, 3},
+     .bounds = {0, 1, 0, 2, 0, 2, 1, 2, 0, 2, 0, 2}, .map = "00001111"},
+    {"P2", 2, 2, 2, BLACK_WHITE, .k = 3, .boxes = 2, .palette = {255, 255, 255, 0, 0, 0}, .counts = {3, 1},
+     .bounds = {1, 2, 0, 2, 0, 2, 0, 1, 0, 2, 0, 2}, .map = "11110000"},
+    {"P3", 2, 2, 2, PLAIN(1, 10, 20, 30), .k = 4, .boxes = 1, .palette = {10, 20, 30}, .counts = {1},
+     .bounds = {0, 2, 0, 2, 0, 2}, .map = "00000000"},
+    {"P4", 2, 2, 2, PLAIN(2, 1, 0, 0, 2, 0, 0), .k = 256, .boxes = 1, .palette = {1, 0, 0}, .counts = {2},
+     .bounds = {0, 2, 0, 2, 0, 2}, .map = "00000000"},
+    {"P5", 2, 2, 2, PLAIN(2, 0, 0, 0, 0, 128, 128), .k = 2, .boxes = 2, .palette = {0, 0, 0, 0, 128, 128},
+     .counts = {1, 1}, .bounds = {0, 2, 0, 1, 0, 2, 0, 2, 1, 2, 0, 2}, .map = "00110011"},
+    {"P6", 4, 4, 4, PLAIN(2, 0, 0, 0, 192, 0, 0), .k = 2, .boxes = 2, .palette = {0, 0, 0, 192, 0, 0},
+     .counts = {1, 1}, .bounds = {0, 1, 0, 4, 0, 4, 1, 4, 0, 4, 0, 4},
+     .map = "0000000000000000111111111111111111111111111111111111111111111111"},
+    {"P7", 4, 2, 2, REDS, .k = 2, .boxes = 2, .palette = {32, 0, 0, 255, 0, 0}, .counts = {2, 1},
+     .bounds = {0, 2, 0, 2, 0, 2, 2, 4, 0, 2, 0, 2}, .spreads = {2048, 0}, .map = "0000000011111111"},
+    {"P8", 4, 2, 2, REDS, .k = 3, .boxes = 3, .palette = {255, 0, 0, 0, 0, 0, 64, 0, 0}, .counts = {1, 1, 1},
+     .bounds = {2, 4, 0, 2, 0, 2, 0, 1, 0, 2, 0, 2, 1, 2, 0, 2, 0, 2}, .map = "1111222200000000"},
+    {"P9", 2, 2, 2, .loads = 2, .batches = {{0, 1, {9, 9, 9}, true, {LIMIT}}, {7, 1, {9, 9, 9}, true, {1}}}, .k = 1,
+     .boxes = 1, .palette = {9, 9, 9}, .counts = {LIMIT}, .bounds = {0, 2, 0, 2, 0, 2}, .spreads = {INFINITY},
+     .map = "00000000"},
+    {"P10, total 0", 2, 2, 2, .k = 2, .number = 8},
+    {"P10, k=0", 2, 2, 2, BLACK_WHITE, .k = 0, .number = 2},
+    {"P10, k=257", 2, 2, 2, BLACK_WHITE, .k = 257, .number = 2},
+    {"P10, first size 1", 1, 2, 2, SIZE_1},
+    {"P10, second size 1", 2, 1, 2, SIZE_1},
+    {"P10, third size 1", 2, 2, 1, SIZE_1},
+};
+
+/* An empty table, and room for one box more than k. */
+static void start_worked(const struct worked *w, struct asked *q)
+{
+    const size_t bins = w->b1 * w->b2 * w->b3;
+    memset(q, 0xa5, sizeof *q);
+    q->b1 = w->b1, q->b2 = w->b2, q->b3 = w->b3, q->k = w->k;
+    q->length[TABLE] = q->length[WORK] = 5 * bins;
+    q->length[MAP] = bins;
+    q->length[PALETTE] = 3 * (w->k + 1);
+    q->length[COUNTS] = q->length[SPREADS] = w->k + 1;
+    q->length[BOXES] = 6 * (w->k + 1);
+    memset(q->table, 0, sizeof q->table);
+}
+
+static void ask_worked(const struct worked *w)
+{
+    struct asked q;
+    start_worked(w, &q);
+    for (size_t i = 0; i < w->loads; i++) {
+        const struct batch *batch = &w->batches[i];
+        q.weighted = batch->weighted;
+        q.length[COLOURS] = 3 * batch->colours;
+        q.length[WEIGHTS] = batch->weighted ? batch->colours : 0;
+        memcpy(q.colours, batch->bytes, q.length[COLOURS]);
+        memcpy(q.weights, batch->weights, q.length[WEIGHTS] * sizeof *q.weights);
+        ask(LOAD, &q, batch->number, w->name, "");
+    }
+    const size_t boxes = ask(CUT, &q, w->number, w->name, "");
+    check(boxes == w->boxes, "%zu boxes and not %zu", boxes, w->boxes);
+    check(memcmp(q.palette, w->palette, 3 * boxes) == 0, "another palette");
+    check(memcmp(q.counts, w->counts, boxes * sizeof *q.counts) == 0, "other counts");
+    check(memcmp(q.boxes, w->bounds, 6 * boxes) == 0, "other boxes");
+    check(memcmp(q.spreads, w->spreads, boxes * sizeof *q.spreads) == 0, "other spreads");
+    for (size_t p = 0; w->map && p < q.length[MAP]; p++)
+        check(q.map[p] == w->map[p] - '0', "bin %zu has index %u", p, q.map[p]);
+}
+
+/* ---- Every number of every call */
+
+/* What nothing refuses, over the grid 4,2,8, with no element lent that is not needed. Five colours of weights 3, 2, 7,
+ * 0, 1 are in both tables, and are the batch and the frame. Behind them stand some noise and pixels of one colour. */
+static struct asked good(void)
+{
+    static const uint8_t known[] = {10, 20, 5, 100, 5, 9, 255, 255, 255, 0, 128, 31, 200, 0, 64};
+    static const uint32_t weights[] = {3, 2, 7, 0, 1};
+    struct asked q;
+    uint32_t noise = 1;
+    memset(&q, 0xa5, sizeof q);
+    q.b1 = 4, q.b2 = 2, q.b3 = 8, q.k = 3, q.weighted = 1, q.told = 3, q.first = 1, q.pixels = 3;
+    for (size_t i = 0; i < 3 * PIXELS; i++) {
+        noise = noise * 1664525 + 1013904223;
+        q.colours[i] = i < PIXELS ? (uint8_t)(noise >> 24) : 77;
+        q.weights[i / 3] = noise >> 28;
+    }
+    memcpy(q.colours, known, sizeof known);
+    memcpy(q.weights, weights, sizeof weights);
+    memcpy(q.frame, q.colours, sizeof q.frame);
+    for (size_t i = 0; i < COUNT(q.map); i++) q.map[i] = i % 3;
+    for (size_t i = 0; i < COUNT(q.palette); i++) q.palette[i] = (uint8_t)(7 * i);
+    q.length[TABLE] = q.length[SECOND] = q.length[WORK] = 320;
+    q.length[MAP] = 64;
+    q.length[COLOURS] = q.length[FRAME] = 15;
+    q.length[WEIGHTS] = q.length[INDICES] = 5;
+    q.length[PALETTE] = 9;
+    q.length[COUNTS] = q.length[SPREADS] = 3;
+    q.length[BOXES] = 18;
+    memset(q.table, 0, 320 * sizeof *q.table);
+    loaded(&q);
+    memcpy(q.second, q.table, sizeof q.second);
+    return q;
+}
+
+#define PUT(member, value) AT(member), value
+#define ALL (BIT(CALLS) - 1)
+#define TABLES (BIT(LOAD) | BIT(MERGE) | BIT(CUT))
+#define FRAMES (BIT(MAPPING) | BIT(PAINT))
+
+/* Who looks at 32 bits alone takes it for n. */
+#define MORE_THAN(n) ((UINT64_C(1) << 32) + (n))
+
+/* One number of what is good, changed, and what each of these calls then answers. Place 16, from table[80] on, is a bin
+ * of reds 64..127; it holds (100, 5, 9) with weight 2. */
+static const struct change {
+    unsigned calls, number;
+    const char *what;
+    size_t at, size;
+    uint64_t to;
+} changes[] = {
+    {ALL, 1, "first size 1", PUT(b1, 1)},
+    {ALL, 1, "first size 4 and 2^32", PUT(b1, MORE_THAN(4))},
+    {ALL, 1, "second size 0", PUT(b2, 0)},
+    {ALL, 1, "second size 3", PUT(b2, 3)},
+    {ALL, 1, "third size 256", PUT(b3, 256)},
+    {ALL, 1, "third size the largest number", PUT(b3, SIZE_MAX)},
+    {BIT(CUT), 2, "k 0", PUT(k, 0)},
+    {BIT(CUT), 2, "k 257", PUT(k, 257)},
+    {BIT(CUT), 2, "k 3 and 2^32", PUT(k, MORE_THAN(3))},
+    {BIT(CUT), 2, "k the largest number", PUT(k, SIZE_MAX)},
+    {BIT(LOAD), 3, "colours one byte short", PUT(length[COLOURS], 14)},
+    {BIT(LOAD), 3, "colours one byte long", PUT(length[COLOURS], 16)},
+    {FRAMES, 3, "frame one byte short", PUT(length[FRAME], 14)},
+    {FRAMES, 3, "frame one byte long", PUT(length[FRAME], 16)},
+    {BIT(LOAD), 4, "weights one short", PUT(length[WEIGHTS], 4)},
+    {BIT(LOAD), 4, "weights one long", PUT(length[WEIGHTS], 6)},
+    {BIT(LOAD), 4, "no weights", PUT(length[WEIGHTS], 0)},
+    {BIT(LOAD), 4, "one colour", PUT(length[COLOURS], 3)},
+    {ALL, 5, "another grid", PUT(b1, 2)},
+    {TABLES, 5, "table one short", PUT(length[TABLE], 319)},
+    {TABLES, 5, "table one long", PUT(length[TABLE], 321)},
+    {TABLES, 5, "no table", PUT(length[TABLE], 0)},
+    {BIT(MERGE), 5, "second table one short", PUT(length[SECOND], 319)},
+    {BIT(MERGE), 5, "second table one long", PUT(length[SECOND], 321)},
+    {BIT(MERGE), 5, "no second table", PUT(length[SECOND], 0)},
+    {BIT(CUT), 5, "work table one short", PUT(length[WORK], 319)},
+    {BIT(CUT), 5, "work table one long", PUT(length[WORK], 321)},
+    {BIT(CUT), 5, "no work table", PUT(length[WORK], 0)},
+    {BIT(CUT), 5, "palette one byte short", PUT(length[PALETTE], 8)},
+    {BIT(CUT), 5, "counts one short", PUT(length[COUNTS], 2)},
+    {BIT(CUT), 5, "no counts", PUT(length[COUNTS], 0)},
+    {BIT(CUT), 5, "boxes one byte short", PUT(length[BOXES], 17)},
+    {BIT(CUT), 5, "no boxes", PUT(length[BOXES], 0)},
+    {BIT(CUT), 5, "spreads one short", PUT(length[SPREADS], 2)},
+    {BIT(CUT), 5, "no spreads", PUT(length[SPREADS], 0)},
+    {BIT(CUT) | FRAMES, 5, "map one short", PUT(length[MAP], 63)},
+    {BIT(CUT) | FRAMES, 5, "map one long", PUT(length[MAP], 65)},
+    {BIT(CUT) | FRAMES, 5, "no map", PUT(length[MAP], 0)},
+    {BIT(CUT) | BIT(PAINT), 5, "no palette", PUT(length[PALETTE], 0)},
+    {BIT(PAINT), 5, "palette of two bytes", PUT(length[PALETTE], 2)},
+    {BIT(PAINT), 5, "palette no multiple of three", PUT(length[PALETTE], 10)},
+    {BIT(PAINT), 5, "palette of 257 colours", PUT(length[PALETTE], 771)},
+    {BIT(MAPPING), 5, "0 colours", PUT(told, 0)},
+    {BIT(MAPPING), 5, "257 colours", PUT(told, 257)},
+    {BIT(MAPPING), 5, "3 colours and 2^32", PUT(told, MORE_THAN(3))},
+    {BIT(MAPPING), 5, "indices one short", PUT(length[INDICES], 4)},
+    {BIT(MAPPING), 5, "indices one long", PUT(length[INDICES], 6)},
+    {BIT(MAPPING), 5, "no indices", PUT(length[INDICES], 0)},
+    {FRAMES, 5, "band one past the frame", PUT(first, 3)},
+    {FRAMES, 5, "band from the largest number on", PUT(first, SIZE_MAX)},
+    {FRAMES, 5, "band that ends at 2^64", PUT(pixels, SIZE_MAX)},
+    {FRAMES, 5, "no frame", PUT(length[FRAME], 0)},
+    {TABLES, 6, "sum below n * low", PUT(table[81], 127)},
+    {TABLES, 6, "sum above n * high", PUT(table[81], 255)},
+    {TABLES, 6, "second sum above n * high", PUT(table[82], 255)},
+    {TABLES, 6, "third sum above n * high", PUT(table[83], 63)},
+    {TABLES, 6, "squares above 195,075 * n", PUT(table[84], 390151)},
+    {TABLES, 6, "squares far too large", PUT(table[84], UINT64_MAX)},
+    {TABLES, 6, "empty bin with a sum", PUT(table[6], 1)},
+    {TABLES, 6, "weights past the limit", PUT(table[0], LIMIT - 9)},
+    {TABLES, 6, "weight far too large", PUT(table[0], UINT64_MAX)},
+    {BIT(MERGE), 6, "sum of the second table above n * high", PUT(second[81], 255)},
+    {BIT(MERGE), 6, "weights of the second table past the limit", PUT(second[0], LIMIT - 9)},
+    {BIT(LOAD), 7, "total one past the limit", PUT(weights[2], LIMIT - 18)},
+    {BIT(LOAD), 7, "weight that is the limit", PUT(weights[4], LIMIT)},
+    {BIT(LOAD) | BIT(MERGE), 7, "full table", PUT(table[0], LIMIT - 10)},
+    {BIT(MERGE), 7, "total one past the limit", PUT(second[0], LIMIT - 22)},
+    {FRAMES, 9, "the map's first entry the palette's length", PUT(map[0], 3)},
+    {FRAMES, 9, "the map's last entry 255", PUT(map[63], 255)},
+    {BIT(PAINT), 9, "palette of one colour", PUT(length[PALETTE], 3)},
+    {BIT(MAPPING), 9, "1 colour", PUT(told, 1)},
+    {TABLES, 0, "sum at n * low", PUT(table[81], 128)},
+    {TABLES, 0, "sum at n * high", PUT(table[81], 254)},
+    {TABLES, 0, "squares at 195,075 * n", PUT(table[84], 390150)},
+    {BIT(CUT), 0, "full table", PUT(table[0], LIMIT - 10)},
+    {BIT(LOAD), 0, "total at the limit", PUT(weights[2], LIMIT - 19)},
+    {BIT(MERGE), 0, "total at the limit", PUT(second[0], LIMIT - 23)},
+    {BIT(CUT), 0, "k 1", PUT(k, 1)},
+    {BIT(CUT) | BIT(PAINT), 0, "palette of 256 colours", PUT(length[PALETTE], 768)},
+    {BIT(CUT), 0, "palette one byte long", PUT(length[PALETTE], 10)},
+    {BIT(CUT), 0, "counts one long", PUT(length[COUNTS], 4)},
+    {BIT(CUT), 0, "boxes one byte long", PUT(length[BOXES], 19)},
+    {BIT(CUT), 0, "spreads one long", PUT(length[SPREADS], 4)},
+    {BIT(MAPPING), 0, "256 colours", PUT(told, 256)},
+};
+
+static void change(struct asked *q, const struct change *c)
+{
+    memcpy((unsigned char *)q + c->at, &c->to, c->size);
+}
+
+/* Each change alone, and each two refusals together: the lower number is given. */
+static void ask_changed(enum call call)
+{
+    struct asked q = good();
+    ask(call, &q, 0, "good", "");
+    for (const struct change *one = changes; one < changes + COUNT(changes); one++) {
+        if (!(one->calls & BIT(call))) continue;
+        q = good();
+        change(&q, one);
+        ask(call, &q, one->number, one->what, "");
+        for (const struct change *two = changes; one->number && two < one; two++) {
+            if (!(two->calls & BIT(call)) || !two->number || two->at == one->at) continue;
+            q = good();
+            change(&q, one);
+            change(&q, two);
+            ask(call, &q, one->number < two->number ? one->number : two->number, one->what, two->what);
+        }
+    }
+}
+
+/* A total of 0 takes more than one change. */
+static void ask_empty(void)
+{
+    struct asked q = good();
+    memset(q.table, 0, sizeof q.table);
+    ask(CUT, &q, 8, "empty table", "");
+    q.table[81] = 1;
+    ask(CUT, &q, 6, "empty table", "a sum in it");
+    q.length[SPREADS] = 2;
+    ask(CUT, &q, 5, "empty table", "spreads one short");
+}
+
+/* ---- Batches, bands and frames of every length */
+
+/* Weights that are not given are not looked at, however many are lent. */
+static void ask_plain(void)
+{
+    for (size_t lent = 0; lent < 8; lent++) {
+        struct asked q = good();
+        q.weighted = 0;
+        q.length[WEIGHTS] = lent;
+        memset(q.weights, 0xff, sizeof q.weights);
+        ask(LOAD, &q, 0, "no weights given", "some lent");
+        q.table[0] += LIMIT - 18 - q.length[COLOURS] / 3;
+        ask(LOAD, &q, 0, "no weights given", "total at the limit");
+        q.length[COLOURS] = 3;
+        ask(LOAD, &q, 7, "no weights given", "total one past the limit");
+    }
+}
+
+static const struct {
+    size_t frame, first, pixels;
+    unsigned number;
+} bands[] = {
+    {PIXELS, 0, PIXELS, 0},
+    {PIXELS, 60, 90, 0},
+    {PIXELS, 80, 66, 0},
+    {PIXELS, PIXELS - 1, 1, 0},
+    {PIXELS, PIXELS - 1, 2, 5},
+    {PIXELS, 7, 0, 0},
+    {PIXELS, PIXELS, 0, 0},
+    {PIXELS, PIXELS, 1, 5},
+    {PIXELS, PIXELS + 1, 0, 5},
+    {PIXELS, SIZE_MAX, 0, 5},
+    {PIXELS, SIZE_MAX, 1, 5},
+    {PIXELS, SIZE_MAX, SIZE_MAX, 5},
+    {PIXELS, 1, SIZE_MAX, 5},
+    {PIXELS, 2, SIZE_MAX - 1, 5},
+    {PIXELS, 0, SIZE_MAX / 3 + 1, 5},
+    {PIXELS, SIZE_MAX / 3 + 1, 1, 5},
+    {0, 0, 0, 0},
+    {0, 0, 1, 5},
+    {0, 1, 0, 5},
+};
+
+static void ask_band(size_t frame, size_t first, size_t pixels, unsigned number)
+{
+    char words[120];
+    struct asked q = good();
+    q.length[FRAME] = 3 * frame;
+    q.length[INDICES] = frame;
+    q.first = first, q.pixels = pixels;
+    snprintf(words, sizeof words, "frame of %zu pixels, band of %zu from %zu on", frame, pixels, first);
+    ask(MAPPING, &q, number, words, "");
+    ask(PAINT, &q, number, words, "");
+    q.map[63] = 255;
+    ask(PAINT, &q, number ? number : 9, words, "the map's last entry 255");
+    ask(MAPPING, &q, number ? number : 9, words, "the map's last entry 255");
+    q.told = 256;
+    ask(MAPPING, &q, number, words, "256 colours");
+}
+
+static void ask_length(size_t pixels)
+{
+    char words[120];
+    struct asked q = good();
+    ask_band(pixels, 0, pixels, 0);
+    ask_band(PIXELS, PIXELS - pixels, pixels, 0);
+    q.length[COLOURS] = 3 * pixels;
+    q.length[WEIGHTS] = pixels;
+    snprintf(words, sizeof words, "batch of %zu colours", pixels);
+    ask(LOAD, &q, 0, words, "weights");
+    memset(q.weights, 0xff, sizeof q.weights);
+    ask(LOAD, &q, pixels ? 7 : 0, words, "weights at the limit");
+    q.weighted = 0;
+    ask(LOAD, &q, 0, words, "no weights");
+    q.k = pixels + 1;
+    q.length[PALETTE] = 3 * q.k;
+    q.length[COUNTS] = q.length[SPREADS] = q.k;
+    q.length[BOXES] = 6 * q.k;
+    ask(CUT, &q, 0, words, "k one more");
+}
+
+/* ---- The sizes that a caller has to lend */
+
+static void ask_sizes(void)
+{
+    static const size_t sizes[] = {2, 4,  8,  16, 32,  64,  128, 0,   1,            3,
+                                   5, 12, 24, 96, 127, 129, 255, 256, MORE_THAN(2), SIZE_MAX};
+    const size_t n = COUNT(sizes);
+    for (size_t i = 0; i < n * n * n; i++) {
+        const size_t x = i / n / n, y = i / n % n, z = i % n;
+        const size_t bins = x < 7 && y < 7 && z < 7 ? sizes[x] * sizes[y] * sizes[z] : 0;
+        now("sizes %zu, %zu, %zu", sizes[x], sizes[y], sizes[z]);
+        check(seluvava_bins(sizes[x], sizes[y], sizes[z]) == bins, "the bins are not %zu", bins);
+        check(seluvava_numbers(sizes[x], sizes[y], sizes[z]) == 5 * bins, "the numbers are not %zu", 5 * bins);
+    }
+}
+
+int main(void)
+{
+    now("start");
+    make_pages();
+    watch();
+    for (way = EXACT; way < WAYS; way++) {
+        for (size_t i = 0; i < COUNT(worked); i++) ask_worked(&worked[i]);
+        for (enum call call = LOAD; call < CALLS; call++) ask_changed(call);
+        ask_empty();
+        ask_plain();
+        for (size_t i = 0; i < COUNT(bands); i++)
+            ask_band(bands[i].frame, bands[i].first, bands[i].pixels, bands[i].number);
+        for (size_t pixels = 0; pixels <= PIXELS; pixels++) ask_length(pixels);
+    }
+    ask_sizes();
+    printf("calls: %zu checks\n", checks);
+    return 0;
+}
