@@ -20,6 +20,8 @@ pub mod u8 {
 
     use super::shared::CubeVar;
 
+    pub mod parts;
+
     /// The five numbers of each bin, with the squares as a whole number.
     fn numbers<Sum: Copy + Into<u64>, Count: Copy + Into<u64>>(
         bins: &[Stats<Sum, 3, Count>],

@@ -1,0 +1,318 @@
+//! Our side: the calls of the archive, on tables that stay from run to run.
+use crate::side::{Answer, Lent, MOST, Operation, Side, Sizes, touch};
+
+#[repr(C)]
+struct CutAnswer {
+    number: u8,
+    boxes: usize,
+}
+
+unsafe extern "C" {
+    fn seluvava_bins(b1: usize, b2: usize, b3: usize) -> usize;
+    fn seluvava_numbers(b1: usize, b2: usize, b3: usize) -> usize;
+    fn seluvava_load(
+        b1: usize,
+        b2: usize,
+        b3: usize,
+        table: *mut u64,
+        table_len: usize,
+        colours: *const u8,
+        colours_len: usize,
+        weighted: bool,
+        weights: *const u32,
+        weights_len: usize,
+    ) -> u8;
+    fn seluvava_merge(
+        b1: usize,
+        b2: usize,
+        b3: usize,
+        table: *mut u64,
+        table_len: usize,
+        second: *const u64,
+        second_len: usize,
+    ) -> u8;
+    fn seluvava_cut(
+        b1: usize,
+        b2: usize,
+        b3: usize,
+        k: usize,
+        table: *const u64,
+        table_len: usize,
+        work: *mut u64,
+        work_len: usize,
+        palette: *mut u8,
+        palette_len: usize,
+        counts: *mut u32,
+        counts_len: usize,
+        map: *mut u8,
+        map_len: usize,
+        boxes: *mut u8,
+        boxes_len: usize,
+        spreads: *mut f64,
+        spreads_len: usize,
+    ) -> CutAnswer;
+    fn seluvava_map(
+        b1: usize,
+        b2: usize,
+        b3: usize,
+        map: *const u8,
+        map_len: usize,
+        colours: usize,
+        frame: *const u8,
+        frame_len: usize,
+        indices: *mut u8,
+        indices_len: usize,
+        first: usize,
+        pixels: usize,
+    ) -> u8;
+    fn seluvava_paint(
+        b1: usize,
+        b2: usize,
+        b3: usize,
+        map: *const u8,
+        map_len: usize,
+        palette: *const u8,
+        palette_len: usize,
+        frame: *mut u8,
+        frame_len: usize,
+        first: usize,
+        pixels: usize,
+    ) -> u8;
+}
+
+/// Adds a frame to a table, with weights where any are given.
+fn load([b1, b2, b3]: Sizes, table: &mut [u64], frame: &[[u8; 3]], weights: Option<&[u32]>) {
+    let colours = frame.as_flattened();
+    let given = weights.unwrap_or_default();
+    let number = unsafe {
+        seluvava_load(
+            b1,
+            b2,
+            b3,
+            table.as_mut_ptr(),
+            table.len(),
+            colours.as_ptr(),
+            colours.len(),
+            weights.is_some(),
+            given.as_ptr(),
+            given.len(),
+        )
+    };
+    assert_eq!(number, 0, "load");
+}
+
+fn merge([b1, b2, b3]: Sizes, table: &mut [u64], second: &[u64]) {
+    let number = unsafe {
+        seluvava_merge(
+            b1,
+            b2,
+            b3,
+            table.as_mut_ptr(),
+            table.len(),
+            second.as_ptr(),
+            second.len(),
+        )
+    };
+    assert_eq!(number, 0, "merge");
+}
+
+/// What a cut writes.
+struct Cut {
+    work: Vec<u64>,
+    palette: Vec<u8>,
+    counts: Vec<u32>,
+    map: Vec<u8>,
+    boxes: Vec<u8>,
+    spreads: Vec<f64>,
+    found: usize,
+}
+
+impl Cut {
+    fn new([b1, b2, b3]: Sizes) -> Self {
+        let (numbers, bins) = unsafe { (seluvava_numbers(b1, b2, b3), seluvava_bins(b1, b2, b3)) };
+        Self {
+            work: vec![0; numbers],
+            palette: vec![0; 3 * MOST],
+            counts: vec![0; MOST],
+            map: vec![0; bins],
+            boxes: vec![0; 6 * MOST],
+            spreads: vec![0.0; MOST],
+            found: 0,
+        }
+    }
+
+    /// Something wrong in every place.
+    fn reset(&mut self) {
+        self.work.fill(u64::MAX);
+        self.palette.fill(0xa5);
+        self.counts.fill(u32::MAX);
+        self.map.fill(0xa5);
+        self.boxes.fill(0xa5);
+        self.spreads.fill(-1.0);
+        self.found = 0;
+    }
+
+    fn run(&mut self, [b1, b2, b3]: Sizes, k: usize, table: &[u64]) {
+        let answer = unsafe {
+            seluvava_cut(
+                b1,
+                b2,
+                b3,
+                k,
+                table.as_ptr(),
+                table.len(),
+                self.work.as_mut_ptr(),
+                self.work.len(),
+                self.palette.as_mut_ptr(),
+                self.palette.len(),
+                self.counts.as_mut_ptr(),
+                self.counts.len(),
+                self.map.as_mut_ptr(),
+                self.map.len(),
+                self.boxes.as_mut_ptr(),
+                self.boxes.len(),
+                self.spreads.as_mut_ptr(),
+                self.spreads.len(),
+            )
+        };
+        assert_eq!(answer.number, 0, "cut");
+        self.found = answer.boxes;
+    }
+
+    fn map(&self, [b1, b2, b3]: Sizes, lent: &mut Lent) {
+        let frame = lent.frame.as_flattened();
+        let number = unsafe {
+            seluvava_map(
+                b1,
+                b2,
+                b3,
+                self.map.as_ptr(),
+                self.map.len(),
+                self.found,
+                frame.as_ptr(),
+                frame.len(),
+                lent.indices.as_mut_ptr(),
+                lent.indices.len(),
+                0,
+                lent.indices.len(),
+            )
+        };
+        assert_eq!(number, 0, "map");
+    }
+
+    fn paint(&self, [b1, b2, b3]: Sizes, lent: &mut Lent) {
+        let palette = self.colours();
+        let frame = lent.painted.as_flattened_mut();
+        let number = unsafe {
+            seluvava_paint(
+                b1,
+                b2,
+                b3,
+                self.map.as_ptr(),
+                self.map.len(),
+                palette.as_ptr(),
+                palette.len(),
+                frame.as_mut_ptr(),
+                frame.len(),
+                0,
+                lent.indices.len(),
+            )
+        };
+        assert_eq!(number, 0, "paint");
+    }
+
+    fn colours(&self) -> &[u8] {
+        &self.palette[..3 * self.found]
+    }
+}
+
+pub struct Ours {
+    sizes: Sizes,
+    /// What loads and merges write.
+    table: Vec<u64>,
+    /// What is cut: the frame's table.
+    loaded: Vec<u64>,
+    /// What is merged into that: the table of the frame with weights.
+    second: Vec<u64>,
+    cut: Cut,
+    /// What maps and paints read.
+    kept: Cut,
+}
+
+impl Ours {
+    pub fn new(sizes: Sizes, lent: &Lent) -> Self {
+        let mut kept = Cut::new(sizes);
+        let mut loaded = vec![0; kept.work.len()];
+        let mut second = loaded.clone();
+        load(sizes, &mut loaded, &lent.frame, None);
+        load(sizes, &mut second, &lent.frame, Some(&lent.weights));
+        kept.run(sizes, MOST, &loaded);
+        let (table, cut) = (loaded.clone(), Cut::new(sizes));
+        Self {
+            sizes,
+            table,
+            loaded,
+            second,
+            cut,
+            kept,
+        }
+    }
+}
+
+impl Side for Ours {
+    fn prepare(&mut self, operation: Operation) {
+        match operation {
+            Operation::Load | Operation::LoadWeighted => self.table.fill(0),
+            Operation::Merge => {
+                touch(&self.second);
+                self.table.copy_from_slice(&self.loaded);
+            }
+            Operation::Moments | Operation::Cut(_) => {
+                self.cut.reset();
+                touch(&self.loaded);
+            }
+            Operation::Map | Operation::Paint => touch(&self.kept.map),
+            Operation::Whole => {
+                self.table.fill(u64::MAX);
+                self.cut.reset();
+            }
+        }
+    }
+
+    fn run(&mut self, operation: Operation, lent: &mut Lent) {
+        let sizes = self.sizes;
+        match operation {
+            Operation::Load => load(sizes, &mut self.table, &lent.frame, None),
+            Operation::LoadWeighted => {
+                load(sizes, &mut self.table, &lent.frame, Some(&lent.weights));
+            }
+            Operation::Merge => merge(sizes, &mut self.table, &self.second),
+            Operation::Moments => self.cut.run(sizes, 1, &self.loaded),
+            Operation::Cut(k) => self.cut.run(sizes, k, &self.loaded),
+            Operation::Map => self.kept.map(sizes, lent),
+            Operation::Paint => self.kept.paint(sizes, lent),
+            Operation::Whole => {
+                self.table.fill(0);
+                load(sizes, &mut self.table, &lent.frame, None);
+                self.cut.run(sizes, MOST, &self.table);
+                self.cut.map(sizes, lent);
+            }
+        }
+    }
+
+    fn answer(&mut self, operation: Operation, answer: &mut Answer) {
+        match operation {
+            Operation::Load | Operation::LoadWeighted | Operation::Merge => {
+                answer.numbers.extend(&self.table);
+            }
+            Operation::Moments => answer.numbers.extend(&self.cut.work),
+            Operation::Cut(_) | Operation::Whole => {
+                let counts = &self.cut.counts[..self.cut.found];
+                answer.numbers.extend(counts.iter().map(|&n| u64::from(n)));
+                answer.bytes.extend(self.cut.colours());
+                answer.bytes.extend(&self.cut.map);
+            }
+            Operation::Map | Operation::Paint => {}
+        }
+    }
+}

@@ -1,0 +1,73 @@
+//! Fills the draft of docs/SPEED.md: each line that is a word in braces gives way to what was measured.
+use crate::{
+    inputs::Input,
+    report::{self, Row},
+};
+use std::{env, fs};
+
+/// The processor's name and the number of its cores.
+fn machine() -> String {
+    let text = fs::read_to_string("/proc/cpuinfo").unwrap_or_default();
+    let models: Vec<_> = text
+        .lines()
+        .filter(|line| line.starts_with("model name"))
+        .collect();
+    let model = models.first().and_then(|line| line.split_once(": "));
+    format!(
+        "{}, {} cores",
+        model.map_or("unknown", |(_, name)| name),
+        models.len()
+    )
+}
+
+/// When, on what and with what: the versions are told by `bench/run`.
+fn run() -> String {
+    let told = |name| env::var(name).unwrap_or_else(|_| String::from("unknown"));
+    format!(
+        "- Date: {}\n- Processor: {}\n- Rust: {}\n- Kit: {}\n",
+        told("BENCH_DATE"),
+        machine(),
+        told("BENCH_RUSTC"),
+        told("BENCH_KIT"),
+    )
+}
+
+/// What is known of the frames.
+fn frames(inputs: &[Input]) -> String {
+    let mut text =
+        String::from("| | colours | in runs of 64 pixels or more of one colour |\n|---|---|---|\n");
+    for input in inputs {
+        text += &format!(
+            "| {} | {} | {} % |\n",
+            input.name,
+            input.colours(),
+            input.flat()
+        );
+    }
+    text
+}
+
+/// The cells that miss, and the operations among them for which the draft gives no reason.
+fn misses(draft: &str, rows: &[Row], inputs: &[Input]) -> String {
+    let misses = report::misses(rows, inputs);
+    for (operation, _) in &misses {
+        if !draft.contains(&format!("**{operation}**")) {
+            eprintln!("the draft gives no reason for {operation}");
+        }
+    }
+    match misses.is_empty() {
+        true => String::from("None.\n"),
+        false => misses.into_iter().map(|(_, line)| line + "\n").collect(),
+    }
+}
+
+pub fn filled(draft: &str, rows: &[Row], inputs: &[Input]) -> String {
+    let line = |line: &str| match line {
+        "{run}" => run(),
+        "{frames}" => frames(inputs),
+        "{tables}" => report::tables(rows, inputs).trim_end().to_string() + "\n",
+        "{misses}" => misses(draft, rows, inputs),
+        other => format!("{other}\n"),
+    };
+    draft.lines().map(line).collect()
+}

@@ -1,0 +1,122 @@
+//! What is timed, and what a side has to do for it.
+use crate::inputs::{Colour, Input};
+use std::{fmt, hint::black_box};
+
+pub type Sizes = [usize; 3];
+
+#[derive(Clone, Copy, PartialEq, Eq)]
+pub enum Operation {
+    Load,
+    LoadWeighted,
+    Merge,
+    Moments,
+    Cut(usize),
+    Map,
+    Paint,
+    Whole,
+}
+
+pub const OPERATIONS: [Operation; 9] = [
+    Operation::Load,
+    Operation::LoadWeighted,
+    Operation::Merge,
+    Operation::Moments,
+    Operation::Cut(16),
+    Operation::Cut(256),
+    Operation::Map,
+    Operation::Paint,
+    Operation::Whole,
+];
+
+/// The most colours of a palette: what is mapped and painted with.
+pub const MOST: usize = 256;
+
+impl fmt::Display for Operation {
+    fn fmt(&self, f: &mut fmt::Formatter<'_>) -> fmt::Result {
+        match self {
+            Operation::Load => f.write_str("load"),
+            Operation::LoadWeighted => f.write_str("load with weights"),
+            Operation::Merge => f.write_str("merge"),
+            Operation::Moments => f.write_str("moments (ours: cut, k = 1)"),
+            Operation::Cut(k) => write!(f, "cut, k = {k}"),
+            Operation::Map => f.write_str("map"),
+            Operation::Paint => f.write_str("paint"),
+            Operation::Whole => f.write_str("pixels to indices"),
+        }
+    }
+}
+
+/// What all sides are lent in turn.
+pub struct Lent {
+    pub frame: Vec<Colour>,
+    pub weights: Vec<u32>,
+    pub indices: Vec<u8>,
+    pub painted: Vec<Colour>,
+}
+
+impl Lent {
+    pub fn new(input: &Input) -> Self {
+        Self {
+            frame: input.frame.clone(),
+            weights: input.weights.clone(),
+            indices: vec![0; input.frame.len()],
+            painted: input.frame.clone(),
+        }
+    }
+
+    /// As before any run: the indices are wrong, nothing is painted, and what is read has just been read.
+    pub fn reset(&mut self, operation: Operation) {
+        match operation {
+            Operation::Load => touch(&self.frame),
+            Operation::LoadWeighted => {
+                touch(&self.frame);
+                touch(&self.weights);
+            }
+            Operation::Map | Operation::Whole => {
+                touch(&self.frame);
+                self.indices.fill(0xa5);
+            }
+            Operation::Paint => self.painted.copy_from_slice(&self.frame),
+            Operation::Merge | Operation::Moments | Operation::Cut(_) => {}
+        }
+    }
+
+    /// Adds what a run left in what it was lent.
+    pub fn answer(&self, operation: Operation, answer: &mut Answer) {
+        match operation {
+            Operation::Map | Operation::Whole => answer.bytes.extend(&self.indices),
+            Operation::Paint => answer.bytes.extend(self.painted.as_flattened()),
+            _ => {}
+        }
+    }
+}
+
+/// Reads a part, so that every side finds it as near to the processor as the others do.
+pub fn touch<T: Copy>(part: &[T]) {
+    for &x in part.iter().step_by((64 / size_of::<T>()).max(1)) {
+        black_box(x);
+    }
+}
+
+/// What a run has left behind.
+#[derive(Default, PartialEq)]
+pub struct Answer {
+    pub numbers: Vec<u64>,
+    pub bytes: Vec<u8>,
+}
+
+impl Answer {
+    pub fn clear(&mut self) {
+        self.numbers.clear();
+        self.bytes.clear();
+    }
+}
+
+pub trait Side {
+    /// Puts what a run reads back to its start, and something wrong where it writes. Not timed.
+    fn prepare(&mut self, operation: Operation);
+    /// The run, which is timed.
+    fn run(&mut self, operation: Operation, lent: &mut Lent);
+    /// Adds what the run left, but for what it was lent. Not timed.
+    fn answer(&mut self, operation: Operation, answer: &mut Answer);
+}

@@ -1,0 +1,159 @@
+use crate::{ColourMap, Grid, Refused, Table, colour_map::MOST_COLOURS, sys};
+
+/// Room for a cut to work in, kept from one cut to the next.
+///
+/// It serves tables of any grid, and keeps the room of the largest.
+#[derive(Debug, Default)]
+pub struct WorkTable {
+    numbers: Vec<u64>,
+}
+
+impl WorkTable {
+    /// A work table with no room yet; a cut makes as much as it needs.
+    #[must_use]
+    pub const fn new() -> WorkTable {
+        WorkTable {
+            numbers: Vec::new(),
+        }
+    }
+
+    fn for_grid(&mut self, grid: Grid) -> &mut [u64] {
+        self.numbers.resize(grid.numbers(), 0);
+        &mut self.numbers
+    }
+}
+
+/// A box of bins that a cut gave one colour.
+#[derive(Debug, Clone, Copy, PartialEq)]
+pub struct ColourBox {
+    /// The first bin of red, green and blue.
+    pub min: [u8; 3],
+    /// The first bin after the box, of red, green and blue.
+    pub max: [u8; 3],
+    /// The squared distances of the colours from their mean, added up, as computed in `f64`; the box with the largest
+    /// is cut next. It is infinite where k is 1, and 0 for a box of one bin or with no place to cut it.
+    pub spread: f64,
+}
+
+impl ColourBox {
+    fn of([r0, r1, g0, g1, b0, b1]: [u8; 6], spread: f64) -> ColourBox {
+        ColourBox {
+            min: [r0, g0, b0],
+            max: [r1, g1, b1],
+            spread,
+        }
+    }
+}
+
+/// What a cut makes of a table: boxes that cover the grid, with a colour and a count for each.
+///
+/// Palette, counts and boxes have the same order and the same length, which is at least 1 and at most k.
+#[derive(Debug, Clone, PartialEq)]
+pub struct Cut {
+    counts: Vec<u32>,
+    boxes: Vec<ColourBox>,
+    colour_map: ColourMap,
+}
+
+impl Cut {
+    /// The colour of each box: the mean of its colours, rounded down.
+    #[must_use]
+    pub fn palette(&self) -> &[[u8; 3]] {
+        self.colour_map.palette()
+    }
+
+    /// The total of the colours in each box.
+    #[must_use]
+    pub fn counts(&self) -> &[u32] {
+        &self.counts
+    }
+
+    /// The boxes with their spreads.
+    #[must_use]
+    pub fn boxes(&self) -> &[ColourBox] {
+        &self.boxes
+    }
+
+    /// The index and the colour for each pixel of a frame.
+    #[must_use]
+    pub fn colour_map(&self) -> &ColourMap {
+        &self.colour_map
+    }
+
+    /// The colour map, without a copy.
+    #[must_use]
+    pub fn into_colour_map(self) -> ColourMap {
+        self.colour_map
+    }
+}
+
+impl Table {
+    /// Cuts the table down to at most k colours. The table stays as it is, and can be loaded further.
+    ///
+    /// What was loaded is cut into as many colours as the smaller of k and the number of bins that it fell in.
+    ///
+    /// # Errors
+    ///
+    /// [`Refused::PaletteSize`] where k is outside 1..256, [`Refused::Unsound`], [`Refused::Empty`] where nothing
+    /// was loaded.
+    ///
+    /// ```
+    /// use seluvava::{Grid, Table};
+    ///
+    /// let mut table = Table::new(Grid::new(8, 8, 8)?);
+    /// table.load(&[[0, 0, 0], [255, 255, 255], [255, 255, 255], [255, 255, 255]])?;
+    /// let cut = table.cut(16)?;
+    /// assert_eq!(cut.palette(), [[255, 255, 255], [0, 0, 0]]);
+    /// assert_eq!(cut.counts(), [3, 1]);
+    /// # Ok::<(), seluvava::Refused>(())
+    /// ```
+    pub fn cut(&self, k: usize) -> Result<Cut, Refused> {
+        self.cut_with(&mut WorkTable::new(), k)
+    }
+
+    /// Cuts as [`cut`](Table::cut) does, in a work table that is kept.
+    ///
+    /// # Errors
+    ///
+    /// Those of [`cut`](Table::cut).
+    ///
+    /// ```
+    /// use seluvava::{Grid, Table, WorkTable};
+    ///
+    /// let mut work = WorkTable::new();
+    /// let mut table = Table::new(Grid::rgb());
+    /// for screen in [[[0, 0, 0]; 4], [[255, 255, 255]; 4]] {
+    ///     table.load(&screen)?;
+    ///     let cut = table.cut_with(&mut work, 16)?;
+    ///     assert_eq!(cut.counts().iter().sum::<u32>() as u64, table.total());
+    /// }
+    /// # Ok::<(), seluvava::Refused>(())
+    /// ```
+    pub fn cut_with(&self, work: &mut WorkTable, k: usize) -> Result<Cut, Refused> {
+        let grid = self.grid();
+        let mut palette = vec![[0; 3]; MOST_COLOURS];
+        let mut counts = vec![0; MOST_COLOURS];
+        let mut map = vec![0; grid.bins()];
+        let mut bounds = vec![[0; 6]; MOST_COLOURS];
+        let mut spreads = vec![0.0; MOST_COLOURS];
+        let lent = sys::Lent {
+            work: work.for_grid(grid),
+            palette: &mut palette,
+            counts: &mut counts,
+            map: &mut map,
+            boxes: &mut bounds,
+            spreads: &mut spreads,
+        };
+        let boxes = sys::cut(grid, k, self.numbers(), lent)?;
+        palette.truncate(boxes);
+        counts.truncate(boxes);
+        let boxes = bounds.into_iter().zip(spreads).take(boxes);
+        Ok(Cut {
+            counts,
+            boxes: boxes
+                .map(|(bounds, spread)| ColourBox::of(bounds, spread))
+                .collect(),
+            colour_map: ColourMap::of_cut(grid, map, palette),
+        })
+    }
+}

@@ -1,0 +1,85 @@
+//! Wu's colour quantizer, proved.
+//!
+//! Colours are counted into a [`Table`] over a [`Grid`], batch by batch; tables of many workers are merged; and a
+//! table is cut down to at most 256 colours. The [`Cut`] has a palette, the count of each colour and a [`ColourMap`],
+//! which maps frames to indices or paints them. The answers are those of the crate quantette 0.6.0, module
+//! `quantize/wu`, for colours of three `u8` components: the same palette in the same order, for the same colours and
+//! weights in any order, any batches and any merge tree.
+//!
+//! The work is done by code in Rattle, a language in which every function is proved to meet its contract. It is linked
+//! as a static library, and this crate only lends it slices. Bad input is [`Refused`] by number with nothing changed,
+//! and none makes a call panic.
+//!
+//! # From pixels to indices
+//!
+//! ```
+//! use seluvava::{Grid, Table};
+//!
+//! let screen = vec![[0, 0, 0], [255, 255, 255], [255, 255, 255], [255, 255, 255]];
+//!
+//! let mut table = Table::new(Grid::rgb());
+//! table.load(&screen)?;
+//! let cut = table.cut(256)?;
+//! assert_eq!(cut.palette(), [[255, 255, 255], [0, 0, 0]]);
+//! assert_eq!(cut.counts(), [3, 1]);
+//! assert_eq!(cut.colour_map().map(&screen)?, [1, 0, 0, 0]);
+//! # Ok::<(), seluvava::Refused>(())
+//! ```
+//!
+//! # Many workers
+//!
+//! ```
+//! use seluvava::{Grid, Refused, Table};
+//! use std::thread;
+//!
+//! let screens = vec![vec![[10, 20, 30]; 100], vec![[200, 100, 0]; 50], vec![[10, 20, 30]; 7]];
+//!
+//! let tables: Vec<Table> = thread::scope(|scope| {
+//!     let workers: Vec<_> = screens
+//!         .iter()
+//!         .map(|screen| {
+//!             scope.spawn(|| {
+//!                 let mut table = Table::new(Grid::rgb());
+//!                 table.load(screen)?;
+//!                 Ok(table)
+//!             })
+//!         })
+//!         .collect();
+//!     workers.into_iter().map(|worker| worker.join().expect("a worker")).collect::<Result<_, Refused>>()
+//! })?;
+//!
+//! let mut mosaic = Table::new(Grid::rgb());
+//! for table in &tables {
+//!     mosaic.merge(table)?;
+//! }
+//! assert_eq!(mosaic.cut(16)?.counts(), [50, 107]);
+//! # Ok::<(), Refused>(())
+//! ```
+#![deny(unsafe_code, unsafe_op_in_unsafe_fn)]
+#![warn(missing_docs)]
+
+#[cfg(not(all(
+    target_arch = "x86_64",
+    target_os = "linux",
+    target_pointer_width = "64"
+)))]
+compile_error!("seluvava links an archive of proved code that exists for Linux on x86-64 alone");
+
+mod colour_map;
+mod cut;
+mod grid;
+mod refused;
+#[allow(unsafe_code)]
+mod sys;
+mod table;
+
+pub use colour_map::ColourMap;
+pub use cut::{ColourBox, Cut, WorkTable};
+pub use grid::Grid;
+pub use refused::Refused;
+pub use table::Table;
+
+/// The examples of the guide, compiled and run with the others.
+#[cfg(doctest)]
+#[doc = include_str!("../../docs/FROM_QUANTETTE.md")]
+struct FromQuantette;

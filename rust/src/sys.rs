@@ -1,0 +1,257 @@
+//! The calls of the archive, each behind a function on slices. No other module has `unsafe`.
+//!
+//! `include/seluvava.h` says what a call needs: that each pointer is good for the length after it, and that what is
+//! lent does not overlap. A slice gives the first. A call writes only what it is lent by `&mut`, and no other
+//! reference points there, which gives the second. An empty slice's pointer is not read.
+use crate::{Grid, Refused};
+
+/// What a cut answers.
+#[repr(C)]
+struct CutAnswer {
+    number: u8,
+    boxes: usize,
+}
+
+// SAFETY: these are the calls that `include/seluvava.h` declares. The two safe ones are lent nothing.
+unsafe extern "C" {
+    safe fn seluvava_bins(b1: usize, b2: usize, b3: usize) -> usize;
+
+    safe fn seluvava_numbers(b1: usize, b2: usize, b3: usize) -> usize;
+
+    fn seluvava_load(
+        b1: usize,
+        b2: usize,
+        b3: usize,
+        table: *mut u64,
+        table_len: usize,
+        colours: *const u8,
+        colours_len: usize,
+        weighted: bool,
+        weights: *const u32,
+        weights_len: usize,
+    ) -> u8;
+
+    fn seluvava_merge(
+        b1: usize,
+        b2: usize,
+        b3: usize,
+        table: *mut u64,
+        table_len: usize,
+        second: *const u64,
+        second_len: usize,
+    ) -> u8;
+
+    fn seluvava_cut(
+        b1: usize,
+        b2: usize,
+        b3: usize,
+        k: usize,
+        table: *const u64,
+        table_len: usize,
+        work: *mut u64,
+        work_len: usize,
+        palette: *mut u8,
+        palette_len: usize,
+        counts: *mut u32,
+        counts_len: usize,
+        map: *mut u8,
+        map_len: usize,
+        boxes: *mut u8,
+        boxes_len: usize,
+        spreads: *mut f64,
+        spreads_len: usize,
+    ) -> CutAnswer;
+
+    fn seluvava_map(
+        b1: usize,
+        b2: usize,
+        b3: usize,
+        map: *const u8,
+        map_len: usize,
+        colours: usize,
+        frame: *const u8,
+        frame_len: usize,
+        indices: *mut u8,
+        indices_len: usize,
+        first: usize,
+        pixels: usize,
+    ) -> u8;
+
+    fn seluvava_paint(
+        b1: usize,
+        b2: usize,
+        b3: usize,
+        map: *const u8,
+        map_len: usize,
+        palette: *const u8,
+        palette_len: usize,
+        frame: *mut u8,
+        frame_len: usize,
+        first: usize,
+        pixels: usize,
+    ) -> u8;
+}
+
+/// The bins of a grid, or 0 where it is refused.
+pub fn bins([b1, b2, b3]: [usize; 3]) -> usize {
+    seluvava_bins(b1, b2, b3)
+}
+
+/// The numbers of a table, or 0 where its grid is refused.
+pub fn numbers([b1, b2, b3]: [usize; 3]) -> usize {
+    seluvava_numbers(b1, b2, b3)
+}
+
+/// Adds a batch of colours to a table, with weights where they are given.
+pub fn load(
+    grid: Grid,
+    table: &mut [u64],
+    colours: &[u8],
+    weights: Option<&[u32]>,
+) -> Result<(), Refused> {
+    let [b1, b2, b3] = grid.sizes();
+    let weighted = weights.is_some();
+    let weights = weights.unwrap_or_default();
+    // SAFETY: pointers and lengths are those of slices, and `table` is the only one that is written.
+    let number = unsafe {
+        seluvava_load(
+            b1,
+            b2,
+            b3,
+            table.as_mut_ptr(),
+            table.len(),
+            colours.as_ptr(),
+            colours.len(),
+            weighted,
+            weights.as_ptr(),
+            weights.len(),
+        )
+    };
+    Refused::unless_done(number)
+}
+
+/// Adds a second table into a first.
+pub fn merge(grid: Grid, table: &mut [u64], second: &[u64]) -> Result<(), Refused> {
+    let [b1, b2, b3] = grid.sizes();
+    // SAFETY: pointers and lengths are those of slices, and `table` is the only one that is written.
+    let number = unsafe {
+        seluvava_merge(
+            b1,
+            b2,
+            b3,
+            table.as_mut_ptr(),
+            table.len(),
+            second.as_ptr(),
+            second.len(),
+        )
+    };
+    Refused::unless_done(number)
+}
+
+/// What a cut writes.
+pub struct Lent<'a> {
+    pub work: &'a mut [u64],
+    pub palette: &'a mut [[u8; 3]],
+    pub counts: &'a mut [u32],
+    pub map: &'a mut [u8],
+    /// Of each box the first bin and the end of its bins, for red, green and blue.
+    pub boxes: &'a mut [[u8; 6]],
+    pub spreads: &'a mut [f64],
+}
+
+/// Cuts a table into at most k boxes, and answers how many there are.
+pub fn cut(grid: Grid, k: usize, table: &[u64], lent: Lent<'_>) -> Result<usize, Refused> {
+    let [b1, b2, b3] = grid.sizes();
+    let palette = lent.palette.as_flattened_mut();
+    let boxes = lent.boxes.as_flattened_mut();
+    // SAFETY: pointers and lengths are those of slices; `table` is not written, and each other one is borrowed mutably.
+    let answer = unsafe {
+        seluvava_cut(
+            b1,
+            b2,
+            b3,
+            k,
+            table.as_ptr(),
+            table.len(),
+            lent.work.as_mut_ptr(),
+            lent.work.len(),
+            palette.as_mut_ptr(),
+            palette.len(),
+            lent.counts.as_mut_ptr(),
+            lent.counts.len(),
+            lent.map.as_mut_ptr(),
+            lent.map.len(),
+            boxes.as_mut_ptr(),
+            boxes.len(),
+            lent.spreads.as_mut_ptr(),
+            lent.spreads.len(),
+        )
+    };
+    Refused::unless_done(answer.number)?;
+    Ok(answer.boxes)
+}
+
+/// Pixels of a frame that follow each other.
+pub struct Band {
+    pub first: usize,
+    pub pixels: usize,
+}
+
+/// Writes the index of each pixel of a band into the same band of the index buffer.
+pub fn map(
+    grid: Grid,
+    map: &[u8],
+    colours: usize,
+    frame: &[u8],
+    indices: &mut [u8],
+    band: Band,
+) -> Result<(), Refused> {
+    let [b1, b2, b3] = grid.sizes();
+    // SAFETY: pointers and lengths are those of slices, and `indices` is the only one that is written.
+    let number = unsafe {
+        seluvava_map(
+            b1,
+            b2,
+            b3,
+            map.as_ptr(),
+            map.len(),
+            colours,
+            frame.as_ptr(),
+            frame.len(),
+            indices.as_mut_ptr(),
+            indices.len(),
+            band.first,
+            band.pixels,
+        )
+    };
+    Refused::unless_done(number)
+}
+
+/// Writes the palette's colour at each pixel's index in the place of the pixel, for a band.
+pub fn paint(
+    grid: Grid,
+    map: &[u8],
+    palette: &[[u8; 3]],
+    frame: &mut [u8],
+    band: Band,
+) -> Result<(), Refused> {
+    let [b1, b2, b3] = grid.sizes();
+    let palette = palette.as_flattened();
+    // SAFETY: pointers and lengths are those of slices, and `frame` is the only one that is written.
+    let number = unsafe {
+        seluvava_paint(
+            b1,
+            b2,
+            b3,
+            map.as_ptr(),
+            map.len(),
+            palette.as_ptr(),
+            palette.len(),
+            frame.as_mut_ptr(),
+            frame.len(),
+            band.first,
+            band.pixels,
+        )
+    };
+    Refused::unless_done(number)
+}

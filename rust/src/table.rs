@@ -1,0 +1,159 @@
+use crate::{Grid, Refused, sys};
+
+/// The colours that were counted, by the bins of a grid.
+///
+/// Colours are loaded in as many batches as wanted, and tables of one grid can be merged, so that each worker has a
+/// table of its own. The order of loads and merges makes no difference. [`cut`](Table::cut) then makes a palette.
+///
+/// A bin has five numbers, together: the weight of its colours, the sums of red, green and blue, and the sum of the
+/// squares of all three. Bin (r, g, b) of a grid B1, B2, B3 is the one at place (r·B2 + g)·B3 + b.
+///
+/// ```
+/// use seluvava::{Grid, Table};
+///
+/// let mut table = Table::new(Grid::rgb());
+/// table.load(&[[0, 0, 0], [255, 255, 255]])?;
+/// table.load_weighted(&[[255, 255, 255]], &[2])?;
+///
+/// let mut other = Table::new(Grid::rgb());
+/// other.load(&[[255, 0, 0]])?;
+/// table.merge(&other)?;
+/// assert_eq!(table.total(), 5);
+/// # Ok::<(), seluvava::Refused>(())
+/// ```
+#[derive(Debug, Clone, PartialEq, Eq)]
+pub struct Table {
+    grid: Grid,
+    numbers: Vec<u64>,
+}
+
+impl Table {
+    /// A table with no colour in it.
+    #[must_use]
+    pub fn new(grid: Grid) -> Table {
+        Table {
+            grid,
+            numbers: vec![0; grid.numbers()],
+        }
+    }
+
+    /// A table of numbers that come from elsewhere, as from another machine.
+    ///
+    /// Only their length is looked at. Every call looks at the numbers themselves and refuses an unsound table with
+    /// [`Refused::Unsound`]; a load of no colours does nothing else. A table is *sound* if in each bin every sum lies
+    /// where so many components of that bin can add up to, the squares are at most 195,075 times the weight, and all
+    /// weights add up to at most 4,294,967,295. Loads and merges keep a table sound.
+    ///
+    /// # Errors
+    ///
+    /// [`Refused::Length`] where there are not exactly [`Grid::numbers`] of them.
+    ///
+    /// ```
+    /// use seluvava::{Grid, Refused, Table};
+    ///
+    /// let grid = Grid::new(2, 2, 2)?;
+    /// let mut numbers = vec![0; grid.numbers()];
+    /// numbers[4] = 1; // squares of the first bin, which has no colour
+    /// let mut table = Table::from_numbers(grid, numbers)?;
+    /// assert_eq!(table.load(&[]), Err(Refused::Unsound));
+    /// # Ok::<(), Refused>(())
+    /// ```
+    pub fn from_numbers(grid: Grid, numbers: Vec<u64>) -> Result<Table, Refused> {
+        if numbers.len() != grid.numbers() {
+            return Err(Refused::Length);
+        }
+        Ok(Table { grid, numbers })
+    }
+
+    /// The grid of the table.
+    #[must_use]
+    pub fn grid(&self) -> Grid {
+        self.grid
+    }
+
+    /// The numbers, five per bin.
+    #[must_use]
+    pub fn numbers(&self) -> &[u64] {
+        &self.numbers
+    }
+
+    /// The numbers, five per bin, without a copy.
+    #[must_use]
+    pub fn into_numbers(self) -> Vec<u64> {
+        self.numbers
+    }
+
+    /// The weights of all bins together: how many pixels were loaded, each as often as its weight.
+    ///
+    /// For an unsound table it can be more than 4,294,967,295; past [`u64::MAX`] it is that.
+    #[must_use]
+    pub fn total(&self) -> u64 {
+        let weights = self.numbers.iter().step_by(5);
+        weights.fold(0, |total, &weight| total.saturating_add(weight))
+    }
+
+    /// Takes every colour out, so that the table can be filled anew.
+    pub fn clear(&mut self) {
+        self.numbers.fill(0);
+    }
+
+    /// Adds colours, each once. No colours change nothing.
+    ///
+    /// # Errors
+    ///
+    /// [`Refused::Unsound`], [`Refused::Total`].
+    pub fn load(&mut self, colours: &[[u8; 3]]) -> Result<(), Refused> {
+        self.load_bytes(colours.as_flattened())
+    }
+
+    /// Adds colours, each as often as its weight. A weight of 0 adds nothing.
+    ///
+    /// # Errors
+    ///
+    /// [`Refused::Weights`] where there is not one weight per colour, [`Refused::Unsound`], [`Refused::Total`].
+    ///
+    /// ```
+    /// use seluvava::{Grid, Refused, Table};
+    ///
+    /// let mut table = Table::new(Grid::rgb());
+    /// table.load_weighted(&[[9, 9, 9]], &[u32::MAX])?;
+    /// assert_eq!(table.load_weighted(&[[9, 9, 9]], &[1]), Err(Refused::Total));
+    /// assert_eq!(table.load_weighted(&[[9, 9, 9]], &[]), Err(Refused::Weights));
+    /// # Ok::<(), Refused>(())
+    /// ```
+    pub fn load_weighted(&mut self, colours: &[[u8; 3]], weights: &[u32]) -> Result<(), Refused> {
+        self.load_bytes_weighted(colours.as_flattened(), weights)
+    }
+
+    /// Adds the colours that bytes make, three to a colour, each once.
+    ///
+    /// # Errors
+    ///
+    /// [`Refused::StrayBytes`] where the last colour is not whole, and those of [`load`](Table::load).
+    pub fn load_bytes(&mut self, colours: &[u8]) -> Result<(), Refused> {
+        sys::load(self.grid, &mut self.numbers, colours, None)
+    }
+
+    /// Adds the colours that bytes make, three to a colour, each as often as its weight.
+    ///
+    /// # Errors
+    ///
+    /// [`Refused::StrayBytes`] where the last colour is not whole, and those of
+    /// [`load_weighted`](Table::load_weighted).
+    pub fn load_bytes_weighted(&mut self, colours: &[u8], weights: &[u32]) -> Result<(), Refused> {
+        sys::load(self.grid, &mut self.numbers, colours, Some(weights))
+    }
+
+    /// Adds a second table of the same grid.
+    ///
+    /// # Errors
+    ///
+    /// [`Refused::Length`] where the grids differ, in any size; [`Refused::Unsound`] where either table is;
+    /// [`Refused::Total`].
+    pub fn merge(&mut self, second: &Table) -> Result<(), Refused> {
+        if second.grid != self.grid {
+            return Err(Refused::Length);
+        }
+        sys::merge(self.grid, &mut self.numbers, &second.numbers)
+    }
+}

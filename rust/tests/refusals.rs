@@ -1,0 +1,197 @@
+//! Each refusal, the order of their numbers, and that a refused call changes nothing.
+use seluvava::{ColourMap, Grid, Refused, Table};
+use std::ops::Range;
+
+fn grid() -> Grid {
+    Grid::new(2, 2, 2).unwrap()
+}
+
+/// A table with a colour in it.
+fn table() -> Table {
+    let mut table = Table::new(grid());
+    table.load(&[[9, 9, 9]]).unwrap();
+    table
+}
+
+/// A table with as many colours as one can hold.
+fn full() -> Table {
+    let mut table = Table::new(grid());
+    table.load_weighted(&[[9, 9, 9]], &[u32::MAX]).unwrap();
+    table
+}
+
+/// A table whose first bin has squares and no colour.
+fn unsound() -> Table {
+    let mut numbers = vec![0; grid().numbers()];
+    numbers[4] = 1;
+    Table::from_numbers(grid(), numbers).unwrap()
+}
+
+/// Holds a call on a table to its number, and the table to what it was.
+fn refuses(number: u8, table: &Table, call: impl Fn(&mut Table) -> Result<(), Refused>) {
+    let mut later = table.clone();
+    let refused = call(&mut later).unwrap_err();
+    assert_eq!(refused.number(), number);
+    assert_eq!(&later, table);
+}
+
+#[test]
+fn lengths_of_parts() {
+    for length in [0, 39, 41, 80] {
+        assert_eq!(
+            Table::from_numbers(grid(), vec![0; length]),
+            Err(Refused::Length)
+        );
+    }
+    for (entries, colours) in [(7, 1), (9, 1), (0, 1), (8, 0), (8, 257)] {
+        let map = ColourMap::from_parts(grid(), vec![0; entries], vec![[0; 3]; colours]);
+        assert_eq!(
+            map,
+            Err(Refused::Length),
+            "{entries} entries, {colours} colours"
+        );
+    }
+    assert!(Table::from_numbers(grid(), vec![0; 40]).is_ok());
+    assert!(ColourMap::from_parts(grid(), vec![255; 8], vec![[0; 3]; 256]).is_ok());
+}
+
+#[test]
+fn load() {
+    let black = [[0, 0, 0]];
+    refuses(3, &table(), |t| t.load_bytes(&[0; 4]));
+    refuses(3, &table(), |t| t.load_bytes_weighted(&[0; 5], &[1]));
+    refuses(4, &table(), |t| t.load_weighted(&black, &[]));
+    refuses(4, &table(), |t| t.load_weighted(&black, &[1, 1]));
+    refuses(4, &table(), |t| t.load_weighted(&[], &[1]));
+    refuses(6, &unsound(), |t| t.load(&black));
+    refuses(6, &unsound(), |t| t.load(&[]));
+    refuses(7, &full(), |t| t.load(&black));
+    refuses(7, &table(), |t| t.load_weighted(&black, &[u32::MAX]));
+    refuses(7, &table(), |t| {
+        t.load_weighted(&[[0, 0, 0]; 3], &[u32::MAX; 3])
+    });
+    // The lowest number that applies.
+    refuses(3, &unsound(), |t| t.load_bytes_weighted(&[0; 4], &[]));
+    refuses(4, &unsound(), |t| t.load_weighted(&black, &[]));
+    refuses(6, &unsound(), |t| {
+        t.load_weighted(&[[0, 0, 0]; 2], &[u32::MAX; 2])
+    });
+}
+
+#[test]
+fn loads_that_add_nothing() {
+    let mut later = full();
+    later.load(&[]).unwrap();
+    later.load_weighted(&[], &[]).unwrap();
+    later.load_weighted(&[[1, 2, 3]], &[0]).unwrap();
+    assert_eq!(later, full());
+}
+
+#[test]
+fn merge() {
+    // The same number of bins, and not the same grid.
+    let long = Table::new(Grid::new(4, 2, 2).unwrap());
+    refuses(5, &long, |t| {
+        t.merge(&Table::new(Grid::new(2, 4, 2).unwrap()))
+    });
+    refuses(5, &table(), |t| t.merge(&long));
+    refuses(6, &unsound(), |t| t.merge(&table()));
+    refuses(6, &table(), |t| t.merge(&unsound()));
+    refuses(7, &full(), |t| t.merge(&table()));
+    refuses(7, &table(), |t| t.merge(&full()));
+    // The lowest number that applies.
+    refuses(5, &unsound(), |t| t.merge(&long));
+    refuses(6, &full(), |t| t.merge(&unsound()));
+}
+
+#[test]
+fn cut() {
+    let empty = Table::new(grid());
+    let cut = |table: &Table, k| table.cut(k).map(|_| ());
+    for k in [0, 257, usize::MAX] {
+        refuses(2, &table(), |t| cut(t, k));
+        refuses(2, &unsound(), |t| cut(t, k));
+        refuses(2, &empty, |t| cut(t, k));
+    }
+    refuses(6, &unsound(), |t| cut(t, 1));
+    refuses(8, &empty, |t| cut(t, 256));
+}
+
+/// A colour map with an entry that is not below the palette's length.
+fn bad_map() -> ColourMap {
+    ColourMap::from_parts(grid(), vec![0, 0, 0, 0, 0, 0, 0, 1], vec![[7, 7, 7]]).unwrap()
+}
+
+/// Holds mapping and painting a band of a frame of bytes to a number, and what they are lent to what it was.
+fn band_refuses(number: u8, map: &ColourMap, bytes: usize, band: Range<usize>) {
+    let mut frame = vec![200; bytes];
+    let mut indices = vec![9; bytes / 3];
+    let mapped = map
+        .map_bytes(&frame, &mut indices, band.clone())
+        .unwrap_err();
+    assert_eq!(
+        (mapped.number(), indices),
+        (number, vec![9; bytes / 3]),
+        "{band:?}"
+    );
+    let painted = map.paint_bytes(&mut frame, band.clone()).unwrap_err();
+    assert_eq!(
+        (painted.number(), frame),
+        (number, vec![200; bytes]),
+        "{band:?}"
+    );
+}
+
+#[test]
+fn map_and_paint() {
+    let good = table().cut(1).unwrap().into_colour_map();
+    let bad = bad_map();
+    let backwards = Range { start: 2, end: 1 };
+    for map in [&good, &bad] {
+        band_refuses(3, map, 7, 0..2);
+        band_refuses(3, map, 7, backwards.clone());
+        for band in [
+            0..3,
+            1..3,
+            2..3,
+            3..3,
+            backwards.clone(),
+            1..usize::MAX,
+            usize::MAX..usize::MAX,
+        ] {
+            band_refuses(5, map, 6, band);
+        }
+    }
+    // Every entry is looked at, whatever the band.
+    for band in [0..2, 0..1, 1..1, 2..2] {
+        band_refuses(9, &bad, 6, band);
+    }
+    assert_eq!(bad.map(&[]), Err(Refused::MapEntry));
+    assert_eq!(bad.paint(&mut []), Err(Refused::MapEntry));
+}
+
+#[test]
+fn index_buffer() {
+    let map = table().cut(1).unwrap().into_colour_map();
+    for length in [0, 1, 3] {
+        let mut indices = vec![9; length];
+        let mapped = map.map_band(&[[0, 0, 0]; 2], &mut indices, 0..1);
+        assert_eq!((mapped, indices), (Err(Refused::Length), vec![9; length]));
+    }
+}
+
+#[test]
+fn numbers_and_texts() {
+    let all: Vec<Refused> = (0..=u8::MAX).filter_map(Refused::from_number).collect();
+    assert_eq!(
+        all.iter()
+            .map(|refused| refused.number())
+            .collect::<Vec<_>>(),
+        [1, 2, 3, 4, 5, 6, 7, 8, 9]
+    );
+    for refused in all {
+        let error: &dyn std::error::Error = &refused;
+        let start = format!("refused {}: ", refused.number());
+        assert!(error.to_string().starts_with(&start), "{error}");
+    }
+}
