@@ -1,4 +1,5 @@
-// Finds the original's text, holds it to its checksums, and tells the place of each file to the compiler.
+// Finds the original's text, holds it to its checksums, and tells the place of each file to the compiler. The runner
+// alone is told where the static library is.
 use std::{env, path::PathBuf, process::Command};
 
 const COMPILER: &str = "rustc 1.95.0 ";
@@ -59,4 +60,13 @@ fn main() {
         println!("cargo:rerun-if-changed={}", place.display());
         println!("cargo:rustc-env={name}={}", place.display());
     }
+
+    let archives = match env::var_os("SELUVAVA_LIB_DIR") {
+        Some(place) => PathBuf::from(place),
+        None => here.join("../target/staticlib"),
+    };
+    println!("cargo:rerun-if-env-changed=SELUVAVA_LIB_DIR");
+    let archive = archives.join("libseluvava.a");
+    println!("cargo:rustc-link-arg-bin=differ={}", archive.display());
+    println!("cargo:rustc-env=SELUVAVA_ARCHIVE={}", archive.display());
 }

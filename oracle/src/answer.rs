@@ -30,8 +30,23 @@ pub struct Answer {
     pub map: Vec<u8>,
 }
 
+/// What becomes of a frame: the index of each pixel, and the frame painted.
+#[derive(Clone, Debug, PartialEq)]
+pub struct Frame {
+    pub indices: Vec<u8>,
+    pub painted: Vec<[u8; 3]>,
+}
+
+/// All that the original says of one input and one frame, with its histogram before the moments are made.
+#[derive(Clone, Debug)]
+pub struct Told {
+    pub table: Vec<u64>,
+    pub answer: Answer,
+    pub frame: Frame,
+}
+
 /// A whole input: colours with their weights.
-#[derive(Clone, Debug, Default)]
+#[derive(Clone, Debug, Default, PartialEq)]
 pub struct Input {
     pub colors: Vec<[u8; 3]>,
     pub weights: Vec<u32>,
@@ -43,7 +58,7 @@ impl Input {
     }
 
     /// Each colour as often as its weight says.
-    fn pixels(&self) -> Vec<[u8; 3]> {
+    pub fn pixels(&self) -> Vec<[u8; 3]> {
         let pairs = self.colors.iter().zip(&self.weights);
         pairs
             .flat_map(|(&c, &w)| std::iter::repeat_n(c, w as usize))
@@ -55,11 +70,12 @@ fn shift(size: usize) -> u32 {
     8 - size.ilog2()
 }
 
-/// What one run of the original says, by all of its ways out, which have to agree.
+/// What one run of the original says, by all of its ways out, which have to agree; and what becomes of a frame.
 fn of_run<const B1: usize, const B2: usize, const B3: usize>(
     run: &WuU8x3<[u8; 3], B1, B2, B3>,
     k: PaletteSize,
-) -> Answer {
+    frame: &[[u8; 3]],
+) -> (Answer, Frame) {
     let boxes = run.boxes(k).into_iter().map(|b| BoxSpread {
         min: b.0.min,
         max: b.0.max,
@@ -79,39 +95,86 @@ fn of_run<const B1: usize, const B2: usize, const B3: usize>(
             }
         }
     }
-    Answer {
+    let answer = Answer {
         moments: run.moments(),
         boxes: boxes.collect(),
         palette: palette.to_vec(),
         counts: counts.to_vec(),
         map,
-    }
+    };
+    let indices = frame.iter().map(|c| color_map.palette_index(c)).collect();
+    let mut painted = frame.to_vec();
+    color_map.map_slice_in_place(&mut painted);
+    (answer, Frame { indices, painted })
 }
 
-/// The histogram and the answer, with weights and, where the pixels are few enough, without: the two have to agree.
-/// There is none where the total is 0.
+/// What the original makes of a whole input and a frame: with weights and, where it is asked to, also pixel by pixel,
+/// and the two have to agree. There is nothing where the total is 0.
+fn told<const B1: usize, const B2: usize, const B3: usize>(
+    input: &Input,
+    k: PaletteSize,
+    by_pixels: bool,
+    frame: &[[u8; 3]],
+) -> Option<Told> {
+    let binner = BinnerU8x3::<B1, B2, B3>::new();
+    let counts = PaletteCounts::new(input.colors.clone(), input.weights.clone()).expect("counts");
+    let with = of_run(&WuU8x3::run_palette_counts(&counts, binner)?, k, frame);
+    if by_pixels {
+        let run = WuU8x3::run_slice(&input.pixels(), binner).expect("pixels");
+        assert!(of_run(&run, k, frame) == with, "with and without weights");
+    }
+    let table = WuU8x3::<_, B1, B2, B3>::table(&input.colors, &input.weights, counts.total_count());
+    let (answer, frame) = with;
+    Some(Told {
+        table,
+        answer,
+        frame,
+    })
+}
+
+/// What the original says of the histogram with the numbers of a table.
+fn of_table<const B1: usize, const B2: usize, const B3: usize>(
+    table: &[u64],
+    k: PaletteSize,
+) -> Answer {
+    of_run(&WuU8x3::<_, B1, B2, B3>::of_table(table), k, &[]).0
+}
+
+/// The histogram and the answer, with weights and, where the total is not above `pixels`, without: the two have to
+/// agree. There is none where the total is 0.
 fn of_grid<const B1: usize, const B2: usize, const B3: usize>(
     input: &Input,
     k: PaletteSize,
     pixels: u64,
 ) -> Option<(Vec<u64>, Answer)> {
-    let binner = BinnerU8x3::<B1, B2, B3>::new();
-    let counts = PaletteCounts::new(input.colors.clone(), input.weights.clone()).expect("counts");
-    let with = of_run(&WuU8x3::run_palette_counts(&counts, binner)?, k);
-    let table = WuU8x3::<_, B1, B2, B3>::table(&input.colors, &input.weights, counts.total_count());
-    if input.total() <= pixels {
-        let run = WuU8x3::run_slice(&input.pixels(), binner).expect("pixels");
-        assert!(of_run(&run, k) == with, "with and without weights");
-    }
-    Some((table, with))
+    let told = told::<B1, B2, B3>(input, k, input.total() <= pixels, &[])?;
+    Some((told.table, told.answer))
 }
 
-type OfGrid = fn(&Input, PaletteSize, u64) -> Option<(Vec<u64>, Answer)>;
+/// The original at one grid.
+#[derive(Clone, Copy)]
+pub struct Original {
+    pub of_grid: OfGrid,
+    pub told: fn(&Input, PaletteSize, bool, &[[u8; 3]]) -> Option<Told>,
+    pub of_table: fn(&[u64], PaletteSize) -> Answer,
+}
+
+impl Original {
+    fn at<const B1: usize, const B2: usize, const B3: usize>() -> Self {
+        Self {
+            of_grid: of_grid::<B1, B2, B3>,
+            told: told::<B1, B2, B3>,
+            of_table: of_table::<B1, B2, B3>,
+        }
+    }
+}
+
+pub type OfGrid = fn(&Input, PaletteSize, u64) -> Option<(Vec<u64>, Answer)>;
 
 /// The grids of the judge: all 343, where the package is built with `all-grids`.
 #[cfg(feature = "all-grids")]
 mod grids {
-    use super::{OfGrid, of_grid};
+    use super::Original;
 
     macro_rules! by_size {
         ($size: expr, $function: ident $(, $earlier: ident)*) => {
@@ -128,33 +191,38 @@ mod grids {
         };
     }
 
-    fn of_two<const B1: usize, const B2: usize>(b3: usize) -> Option<OfGrid> {
-        Some(by_size!(b3, of_grid, B1, B2))
+    fn of_three<const B1: usize, const B2: usize, const B3: usize>() -> Original {
+        Original::at::<B1, B2, B3>()
     }
 
-    fn of_one<const B1: usize>(b2: usize, b3: usize) -> Option<OfGrid> {
-        let with_two: fn(usize) -> Option<OfGrid> = by_size!(b2, of_two, B1);
+    fn of_two<const B1: usize, const B2: usize>(b3: usize) -> Option<Original> {
+        let with_three: fn() -> Original = by_size!(b3, of_three, B1, B2);
+        Some(with_three())
+    }
+
+    fn of_one<const B1: usize>(b2: usize, b3: usize) -> Option<Original> {
+        let with_two: fn(usize) -> Option<Original> = by_size!(b2, of_two, B1);
         with_two(b3)
     }
 
     /// The original at a grid, if its sizes are among the seven.
-    pub fn at_grid([b1, b2, b3]: [usize; 3]) -> Option<OfGrid> {
-        let with_one: fn(usize, usize) -> Option<OfGrid> = by_size!(b1, of_one);
+    pub fn original([b1, b2, b3]: [usize; 3]) -> Option<Original> {
+        let with_one: fn(usize, usize) -> Option<Original> = by_size!(b1, of_one);
         with_one(b2, b3)
     }
 }
 
-/// The grids of the judge: a quick set, of at most 512 bins, with each of the seven sizes in each dimension.
+/// The grids of the judge: a quick set with each of the seven sizes in each dimension.
 #[cfg(not(feature = "all-grids"))]
 mod grids {
-    use super::{OfGrid, of_grid};
+    use super::Original;
 
     macro_rules! quick {
         ($($b1: literal $b2: literal $b3: literal,)*) => {
             /// The original at a grid, if it is one of the set.
-            pub fn at_grid(grid: [usize; 3]) -> Option<OfGrid> {
+            pub fn original(grid: [usize; 3]) -> Option<Original> {
                 match grid {
-                    $([$b1, $b2, $b3] => Some(of_grid::<$b1, $b2, $b3>),)*
+                    $([$b1, $b2, $b3] => Some(Original::at::<$b1, $b2, $b3>()),)*
                     _ => None,
                 }
             }
@@ -162,17 +230,22 @@ mod grids {
     }
 
     quick! {
-        2 2 2, 2 2 4, 2 4 2, 4 2 2, 2 4 8, 8 4 2, 4 4 4, 8 2 4, 4 8 8, 8 8 8,
-        16 4 8, 2 16 2, 4 2 16, 2 2 32, 4 32 4, 32 2 8, 64 2 4, 2 64 2, 4 2 64, 128 2 2, 2 128 2, 2 2 128,
+        2 2 2, 2 2 4, 2 4 2, 4 2 2, 2 4 8, 8 4 2, 4 4 4, 8 2 4, 4 8 8, 8 8 8, 16 4 8, 2 16 2,
+        4 2 16, 2 2 32, 4 32 4, 32 2 8, 64 2 4, 2 64 2, 4 2 64, 128 2 2, 2 128 2, 2 2 128, 16 32 16,
     }
 }
 
 pub use grids::*;
 
+/// The original's answer at a grid of the judge.
+pub fn at_grid(grid: [usize; 3]) -> Option<OfGrid> {
+    original(grid).map(|o| o.of_grid)
+}
+
 /// The grids of the judge that have at most so many bins.
 pub fn grids(most: usize) -> Vec<[usize; 3]> {
     let sizes = [2, 4, 8, 16, 32, 64, 128];
     let all = (0..343).map(|i| [sizes[i / 49], sizes[i / 7 % 7], sizes[i % 7]]);
-    all.filter(|g| g.iter().product::<usize>() <= most && at_grid(*g).is_some())
+    all.filter(|g| g.iter().product::<usize>() <= most && original(*g).is_some())
         .collect()
 }

@@ -1,12 +1,28 @@
-//! The original Rust text as judge. `original` holds it unchanged, `stand_ins` what it leans on, `answer` asks it,
-//! and `script` reads cases and writes answers in the words of the program `cuts`.
+//! The original Rust text as judge, and the runner that holds a port to it. `original` has the text unchanged,
+//! `stand_ins` what it leans on, and `answer` asks it. `numbers` says from document 01 which number a call answers.
+//! `classes` makes the cases, `damage` puts things wrong in them, `case` writes and reads them; `compare` holds a `port` to the judge, by `whole` or by
+//! `calls`, with what `buffer` lends and `batches` splits; `shrink` looks for a smaller case that still differs; and `runner` does all of it
+//! as the arguments say. `model` is a port in plain Rust.
 #![allow(dead_code)]
 extern crate alloc;
 
 pub mod answer;
+mod batches;
+mod buffer;
+mod calls;
+pub mod case;
+pub mod classes;
+pub mod compare;
+pub mod damage;
+pub mod model;
+pub mod numbers;
 pub mod original;
-pub mod script;
+pub mod port;
+pub mod random;
+pub mod runner;
+pub mod shrink;
 pub mod stand_ins;
+mod whole;
 
 // The original names these at the root of its crate.
 pub use original::palette_counts::PaletteCounts;

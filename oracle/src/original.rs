@@ -52,6 +52,22 @@ pub mod u8 {
             }
         }
 
+        /// A run over the histogram with the numbers of a table.
+        pub fn of_table(table: &[u64]) -> Self {
+            let mut hist = Histogram3::<Stats<u64, 3, u32>, B1, B2, B3>::new();
+            let bins = hist.as_flattened_mut().iter_mut();
+            for (bin, numbers) in bins.zip(table.chunks_exact(5)) {
+                bin.count = numbers[0].try_into().expect("a count");
+                bin.components.copy_from_slice(&numbers[1..4]);
+                bin.sum_squared = numbers[4] as f64;
+            }
+            hist.calc_cumulative_moments();
+            Self {
+                color: PhantomData,
+                hist: Hist::U64(hist),
+            }
+        }
+
         /// The moments that the run has made.
         pub fn moments(&self) -> Vec<u64> {
             match &self.hist {

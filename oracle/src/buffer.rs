@@ -1,0 +1,181 @@
+//! Buffers to lend, which tell whether a call left in them what it should.
+use crate::{
+    answer::Answer,
+    case::Case,
+    numbers::Lengths,
+    port::{Grid, Lent, Port},
+    random::Random,
+};
+use std::fmt::Debug;
+
+/// What differs, in words.
+pub type Differs = String;
+
+/// What a buffer has in its places.
+pub trait Place: Copy + PartialEq + Debug {
+    fn of(n: u64) -> Self;
+}
+
+macro_rules! place {
+    ($($type: ty)*) => {
+        $(impl Place for $type {
+            fn of(n: u64) -> Self {
+                n as $type
+            }
+        })*
+    };
+}
+
+place!(u8 u32 u64);
+
+/// How many places stand before and after what is lent.
+const ABOUT: usize = 8;
+
+/// A buffer to lend, with random places about it, and what it all was before.
+pub struct Buffer<T> {
+    old: Vec<T>,
+    now: Vec<T>,
+}
+
+impl<T: Place> Buffer<T> {
+    fn with(contents: impl ExactSizeIterator<Item = T>, r: &mut Random) -> Self {
+        let mut old = Vec::with_capacity(contents.len() + 2 * ABOUT);
+        old.extend((0..ABOUT).map(|_| T::of(r.next())));
+        old.extend(contents);
+        old.extend((0..ABOUT).map(|_| T::of(r.next())));
+        let now = old.clone();
+        Self { old, now }
+    }
+
+    pub fn of(contents: &[T], r: &mut Random) -> Self {
+        Self::with(contents.iter().copied(), r)
+    }
+
+    pub fn zeros(length: usize, r: &mut Random) -> Self {
+        Self::with((0..length).map(|_| T::of(0)), r)
+    }
+
+    pub fn random(length: usize, r: &mut Random) -> Self {
+        let mut inside = Random(r.next());
+        Self::with((0..length).map(|_| T::of(inside.next())), r)
+    }
+
+    pub fn lend(&mut self) -> &mut [T] {
+        let end = self.now.len() - ABOUT;
+        &mut self.now[ABOUT..end]
+    }
+
+    pub fn see(&self) -> &[T] {
+        &self.now[ABOUT..self.now.len() - ABOUT]
+    }
+
+    /// Whether the places from `first` on are as said, and all others as before, also those about what was lent.
+    /// What is there now counts as before from then on.
+    pub fn expect(&mut self, name: &str, first: usize, said: &[T]) -> Result<(), Differs> {
+        let at = ABOUT + first;
+        self.old[at..at + said.len()].copy_from_slice(said);
+        if self.old == self.now {
+            return Ok(());
+        }
+        let place = (0..self.now.len())
+            .find(|&i| self.old[i] != self.now[i])
+            .expect("a place");
+        Err(format!(
+            "{name}: place {} of {}: {:?} is expected, {:?} is there",
+            place as i64 - ABOUT as i64,
+            self.now.len() - 2 * ABOUT,
+            self.old[place],
+            self.now[place]
+        ))
+    }
+
+    pub fn unchanged(&mut self, name: &str) -> Result<(), Differs> {
+        self.expect(name, 0, &[])
+    }
+
+    /// Lets what was lent count as before.
+    pub fn settle(&mut self) {
+        let lent = ABOUT..self.now.len() - ABOUT;
+        self.old[lent.clone()].copy_from_slice(&self.now[lent]);
+    }
+}
+
+pub fn same<T: PartialEq + Debug>(name: &str, expected: T, answered: T) -> Result<(), Differs> {
+    if expected == answered {
+        return Ok(());
+    }
+    Err(format!(
+        "{name}: {expected:?} is expected, {answered:?} is answered"
+    ))
+}
+
+/// What a cut is lent.
+pub struct Buffers {
+    pub work: Buffer<u64>,
+    pub palette: Buffer<u8>,
+    pub counts: Buffer<u32>,
+    pub map: Buffer<u8>,
+    pub boxes: Buffer<u8>,
+    pub spreads: Buffer<u64>,
+}
+
+impl Buffers {
+    pub fn random(lengths: Lengths, r: &mut Random) -> Self {
+        Self {
+            work: Buffer::random(lengths.work, r),
+            palette: Buffer::random(lengths.palette, r),
+            counts: Buffer::random(lengths.counts, r),
+            map: Buffer::random(lengths.map, r),
+            boxes: Buffer::random(lengths.boxes, r),
+            spreads: Buffer::random(lengths.spreads, r),
+        }
+    }
+
+    pub fn cut(&mut self, port: &dyn Port, grid: Grid, k: usize, table: &[u64]) -> (u8, usize) {
+        let lent = Lent {
+            work: self.work.lend(),
+            palette: self.palette.lend(),
+            counts: self.counts.lend(),
+            map: self.map.lend(),
+            boxes: self.boxes.lend(),
+            spreads: self.spreads.lend(),
+        };
+        port.cut(grid, k, table, lent)
+    }
+
+    pub fn unchanged(&mut self) -> Result<(), Differs> {
+        self.work.unchanged("the work table of a refused cut")?;
+        self.palette.unchanged("the palette of a refused cut")?;
+        self.counts.unchanged("the counts of a refused cut")?;
+        self.map.unchanged("the map of a refused cut")?;
+        self.boxes.unchanged("the boxes of a refused cut")?;
+        self.spreads.unchanged("the spreads of a refused cut")
+    }
+
+    pub fn expect(&mut self, answer: &Answer) -> Result<(), Differs> {
+        let mut boxes = Vec::with_capacity(6 * answer.boxes.len());
+        for b in &answer.boxes {
+            boxes.extend((0..3).flat_map(|d| [b.min[d], b.max[d]]));
+        }
+        let spreads: Vec<u64> = answer.boxes.iter().map(|b| b.spread.to_bits()).collect();
+        self.boxes.expect("boxes", 0, &boxes)?;
+        self.spreads.expect("spreads, as bits", 0, &spreads)?;
+        self.palette
+            .expect("palette", 0, answer.palette.as_flattened())?;
+        self.counts.expect("counts", 0, &answer.counts)?;
+        self.map.expect("map", 0, &answer.map)?;
+        self.work.expect("work table", 0, &answer.moments)
+    }
+}
+
+/// The lengths that fit a case, with the places too many that it says.
+pub fn fitting(case: &Case) -> Lengths {
+    Lengths {
+        work: 5 * case.bins(),
+        palette: 3 * case.k + case.spare[0],
+        counts: case.k + case.spare[1],
+        map: case.bins(),
+        boxes: 6 * case.k + case.spare[2],
+        spreads: case.k + case.spare[3],
+    }
+}

@@ -1,0 +1,135 @@
+//! One case, and the line by which it can be run again.
+use crate::{answer::Input, damage::Damage, numbers::bins, port::Band};
+use std::fmt;
+
+/// What is done with a case.
+#[derive(Clone, Debug, PartialEq)]
+pub enum Kind {
+    /// The input as a whole, and where there are batches also shuffled, split and merged.
+    Whole { by_pixels: bool, batches: usize },
+    /// The five calls one by one: the first `split` colours are in the table and the others are loaded or merged.
+    Calls { split: usize, damages: Vec<Damage> },
+}
+
+/// One case. `seed` decides what stands in lent buffers, and how an input is shuffled and split.
+#[derive(Clone, Debug, PartialEq)]
+pub struct Case {
+    pub kind: Kind,
+    pub grid: [usize; 3],
+    pub k: usize,
+    pub input: Input,
+    pub frame: Vec<([u8; 3], usize)>,
+    pub band: Band,
+    /// How many places too many are lent of palette, counts, boxes and spreads.
+    pub spare: [usize; 4],
+    pub seed: u64,
+}
+
+impl Case {
+    pub fn bins(&self) -> usize {
+        bins(self.grid)
+    }
+
+    pub fn frame_pixels(&self) -> Vec<[u8; 3]> {
+        let runs = self.frame.iter();
+        runs.flat_map(|&(c, n)| std::iter::repeat_n(c, n)).collect()
+    }
+}
+
+/// Colours, each with how often.
+fn write_colors(
+    f: &mut fmt::Formatter<'_>,
+    name: &str,
+    colors: impl Iterator<Item = ([u8; 3], u64)>,
+) -> fmt::Result {
+    write!(f, "; {name}")?;
+    for (i, ([r, g, b], n)) in colors.enumerate() {
+        write!(f, "{} {r} {g} {b} * {n}", if i == 0 { "" } else { "," })?;
+    }
+    Ok(())
+}
+
+impl fmt::Display for Case {
+    fn fmt(&self, f: &mut fmt::Formatter<'_>) -> fmt::Result {
+        let [b1, b2, b3] = self.grid;
+        write!(f, "grid {b1} {b2} {b3}; k {}", self.k)?;
+        let weights = self.input.weights.iter().map(|&w| u64::from(w));
+        write_colors(f, "colours", self.input.colors.iter().copied().zip(weights))?;
+        write_colors(f, "frame", self.frame.iter().map(|&(c, n)| (c, n as u64)))?;
+        write!(f, "; band {} {}", self.band.first, self.band.pixels)?;
+        let [a, b, c, d] = self.spare;
+        write!(f, "; spare {a} {b} {c} {d}; seed {}", self.seed)?;
+        match &self.kind {
+            Kind::Whole { by_pixels, batches } => {
+                write!(f, "; pixels {}; batches {batches}", u8::from(*by_pixels))
+            }
+            Kind::Calls { split, damages } => {
+                write!(f, "; split {split}; damages")?;
+                for (i, d) in damages.iter().enumerate() {
+                    let comma = if i == 0 { "" } else { "," };
+                    write!(f, "{comma} {d}")?;
+                }
+                Ok(())
+            }
+        }
+    }
+}
+
+/// The numbers among the words of a text.
+pub fn numbers<T: std::str::FromStr>(text: &str) -> Vec<T> {
+    text.split_whitespace()
+        .filter_map(|w| w.parse().ok())
+        .collect()
+}
+
+fn colors(text: &str) -> impl Iterator<Item = ([u8; 3], u64)> {
+    text.split(',').filter_map(|one| {
+        let [r, g, b, n] = numbers::<u64>(one).try_into().ok()?;
+        Some(([r, g, b].map(|c| c as u8), n))
+    })
+}
+
+impl Case {
+    /// Reads the line of a case.
+    pub fn of_line(line: &str) -> Option<Self> {
+        let field = |name: &str| {
+            line.split(';')
+                .filter_map(|f| f.trim().split_once(' ').or(Some((f.trim(), ""))))
+                .find(|(word, _)| *word == name)
+                .map(|(_, rest)| rest)
+        };
+        let one = |name: &str| field(name).and_then(|t| numbers::<u64>(t).first().copied());
+        let (colors_of_input, weights) = colors(field("colours")?)
+            .map(|(c, w)| (c, w as u32))
+            .unzip();
+        let [first, pixels] = numbers(field("band")?).try_into().ok()?;
+        let kind = match one("split") {
+            Some(split) => Kind::Calls {
+                split: split as usize,
+                damages: field("damages")?
+                    .split(',')
+                    .filter_map(Damage::of_text)
+                    .collect(),
+            },
+            None => Kind::Whole {
+                by_pixels: one("pixels")? != 0,
+                batches: one("batches")? as usize,
+            },
+        };
+        Some(Self {
+            kind,
+            grid: numbers(field("grid")?).try_into().ok()?,
+            k: one("k")? as usize,
+            input: Input {
+                colors: colors_of_input,
+                weights,
+            },
+            frame: colors(field("frame")?)
+                .map(|(c, n)| (c, n as usize))
+                .collect(),
+            band: Band { first, pixels },
+            spare: numbers(field("spare")?).try_into().ok()?,
+            seed: one("seed")?,
+        })
+    }
+}

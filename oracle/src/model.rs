@@ -1,0 +1,283 @@
+//! A port in plain Rust, from document 01's section "Steps": a box's sum is the sum over its bins, the heap is a list.
+//! It stands in the library's place where a slip is to be caught, and shows whether a difference is the document's.
+use crate::{
+    numbers::{self, Lengths, added, bins, place},
+    port::{Band, Grid, Lent, Port},
+};
+
+/// Min inclusive, max exclusive, and the spread.
+#[derive(Clone, Copy)]
+pub struct Item {
+    pub min: [usize; 3],
+    pub max: [usize; 3],
+    pub spread: f64,
+}
+
+/// The weight, three sums and the squares of a box.
+type Sums = [u64; 5];
+
+fn add(a: Sums, b: Sums) -> Sums {
+    std::array::from_fn(|j| a[j] + b[j])
+}
+
+fn sub(a: Sums, b: Sums) -> Sums {
+    std::array::from_fn(|j| a[j] - b[j])
+}
+
+/// "Q is c1², then plus c2², then plus c3², each operation rounded once"; here over the weight.
+fn share([n, c1, c2, c3, _]: Sums) -> f64 {
+    let [c1, c2, c3] = [c1, c2, c3].map(|c| c as f64);
+    (c1 * c1 + c2 * c2 + c3 * c3) / n as f64
+}
+
+/// One cut, over the moments.
+struct Cutting<'a> {
+    grid: Grid,
+    moments: &'a [u64],
+}
+
+impl Cutting<'_> {
+    /// "An index below 0 counts as all zeros": the bounds are exclusive.
+    fn corner(&self, [r, g, b]: [usize; 3]) -> Sums {
+        if r == 0 || g == 0 || b == 0 {
+            return [0; 5];
+        }
+        let [_, b2, b3] = self.grid;
+        let at = 5 * (((r - 1) * b2 + g - 1) * b3 + b - 1);
+        self.moments[at..at + 5].try_into().expect("five")
+    }
+
+    /// "Its sum is found by inclusion and exclusion."
+    fn sum(&self, min: [usize; 3], max: [usize; 3]) -> Sums {
+        let [mut with, mut without] = [[0; 5]; 2];
+        for corner in 0..8 {
+            let low = [corner & 4, corner & 2, corner & 1].map(|bit| bit != 0);
+            let at = std::array::from_fn(|d| if low[d] { min[d] } else { max[d] });
+            if low.iter().filter(|l| **l).count() % 2 == 0 {
+                with = add(with, self.corner(at));
+            } else {
+                without = add(without, self.corner(at));
+            }
+        }
+        sub(with, without)
+    }
+
+    fn item(&self, min: [usize; 3], max: [usize; 3]) -> Item {
+        let sums = self.sum(min, max);
+        let one_bin = (0..3).all(|d| max[d] - min[d] == 1);
+        let spread = if one_bin {
+            0.0
+        } else {
+            sums[4] as f64 - share(sums)
+        };
+        Item { min, max, spread }
+    }
+
+    /// "The smallest score wins; on a tie the lowest dimension, in it the lowest bin."
+    fn best(&self, item: Item) -> Option<(usize, usize)> {
+        let mut best = None;
+        for d in 0..3 {
+            for bin in item.min[d] + 1..item.max[d] {
+                let mut max = item.max;
+                max[d] = bin;
+                let low = self.sum(item.min, max);
+                let high = sub(self.sum(item.min, item.max), low);
+                if low[0] == 0 || high[0] == 0 {
+                    continue;
+                }
+                let score = -(share(low) + share(high));
+                if best.is_none_or(|(_, smallest)| score < smallest) {
+                    best = Some(((d, bin), score));
+                }
+            }
+        }
+        best.map(|(position, _)| position)
+    }
+
+    /// "While there are fewer than k boxes, take out the top."
+    fn boxes(&self, k: usize) -> Vec<Item> {
+        let mut heap = vec![Item {
+            min: [0; 3],
+            max: self.grid,
+            spread: f64::INFINITY,
+        }];
+        while heap.len() < k {
+            let top = take_out(&mut heap);
+            if top.spread.is_nan() || top.spread <= 0.0 {
+                put_in(&mut heap, top);
+                break;
+            }
+            if let Some((d, bin)) = self.best(top) {
+                let (mut max, mut min) = (top.max, top.min);
+                max[d] = bin;
+                min[d] = bin;
+                put_in(&mut heap, self.item(top.min, max));
+                put_in(&mut heap, self.item(min, top.max));
+            } else {
+                put_in(&mut heap, Item { spread: 0.0, ..top });
+            }
+        }
+        heap
+    }
+}
+
+/// "Append, then climb while strictly greater than the parent."
+fn put_in(heap: &mut Vec<Item>, item: Item) {
+    heap.push(item);
+    let end = heap.len() - 1;
+    climb(heap, end);
+}
+
+fn climb(heap: &mut [Item], mut p: usize) {
+    while p > 0 && heap[p].spread > heap[(p - 1) / 2].spread {
+        heap.swap(p, (p - 1) / 2);
+        p = (p - 1) / 2;
+    }
+}
+
+/// "The last element leaves the end; if others remain, it will replace place 0 .. Sink a hole from 0: while both
+/// children exist, move up the right child if left ≤ right, else the left; if only a left child exists, move that up.
+/// The carried element enters the hole and climbs as above."
+fn take_out(heap: &mut Vec<Item>) -> Item {
+    let last = heap.pop().expect("a box");
+    if heap.is_empty() {
+        return last;
+    }
+    let top = heap[0];
+    let mut hole = 0;
+    while 2 * hole + 1 < heap.len() {
+        let (left, right) = (2 * hole + 1, 2 * hole + 2);
+        let up = if right < heap.len() && heap[left].spread <= heap[right].spread {
+            right
+        } else {
+            left
+        };
+        heap[hole] = heap[up];
+        hole = up;
+    }
+    heap[hole] = last;
+    climb(heap, hole);
+    top
+}
+
+/// "Each place of the work table gets the sum over all bins with r, g and b at most its own": one dimension at a time.
+fn moments(grid: Grid, table: &[u64], work: &mut [u64]) {
+    work.copy_from_slice(table);
+    let [b1, b2, b3] = grid;
+    for (step, size) in [(b2 * b3, b1), (b3, b2), (1, b3)] {
+        for place in 0..bins(grid) {
+            if place / step % size > 0 {
+                for j in 0..5 {
+                    work[5 * place + j] += work[5 * (place - step) + j];
+                }
+            }
+        }
+    }
+}
+
+pub struct Model;
+
+impl Port for Model {
+    fn sizes(&self, grid: Grid) -> (usize, usize) {
+        numbers::sizes(grid)
+    }
+
+    fn load(
+        &self,
+        grid: Grid,
+        table: &mut [u64],
+        colours: &[u8],
+        weighted: bool,
+        weights: &[u32],
+    ) -> u8 {
+        let number = numbers::load(grid, table, colours.len(), weighted, weights);
+        if number == 0 {
+            for (i, &color) in colours.as_chunks::<3>().0.iter().enumerate() {
+                let w = if weighted { weights[i] } else { 1 };
+                let at = 5 * place(grid, color);
+                for (n, more) in table[at..at + 5].iter_mut().zip(added(color, w)) {
+                    *n += more;
+                }
+            }
+        }
+        number
+    }
+
+    fn merge(&self, grid: Grid, table: &mut [u64], second: &[u64]) -> u8 {
+        let number = numbers::merge(grid, table, second);
+        if number == 0 {
+            table.iter_mut().zip(second).for_each(|(n, m)| *n += m);
+        }
+        number
+    }
+
+    fn cut(&self, grid: Grid, k: usize, table: &[u64], lent: Lent<'_>) -> (u8, usize) {
+        let lengths = Lengths {
+            work: lent.work.len(),
+            palette: lent.palette.len(),
+            counts: lent.counts.len(),
+            map: lent.map.len(),
+            boxes: lent.boxes.len(),
+            spreads: lent.spreads.len(),
+        };
+        let number = numbers::cut(grid, k, table, lengths);
+        if number != 0 {
+            return (number, 0);
+        }
+        moments(grid, table, lent.work);
+        let cutting = Cutting {
+            grid,
+            moments: lent.work,
+        };
+        let boxes = cutting.boxes(k);
+        let [_, b2, b3] = grid;
+        for (i, item) in boxes.iter().enumerate() {
+            let [n, sums @ .., _] = cutting.sum(item.min, item.max);
+            for d in 0..3 {
+                lent.palette[3 * i + d] = (sums[d] / n) as u8;
+                lent.boxes[6 * i + 2 * d] = item.min[d] as u8;
+                lent.boxes[6 * i + 2 * d + 1] = item.max[d] as u8;
+            }
+            lent.counts[i] = n as u32;
+            lent.spreads[i] = item.spread.to_bits();
+            for r in item.min[0]..item.max[0] {
+                for g in item.min[1]..item.max[1] {
+                    let row = (r * b2 + g) * b3;
+                    lent.map[row + item.min[2]..row + item.max[2]].fill(i as u8);
+                }
+            }
+        }
+        (0, boxes.len())
+    }
+
+    fn map(
+        &self,
+        grid: Grid,
+        map: &[u8],
+        colours: usize,
+        frame: &[u8],
+        indices: &mut [u8],
+        band: Band,
+    ) -> u8 {
+        let number = numbers::map(grid, map, colours, frame.len(), indices.len(), band);
+        if number == 0 {
+            let pixels = frame.as_chunks::<3>().0;
+            for i in band.first..band.first + band.pixels {
+                indices[i] = map[place(grid, pixels[i])];
+            }
+        }
+        number
+    }
+
+    fn paint(&self, grid: Grid, map: &[u8], palette: &[u8], frame: &mut [u8], band: Band) -> u8 {
+        let number = numbers::paint(grid, map, palette.len(), frame.len(), band);
+        if number == 0 {
+            let pixels = frame.as_chunks_mut::<3>().0;
+            for pixel in &mut pixels[band.first..band.first + band.pixels] {
+                let index = usize::from(map[place(grid, *pixel)]);
+                *pixel = palette.as_chunks::<3>().0[index];
+            }
+        }
+        number
+    }
+}

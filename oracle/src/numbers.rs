@@ -1,0 +1,164 @@
+//! Which number a call answers, from document 01's sections "Grid and table" and "Numbers a caller gets back" and from
+//! nothing else. What a call is lent counts here by its length, unless its contents decide.
+use crate::port::{Band, Grid};
+
+const SIZES: [usize; 7] = [2, 4, 8, 16, 32, 64, 128];
+
+/// The largest total of a sound table.
+pub const LARGEST_TOTAL: u128 = 4_294_967_295;
+
+/// "A grid size not among the seven."
+fn is_grid(grid: Grid) -> bool {
+    grid.iter().all(|b| SIZES.contains(b))
+}
+
+pub fn bins(grid: Grid) -> usize {
+    grid.iter().product()
+}
+
+/// How many bins a grid has and how many numbers its table, or twice 0.
+pub fn sizes(grid: Grid) -> (usize, usize) {
+    if is_grid(grid) {
+        (bins(grid), 5 * bins(grid))
+    } else {
+        (0, 0)
+    }
+}
+
+/// "The bin of component c at size B is c shifted right by 7, 6, 5, 4, 3, 2, 1 places in that order."
+pub fn bin(size: usize, c: u8) -> usize {
+    let which = SIZES.iter().position(|&b| b == size).expect("a size");
+    usize::from(c) >> (7 - which)
+}
+
+/// "Bin (r, g, b) stands at place (r·B2 + g)·B3 + b."
+pub fn place([b1, b2, b3]: Grid, [r, g, b]: [u8; 3]) -> usize {
+    (bin(b1, r) * b2 + bin(b2, g)) * b3 + bin(b3, b)
+}
+
+/// "Adds its weight w to n, w·c to each sum, w·(c1²+c2²+c3²) to the squares": what a colour adds to the five.
+pub fn added(color: [u8; 3], w: u32) -> [u64; 5] {
+    let w = u64::from(w);
+    let [c1, c2, c3] = color.map(u64::from);
+    [w, w * c1, w * c2, w * c3, w * (c1 * c1 + c2 * c2 + c3 * c3)]
+}
+
+/// The total of a sound table; none if it is not sound.
+fn sound(grid: Grid, table: &[u64]) -> Option<u128> {
+    let [_, b2, b3] = grid;
+    let mut total = 0;
+    for (place, numbers) in table.chunks_exact(5).enumerate() {
+        let [n, sums @ .., squares] = [0, 1, 2, 3, 4].map(|j| u128::from(numbers[j]));
+        let bins = [place / (b2 * b3), place / b3 % b2, place % b3];
+        for ((size, bin), sum) in grid.into_iter().zip(bins).zip(sums) {
+            let values = 256 / size;
+            let (low, high) = (bin * values, bin * values + values - 1);
+            if sum < n * low as u128 || sum > n * high as u128 {
+                return None;
+            }
+        }
+        if squares > 195_075 * n {
+            return None;
+        }
+        total += n;
+    }
+    (total <= LARGEST_TOTAL).then_some(total)
+}
+
+/// "The lowest number that applies is given": tests with their numbers, in order.
+fn lowest(tests: &[(&dyn Fn() -> bool, u8)]) -> u8 {
+    tests
+        .iter()
+        .find(|(applies, _)| applies())
+        .map_or(0, |(_, number)| *number)
+}
+
+pub fn load(grid: Grid, table: &[u64], colours: usize, weighted: bool, weights: &[u32]) -> u8 {
+    let n = colours / 3;
+    let batch = || match weighted {
+        true => weights.iter().map(|&w| u128::from(w)).sum(),
+        false => n as u128,
+    };
+    lowest(&[
+        (&|| !is_grid(grid), 1),
+        (&|| colours % 3 != 0, 3),
+        (&|| weighted && weights.len() != n, 4),
+        (&|| table.len() != 5 * bins(grid), 5),
+        (&|| sound(grid, table).is_none(), 6),
+        (
+            &|| sound(grid, table).is_some_and(|total| total + batch() > LARGEST_TOTAL),
+            7,
+        ),
+    ])
+}
+
+pub fn merge(grid: Grid, table: &[u64], second: &[u64]) -> u8 {
+    let totals = || sound(grid, table).zip(sound(grid, second));
+    lowest(&[
+        (&|| !is_grid(grid), 1),
+        (&|| table.len() != 5 * bins(grid), 5),
+        (&|| second.len() != 5 * bins(grid), 5),
+        (&|| totals().is_none(), 6),
+        (&|| totals().is_some_and(|(a, b)| a + b > LARGEST_TOTAL), 7),
+    ])
+}
+
+/// The lengths of what a cut is lent to write.
+#[derive(Clone, Copy, Debug)]
+pub struct Lengths {
+    pub work: usize,
+    pub palette: usize,
+    pub counts: usize,
+    pub map: usize,
+    pub boxes: usize,
+    pub spreads: usize,
+}
+
+pub fn cut(grid: Grid, k: usize, table: &[u64], lent: Lengths) -> u8 {
+    lowest(&[
+        (&|| !is_grid(grid), 1),
+        (&|| !(1..=256).contains(&k), 2),
+        (&|| table.len() != 5 * bins(grid), 5),
+        (&|| lent.work != 5 * bins(grid), 5),
+        (&|| lent.palette < 3 * k, 5),
+        (&|| lent.counts < k, 5),
+        (&|| lent.map != bins(grid), 5),
+        (&|| lent.boxes < 6 * k, 5),
+        (&|| lent.spreads < k, 5),
+        (&|| sound(grid, table).is_none(), 6),
+        (&|| sound(grid, table) == Some(0), 8),
+    ])
+}
+
+fn reaches_past(band: Band, pixels: usize) -> bool {
+    band.first
+        .checked_add(band.pixels)
+        .is_none_or(|end| end > pixels)
+}
+
+fn all_below(map: &[u8], colours: usize) -> bool {
+    map.iter().all(|&entry| usize::from(entry) < colours)
+}
+
+pub fn map(grid: Grid, map: &[u8], colours: usize, frame: usize, indices: usize, band: Band) -> u8 {
+    lowest(&[
+        (&|| !is_grid(grid), 1),
+        (&|| frame % 3 != 0, 3),
+        (&|| map.len() != bins(grid), 5),
+        (&|| !(1..=256).contains(&colours), 5),
+        (&|| indices != frame / 3, 5),
+        (&|| reaches_past(band, frame / 3), 5),
+        (&|| !all_below(map, colours), 9),
+    ])
+}
+
+pub fn paint(grid: Grid, map: &[u8], palette: usize, frame: usize, band: Band) -> u8 {
+    lowest(&[
+        (&|| !is_grid(grid), 1),
+        (&|| frame % 3 != 0, 3),
+        (&|| map.len() != bins(grid), 5),
+        (&|| !(3..=768).contains(&palette) || palette % 3 != 0, 5),
+        (&|| reaches_past(band, frame / 3), 5),
+        (&|| !all_below(map, palette / 3), 9),
+    ])
+}

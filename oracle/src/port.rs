@@ -1,0 +1,51 @@
+//! The calls of a port. The runner knows a port by these alone, so that another can stand in the library's place.
+
+pub type Grid = [usize; 3];
+
+/// What a cut is lent to write: six bytes a box, and each spread as the bits of a double.
+pub struct Lent<'a> {
+    pub work: &'a mut [u64],
+    pub palette: &'a mut [u8],
+    pub counts: &'a mut [u32],
+    pub map: &'a mut [u8],
+    pub boxes: &'a mut [u8],
+    pub spreads: &'a mut [u64],
+}
+
+/// A band of a frame: its first pixel and how many.
+#[derive(Clone, Copy, Debug, Default, PartialEq, Eq)]
+pub struct Band {
+    pub first: usize,
+    pub pixels: usize,
+}
+
+/// Each call answers its number; a cut also the number of boxes.
+pub trait Port {
+    /// How many bins a grid has and how many numbers its table, or twice 0 where a size is refused.
+    fn sizes(&self, grid: Grid) -> (usize, usize);
+
+    fn load(
+        &self,
+        grid: Grid,
+        table: &mut [u64],
+        colours: &[u8],
+        weighted: bool,
+        weights: &[u32],
+    ) -> u8;
+
+    fn merge(&self, grid: Grid, table: &mut [u64], second: &[u64]) -> u8;
+
+    fn cut(&self, grid: Grid, k: usize, table: &[u64], lent: Lent<'_>) -> (u8, usize);
+
+    fn map(
+        &self,
+        grid: Grid,
+        map: &[u8],
+        colours: usize,
+        frame: &[u8],
+        indices: &mut [u8],
+        band: Band,
+    ) -> u8;
+
+    fn paint(&self, grid: Grid, map: &[u8], palette: &[u8], frame: &mut [u8], band: Band) -> u8;
+}

@@ -1,0 +1,209 @@
+//! Looks for a smaller case that still differs.
+use crate::{
+    answer::original,
+    case::{Case, Kind},
+    port::Band,
+};
+
+/// How many cases are tried at most.
+const TRIES: usize = 20_000;
+
+/// A case made smaller again and again, as long as it differs. What it ends with is smaller in no single step.
+pub fn shrink(case: &Case, differs: &dyn Fn(&Case) -> bool) -> Case {
+    let mut best = case.clone();
+    let mut tries = 0;
+    let mut take = |best: &mut Case, other: Case| {
+        tries += 1;
+        let better = tries <= TRIES && other != *best && is_fit(&other) && differs(&other);
+        if better {
+            *best = other;
+        }
+        better
+    };
+    loop {
+        let mut smaller = false;
+        for step in STEPS {
+            for other in step(&best) {
+                if take(&mut best, other) {
+                    smaller = true;
+                    break;
+                }
+            }
+        }
+        let mut part = best.input.colors.len();
+        while part > 0 {
+            let mut at = 0;
+            while at < best.input.colors.len() {
+                let other = without(&best, at, part);
+                if take(&mut best, other) {
+                    smaller = true;
+                } else {
+                    at += part;
+                }
+            }
+            part /= 2;
+        }
+        if !smaller {
+            return best;
+        }
+    }
+}
+
+/// Whether the judge has the grid, k is in its bounds and the band in the frame.
+fn is_fit(case: &Case) -> bool {
+    let pixels: usize = case.frame.iter().map(|f| f.1).sum();
+    let colours = case.input.colors.len();
+    original(case.grid).is_some()
+        && (1..=256).contains(&case.k)
+        && case.band.first + case.band.pixels <= pixels
+        && match case.kind {
+            Kind::Whole { by_pixels, .. } => !by_pixels || case.input.total() > 0,
+            Kind::Calls { split, .. } => split <= colours,
+        }
+}
+
+/// The case without so many colours from one on.
+fn without(case: &Case, at: usize, count: usize) -> Case {
+    let mut other = case.clone();
+    let end = (at + count).min(other.input.colors.len());
+    other.input.colors.drain(at..end);
+    other.input.weights.drain(at..end);
+    if let Kind::Calls { split, .. } = &mut other.kind {
+        *split -= (*split).clamp(at, end) - at;
+    }
+    other
+}
+
+/// Numbers below n that are tried in its place.
+fn below(n: usize) -> Vec<usize> {
+    let mut list = vec![0, 1, n / 2, n.saturating_sub(1)];
+    list.retain(|m| *m < n);
+    list
+}
+
+/// The case changed in one place, for each of the numbers below the one there.
+fn with(case: &Case, old: usize, put: impl Fn(&mut Case, usize)) -> Vec<Case> {
+    let one = |n| {
+        let mut other = case.clone();
+        put(&mut other, n);
+        other
+    };
+    below(old).into_iter().map(one).collect()
+}
+
+/// Smaller grids first: what comes after is quicker there.
+const STEPS: [fn(&Case) -> Vec<Case>; 7] = [sizes, kinds, ks, weights, colors, frames, spares];
+
+/// Nothing by pixels, fewer batches, or less put wrong.
+fn kinds(case: &Case) -> Vec<Case> {
+    let mut list = Vec::new();
+    match &case.kind {
+        Kind::Whole { by_pixels, batches } => {
+            for (by_pixels, batches) in [(false, 0), (false, *batches), (*by_pixels, 0)] {
+                let kind = Kind::Whole { by_pixels, batches };
+                list.push(Case {
+                    kind,
+                    ..case.clone()
+                });
+            }
+            list.extend(with(case, *batches, |c, n| {
+                if let Kind::Whole { batches, .. } = &mut c.kind {
+                    *batches = n;
+                }
+            }));
+        }
+        Kind::Calls { split, damages } => {
+            for i in 0..damages.len() {
+                let mut fewer = damages.clone();
+                fewer.remove(i);
+                let kind = Kind::Calls {
+                    split: *split,
+                    damages: fewer,
+                };
+                list.push(Case {
+                    kind,
+                    ..case.clone()
+                });
+            }
+            for split in [0, split / 2, split.saturating_sub(1)] {
+                let damages = damages.clone();
+                let kind = Kind::Calls { split, damages };
+                list.push(Case {
+                    kind,
+                    ..case.clone()
+                });
+            }
+        }
+    }
+    list.retain(|c| c.kind != case.kind);
+    list
+}
+
+fn sizes(case: &Case) -> Vec<Case> {
+    let mut list = Vec::new();
+    for d in 0..3 {
+        for size in [2, case.grid[d] / 2] {
+            if size < case.grid[d] {
+                let mut other = case.clone();
+                other.grid[d] = size;
+                list.push(other);
+            }
+        }
+    }
+    list
+}
+
+fn ks(case: &Case) -> Vec<Case> {
+    with(case, case.k, |c, k| c.k = k)
+}
+
+fn weights(case: &Case) -> Vec<Case> {
+    let mut all = case.clone();
+    all.input.weights.fill(1);
+    let mut list = vec![all];
+    list.retain(|c| c.input.total() < case.input.total());
+    for i in 0..case.input.weights.len().min(50) {
+        let old = case.input.weights[i] as usize;
+        list.extend(with(case, old, |c, w| c.input.weights[i] = w as u32));
+    }
+    list
+}
+
+fn colors(case: &Case) -> Vec<Case> {
+    let mut list = Vec::new();
+    for i in 0..case.input.colors.len().min(50) {
+        for d in 0..3 {
+            let old = usize::from(case.input.colors[i][d]);
+            list.extend(with(case, old, |c, n| c.input.colors[i][d] = n as u8));
+        }
+    }
+    list
+}
+
+fn frames(case: &Case) -> Vec<Case> {
+    let nothing = Case {
+        frame: Vec::new(),
+        band: Band::default(),
+        ..case.clone()
+    };
+    let mut list = vec![nothing];
+    for i in 0..case.frame.len() {
+        let mut other = case.clone();
+        other.frame.remove(i);
+        other.band.pixels = other.band.pixels.saturating_sub(case.frame[i].1);
+        list.push(other);
+        list.extend(with(case, case.frame[i].1, |c, n| c.frame[i].1 = n));
+    }
+    list.extend(with(case, case.band.first, |c, n| c.band.first = n));
+    list.extend(with(case, case.band.pixels, |c, n| c.band.pixels = n));
+    list
+}
+
+fn spares(case: &Case) -> Vec<Case> {
+    let mut list = Vec::new();
+    for i in 0..4 {
+        list.extend(with(case, case.spare[i], |c, n| c.spare[i] = n));
+    }
+    list.extend(with(case, case.seed as usize, |c, n| c.seed = n as u64));
+    list
+}
