@@ -1,4 +1,5 @@
 pub mod Loading
+pub mod Packing
 pub mod Merging
 pub mod Calls
 pub mod Laws
