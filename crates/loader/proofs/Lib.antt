@@ -1,4 +1,5 @@
 pub mod Loading
+pub mod Parts
 pub mod Packing
 pub mod Merging
 pub mod Calls
