@@ -20,7 +20,8 @@ use Rattle.loader.specs.Load.{weightOf, batchOf, loaded, loadNumberOn, l
 use Rattle.loader.specs.Merge.{merged, mergeNumberOn, mergeNumber, mergeLater}
 use Rattle.table.proofs.Cells.{Holds, list-holds}
 use Rattle.table.proofs.Soundness.{Sound, sound-same, total-same}
-use Rattle.loader.proofs.Loading.{held-sound, held-total, all-bytes-of}
+use Rattle.loader.proofs.Loading.{held-sound, held-total}
+use Rattle.loader.proofs.Parts.{all-bytes-of}
 use Rattle.loader.proofs.Merging.{merge-sound, merge-total}
 
 -- ---- load

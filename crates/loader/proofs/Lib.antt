@@ -1,4 +1,6 @@
 pub mod Loading
+pub mod Parts
+pub mod Packing
 pub mod Merging
 pub mod Calls
 pub mod Laws

@@ -1,31 +1,28 @@
 -- Laws of loading: what a list of colours adds, that it keeps a table sound, and that its order does not matter.
 -- Assumes nothing.
-use mathlib.Core.Path.{_≡_, refl, sym, ap, subst, _∙_}
-use mathlib.Core.Bool.{Bool, true, false, cond}
+use mathlib.Core.Path.{_≡_, refl, sym, ap, _∙_}
+use mathlib.Core.Bool.{cond}
 use mathlib.Core.List.{List, [], _∷_, _++_, List·Permᴰ, Perm}
 use mathlib.Core.HLevel.{hedberg}
 use mathlib.Core.List as L
-use Prim.Native.Nat.{ℕ, zero, suc, _+_, _-_, _*_, _/_, _≤_, _<_}
-use native.Mathlib.Nat.{zero-add, add-zero, add-suc, suc-add, add-assoc, add-left-comm, zero-mul, add-mul, mul-le-mul, mul-le-mul-left, mul-comm, mul-one, lt-of-not-le, lt-trans}
+use Prim.Native.Nat.{ℕ, zero, suc, _+_, _-_, _*_, _≤_, _<_}
+use native.Mathlib.Nat.{zero-add, add-assoc, add-left-comm, mul-le-mul, mul-le-mul-left, mul-comm, lt-of-not-le}
 use native.Mathlib.Decide.{ℕ-discrete, decLe}
 use native.Mathlib.Omega.{arith}
 use borrow.Author.Tests.{eq-eqb, ne-eqb, le-leb, lt-leb}
-use lib.Dec.{eqb, leb, lit<}
-use lib.ListN.{length, getD}
+use lib.Dec.{eqb, leb}
 use Rattle.grid.specs.declared.Grid.{Grid}
-use Rattle.grid.specs.declared.Rgb.{Rgb}
 use Rattle.grid.specs.Range.{listFrom, sumFrom}
 use Rattle.grid.specs.Size.{spanOf, binOf}
-use Rattle.grid.specs.Grid.{Accepted, binsOf, shiftAt, componentAt, colourPlace, colourAt, choose}
-use Rattle.grid.proofs.Range.{sum-append, sum-grow, sum-plus, sum-zero, sum-hit, sum-equal, hit}
+use Rattle.grid.specs.Grid.{Accepted, binsOf, shiftAt, componentAt, colourPlace, choose}
+use Rattle.grid.proofs.Range.{sum-plus, sum-zero, sum-hit, hit}
 use Rattle.grid.proofs.Size.{span-low, span-high}
 use Rattle.grid.proofs.Places.{Bytes, colour-bin, colour-place-lt}
-use Rattle.table.specs.Cell.{View, wide, numberOf, cellOf}
-use Rattle.table.specs.Sound.{limit, spanAt, total}
-use Rattle.loader.specs.Load.{Weighted, share, adds, sumOver, weightOf, loaded, weightedAt, batchOf}
-use Rattle.loader.specs.Step.{partOf, withPart, withColour, Adds, Fits}
-use Rattle.table.proofs.Soundness.{Keeps, keeps-zero, keeps-plus, Sound, sound-by, sound-keeps, sound-same, number-below, total-is, total-same, span-is}
-use Rattle.table.proofs.Cells.{Holds, holds-same, holds-itself, list-holds, add-holds, number-cell}
+use Rattle.table.specs.Cell.{View, wide}
+use Rattle.table.specs.Sound.{spanAt, total}
+use Rattle.loader.specs.Load.{Weighted, share, adds, sumOver, weightOf, loaded}
+use Rattle.table.proofs.Soundness.{Keeps, keeps-zero, keeps-plus, Sound, sound-by, sound-keeps, sound-same, total-is, total-same, span-is}
+use Rattle.table.proofs.Cells.{Holds}
 
 -- a test of a rest is one of a sum
 pub rest-test : (m had n : ℕ) → had ≤ m → leb n (m - had) ≡ leb (had + n) m
@@ -139,220 +136,13 @@ module _ {g : Grid} (a : Accepted g) where
       sound-by most g (loaded g cs v) (λ p h. keeps-plus (sound-keeps s p h) (over-keeps cs b p))
       (omega (arith, load-total cs b v))
 
--- ---- colours that are one
-share-none : (x : Rgb) (j : ℕ) → share (record { colour = x; weight = 0 }) j ≡ 0
-unfolding share
-share-none x zero = refl
-share-none x (suc zero) = zero-mul (x .c1)
-share-none x (suc (suc zero)) = zero-mul (x .c2)
-share-none x (suc (suc (suc zero))) = zero-mul (x .c3)
-share-none x (suc (suc (suc (suc j)))) = zero-mul (x .c1 * x .c1 + x .c2 * x .c2 + x .c3 * x .c3)
-
-share-plus : (x : Rgb) (a b j : ℕ) → share (record { colour = x; weight = a + b }) j ≡ share (record { colour = x; weight = a }) j + share (record { colour = x; weight = b }) j
-unfolding share
-share-plus x a b zero = refl
-share-plus x a b (suc zero) = add-mul a b (x .c1)
-share-plus x a b (suc (suc zero)) = add-mul a b (x .c2)
-share-plus x a b (suc (suc (suc zero))) = add-mul a b (x .c3)
-share-plus x a b (suc (suc (suc (suc j)))) = add-mul a b (x .c1 * x .c1 + x .c2 * x .c2 + x .c3 * x .c3)
-
-module _ (g : Grid) (x : Rgb) (c : ℕ → Weighted) (p j : ℕ) where
-  -- x with a weight, where it counts
-  here : ℕ → ℕ
-  here w = adds g (record { colour = x; weight = w }) p j
-
-  here-none : 0 ≡ here 0
-  unfolding here adds
-  here-none = go (eqb (colourPlace g x) p)
-    where
-      go : (b : Bool) → 0 ≡ cond b (share (record { colour = x; weight = 0 }) j) 0
-      go true = sym (share-none x j)
-      go false = refl
-
-  here-plus : (a b : ℕ) → here a + here b ≡ here (a + b)
-  unfolding here adds
-  here-plus a b = go (eqb (colourPlace g x) p)
-    where
-      go : (t : Bool) → cond t (share (record { colour = x; weight = a }) j) 0 + cond t (share (record { colour = x; weight = b }) j) 0 ≡ cond t (share (record { colour = x; weight = a + b }) j) 0
-      go true = sym (share-plus x a b j)
-      go false = refl
-
-  -- any number of colours that are one add what it adds with the sum of their weights
-  run-adds : (i n : ℕ) → ((k : ℕ) → k < n → c (i + k) .colour ≡ x) → sumOver (listFrom i n c) (λ d. adds g d p j) ≡ adds g (record { colour = x; weight = weightOf (listFrom i n c) }) p j
-  unfolding here listFrom sumOver weightOf
-  run-adds i zero same = here-none
-  run-adds i (suc n) same =
-      (λ m. adds g (record { colour = first m; weight = c i .weight }) p j + run-adds (suc i) n rest m)
-      ∙ here-plus (c i .weight) (weightOf (listFrom (suc i) n c))
-    where
-      at : {k l : ℕ} → k ≡ l → c k .colour ≡ c l .colour
-      at e = ap (λ (k : ℕ). c k .colour) e
-
-      first : c i .colour ≡ x
-      first = at (sym (add-zero i)) ∙ same 0 (omega arith)
-
-      rest : (k : ℕ) → k < n → c (suc i + k) .colour ≡ x
-      rest k h = at (suc-add i k ∙ sym (add-suc i k)) ∙ same (suc k) (omega arith)
-
 -- ---- a table that holds what was there with colours loaded
-over-part : (i n m : ℕ) (c : ℕ → Weighted) (f : Weighted → ℕ) → sumOver (listFrom i n c) f + sumOver (listFrom (i + n) m c) f ≡ sumOver (listFrom i (n + m) c) f
-over-part i n m c f =
-    (λ k. over-list i n c f k + over-list (i + n) m c f k)
-    ∙ sym (sum-append i n m (λ d. f (c d)))
-    ∙ sym (over-list i (n + m) c f)
-
-run-bytes : (i n : ℕ) (c : ℕ → Weighted) → ((k : ℕ) → Bytes (c k .colour)) → AllBytes (listFrom i n c)
-unfolding listFrom
-run-bytes i zero c b = tt
-run-bytes i (suc n) c b = (b i, run-bytes (suc i) n c b)
-
 module _ {g : Grid} (a : Accepted g) (cs : List Weighted) (b : AllBytes cs) (v : View) {s : List ℕ} (holds : Holds (binsOf g) s (loaded g cs v)) where
   pub held-sound : {most : ℕ} → Sound most g v → total g v + weightOf cs ≤ most → Sound most g (wide s)
   held-sound {most} k u = record { holds = sound-same g (wide s) (loaded g cs v) (holds .at) most ∙ load-sound a cs b k u .holds }
 
   pub held-total : total g (wide s) ≡ total g v + weightOf cs
   held-total = total-same g (wide s) (loaded g cs v) (holds .at) ∙ load-total a cs b v
-
--- more colours loaded into such a table
-held-more : (g : Grid) (v : View) (s e : List ℕ) (i n m : ℕ) (c : ℕ → Weighted) → Holds (binsOf g) s (loaded g (listFrom i n c) v) → Holds (binsOf g) e (loaded g (listFrom (i + n) m c) (wide s)) → Holds (binsOf g) e (loaded g (listFrom i (n + m) c) v)
-unfolding loaded
-held-more g v s e i n m c first then =
-    holds-same then
-    (λ p j h k.
-    ap (λ (x : ℕ). x + sumOver (listFrom (i + n) m c) (λ d. adds g d p j)) (first .at p j h k)
-    ∙ add-assoc (v p j) (sumOver (listFrom i n c) (λ d. adds g d p j)) (sumOver (listFrom (i + n) m c) (λ d. adds g d p j))
-    ∙ ap (λ (x : ℕ). v p j + x) (over-part i n m c (λ d. adds g d p j)))
-
--- ---- the colours of a batch
--- their weight, by whether weights are given
-pub part-weight : (colours : List ℕ) (given : Bool) (weights : List ℕ) (i n : ℕ) → weightOf (partOf colours given weights i n) ≡ cond given (sumFrom i n (λ k. getD weights k 0)) n
-unfolding weightOf partOf weightedAt
-part-weight colours true weights i n = over-list i n (weightedAt colours true weights) (λ d. d .weight)
-part-weight colours false weights i n =
-    over-list i n (weightedAt colours false weights) (λ d. d .weight) ∙ sum-equal i n 1 ∙ mul-one n
-
-pub batch-weight : (colours : List ℕ) (given : Bool) (weights : List ℕ) → (given ≡ true → length weights ≡ length colours / 3)
-    → weightOf (batchOf colours given weights) ≡ cond given (sumFrom 0 (length weights) (λ i. getD weights i 0)) (length colours / 3)
-unfolding batchOf partOf
-batch-weight colours true weights e =
-    part-weight colours true weights 0 (length colours / 3) ∙ ap (λ (n : ℕ). sumFrom 0 n (λ i. getD weights i 0)) (sym (e refl))
-batch-weight colours false weights e = part-weight colours false weights 0 (length colours / 3)
-
-module _ (colours : List ℕ) (given : Bool) (weights : List ℕ) (bytes : (k : ℕ) → getD colours k 0 < 256) where
-  colour-bytes : (k : ℕ) → Bytes (colourAt colours k)
-  unfolding colourAt
-  colour-bytes k = record { one = bytes (3 * k); two = bytes (3 * k + 1); three = bytes (3 * k + 2) }
-
-  part-bytes : (i n : ℕ) → AllBytes (partOf colours given weights i n)
-  unfolding partOf weightedAt
-  part-bytes i n = run-bytes i n (weightedAt colours given weights) colour-bytes
-
--- before the first of them
-pub held-none : (g : Grid) (t colours : List ℕ) (given : Bool) (weights : List ℕ) (i : ℕ) → length t ≡ 5 * binsOf g → Holds (binsOf g) t (loaded g (partOf colours given weights i 0) (wide t))
-unfolding loaded partOf listFrom sumOver
-held-none g t colours given weights i e = holds-same (holds-itself (binsOf g) t e) (λ p j h k. sym (add-zero (wide t p j)))
-
--- after the first m of n colours that fit, those that follow fit
-module _ {g : Grid} {t colours : List ℕ} {given : Bool} {weights : List ℕ} {i n : ℕ} (fits : Fits g t colours given weights i n) (bytes : (k : ℕ) → getD colours k 0 < 256)
-    {s : List ℕ} (m : ℕ) (holds : Holds (binsOf g) s (loaded g (partOf colours given weights i m) (wide t))) where
-  part-within : (l : ℕ) → m + l ≤ n → weightOf (partOf colours given weights i m) + weightOf (partOf colours given weights (i + m) l) ≤ weightOf (partOf colours given weights i n)
-  unfolding partOf weightOf
-  part-within l h =
-      let c = weightedAt colours given weights in
-      omega (
-        arith,
-        over-part i m l c (λ d. d .weight),
-        over-list i (m + l) c (λ d. d .weight),
-        over-list i n c (λ d. d .weight),
-        sum-grow i (m + l) n (λ k. c k .weight) h,
-      )
-
-  pub fits-later : (at l : ℕ) → at ≡ i + m → m + l ≤ n → Fits g s colours given weights at l
-  fits-later at l e h =
-      let a = fits .table .accepted in
-      let first = partOf colours given weights i m in
-      let b = part-bytes colours given weights bytes i m in
-      let within = part-within l h in
-      record {
-        table = record { accepted = a; lent = holds .lent };
-        is-sound = held-sound a first b (wide t) holds (record { holds = fits .is-sound }) (omega (arith, fits .under)) .holds;
-        there = omega (arith, fits .there);
-        one-each = fits .one-each;
-        under = rw e (omega (arith, held-total a first b (wide t) holds, fits .under));
-      }
-
-  pub held-later : (at l : ℕ) → at ≡ i + m → {e : List ℕ} → Holds (binsOf g) e (loaded g (partOf colours given weights at l) (wide s)) → Holds (binsOf g) e (loaded g (partOf colours given weights i (m + l)) (wide t))
-  unfolding partOf
-  held-later at l q {e} more = held-more g (wide t) s e i m l (weightedAt colours given weights) holds (rw q at more)
-
--- a table with colours added holds what was there with them loaded
-pub part-held : (g : Grid) (t colours : List ℕ) (given : Bool) (weights : List ℕ) (i n : ℕ) {e : List ℕ} → e ≡ withPart g t colours given weights i n → Holds (binsOf g) e (loaded g (partOf colours given weights i n) (wide t))
-unfolding withPart
-part-held g t colours given weights i n r = rw r (list-holds (binsOf g) (loaded g (partOf colours given weights i n) (wide t)))
-
--- colours that fit and are one can be added at once
-module _ {g : Grid} {t colours : List ℕ} {given : Bool} {weights : List ℕ} {i n : ℕ} (fits : Fits g t colours given weights i n) (bytes : (k : ℕ) → getD colours k 0 < 256)
-    (same : (k : ℕ) → k < n → colourAt colours (i + k) ≡ colourAt colours i)
-    {x : Rgb} (p : x ≡ colourAt colours i) {w : ℕ} (q : w ≡ cond given (sumFrom i n (λ k. getD weights k 0)) n) where
-  abbrev it : Weighted
-  it = record { colour = x; weight = w }
-
-  abbrev these : List Weighted
-  these = partOf colours given weights i n
-
-  abbrev place : ℕ
-  place = colourPlace g x
-
-  inside : place < binsOf g
-  inside = colour-place-lt (fits .table .accepted) (subst Bytes (sym p) (colour-bytes colours given weights bytes i))
-
-  adds-it : (r j : ℕ) → adds g it r j ≡ sumOver these (λ d. adds g d r j)
-  unfolding partOf weightedAt
-  adds-it r j =
-      (λ m. adds g (record { colour = p m; weight = (q ∙ sym (part-weight colours given weights i n)) m }) r j)
-      ∙ sym (run-adds g (colourAt colours i) (weightedAt colours given weights) r j i n same)
-
-  pub light : w ≤ limit
-  light = omega (arith, q, part-weight colours given weights i n, fits .under)
-
-  pub has-room : Adds t (colourPlace g x) (cellOf (share (record { colour = x; weight = w })))
-  unfolding adds loaded
-  has-room =
-      let a = fits .table .accepted in
-      let after = load-sound a these (part-bytes colours given weights bytes i n) (record { holds = fits .is-sound }) (fits .under) in
-      record {
-        cell = omega (arith, fits .table .lent, inside);
-        fits = λ j k.
-            let sums : wide t place j + numberOf (cellOf (share it)) j ≡ loaded g these (wide t) place j =
-            ap (λ (y : ℕ). wide t place j + y)
-            (number-cell (share it) j k
-            ∙ ap (λ (b : Bool). cond b (share it j) 0) (sym (eq-eqb place place refl))
-            ∙ adds-it place j) in
-            rw sums (lt-trans (number-below a after place inside (omega arith) j k) (lit< tt));
-      }
-
-  pub at-once : {e : List ℕ} → e ≡ withColour g t (record { colour = x; weight = w }) → Holds (binsOf g) e (loaded g (partOf colours given weights i n) (wide t))
-  unfolding withColour adds loaded
-  at-once r =
-      rw r
-      (holds-same (add-holds (holds-itself (binsOf g) t (fits .table .lent)) place (cellOf (share it)) inside)
-      (λ q j l k. ap (λ (y : ℕ). wide t q j + y) (ap (λ (y : ℕ). cond (eqb place q) y 0) (number-cell (share it) j k) ∙ adds-it q j)))
-
--- a colour by itself is one, with its own weight
-pub alone : (colours : List ℕ) (i k : ℕ) → k < 1 → colourAt colours (i + k) ≡ colourAt colours i
-alone colours i k h = ap (colourAt colours) (there i k h)
-  where
-    there : (i k : ℕ) → k < 1 → i + k ≡ i
-    there i k h = omega arith
-
-pub own-weight : (given : Bool) (weights : List ℕ) (i : ℕ) → cond given (getD weights i 0) 1 ≡ cond given (sumFrom i 1 (λ k. getD weights k 0)) 1
-unfolding sumFrom
-own-weight given weights i = ap (λ (w : ℕ). cond given w 1) (sym (add-zero (getD weights i 0)))
-
--- the colours of any batch of bytes
-pub all-bytes-of : (colours : List ℕ) (given : Bool) (weights : List ℕ) → ((k : ℕ) → getD colours k 0 < 256) → AllBytes (batchOf colours given weights)
-unfolding batchOf partOf
-all-bytes-of colours given weights h = part-bytes colours given weights h 0 (length colours / 3)
 
 -- number j of place p, after a load and by what one colour adds to it
 pub loaded-at : (g : Grid) (cs : List Weighted) (v : View) (p j : ℕ) → loaded g cs v p j ≡ v p j + sumOver cs (λ c. adds g c p j)

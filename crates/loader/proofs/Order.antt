@@ -21,7 +21,8 @@ use Rattle.loader.specs.Merge.{merged, mergeNumberOn, mergeNumber, merge
 use Rattle.loader.specs.Plan.{Batch, Plan, empty, load, merge, Ran, Refused, Table, ranOf, thenLoad, thenMerge, run, leaves, malformed, firstOf, firstMalformed, BytesIn}
 use Rattle.table.proofs.Cells.{Holds, list-holds, holds-list, holds-same, wide-at}
 use Rattle.table.proofs.Soundness.{zeros, zeros-sound, zeros-total, sound-same, total-same}
-use Rattle.loader.proofs.Loading.{AllBytes, over-append, over-perm, load-total, load-sound, all-bytes-of}
+use Rattle.loader.proofs.Loading.{AllBytes, over-append, over-perm, load-total, load-sound}
+use Rattle.loader.proofs.Parts.{all-bytes-of}
 
 -- the table of a list of colours
 unfoldable pub tableOf : Grid → List Weighted → List ℕ

@@ -3,14 +3,30 @@ use mathlib.Core.Path.{_≡_}
 use mathlib.Core.Bool.{Bool, true}
 use mathlib.Core.List.{List}
 use Prim.Native.Nat.{ℕ, _+_, _*_, _/_, _^_, _≤_, _<_}
-use lib.ListN.{length}
+use lib.ListN.{length, getD}
 use Rattle.grid.specs.declared.Grid.{Grid}
+use Rattle.grid.specs.declared.Rgb.{Rgb}
 use Rattle.grid.specs.Range.{listFrom}
-use Rattle.grid.specs.Grid.{binsOf, colourPlace}
+use Rattle.grid.specs.Grid.{Accepted, binsOf, colourPlace, stepsOf}
 use Rattle.table.specs.declared.Cell.{Cell}
 use Rattle.table.specs.Cell.{wide, wideList, numberOf, cellOf, plusCell, putAt, TableOf}
 use Rattle.table.specs.Sound.{limit, sound, total}
 use Rattle.loader.specs.Load.{Weighted, share, weightOf, loaded, weightedAt}
+
+-- the squared components of a colour, together
+unfoldable pub squaresOf : Rgb → ℕ
+squaresOf x = x .c1 * x .c1 + x .c2 * x .c2 + x .c3 * x .c3
+
+-- for each value of a component its step, and 2^32 times its square
+unfoldable pub withSquares : List ℕ → List ℕ
+withSquares steps = listFrom 0 256 (λ c. getD steps c 0 + 4294967296 * (c * c))
+
+-- three tables are the steps of an accepted grid, with the squares
+pub record Packed (g : Grid) (t1 t2 t3 : List ℕ) : Type 0 where
+  pub accepted : Accepted g
+  pub one : t1 ≡ withSquares (stepsOf g 0)
+  pub two : t2 ≡ withSquares (stepsOf g 1)
+  pub three : t3 ≡ withSquares (stepsOf g 2)
 
 -- n colours of a batch, from colour i on
 unfoldable pub partOf : List ℕ → Bool → List ℕ → ℕ → ℕ → List Weighted

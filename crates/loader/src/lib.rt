@@ -6,7 +6,6 @@ use grid::bins;
 use grid::colour;
 use grid::flat;
 use grid::grid_of;
-use grid::place_by_steps;
 use grid::steps;
 use table::Cell;
 use table::LIMIT;
@@ -21,12 +20,12 @@ ghost use Prim.Native.Nat.{ℕ, _+_, _-_, _*_, _^_, _≤_, _<_};
 ghost use lib.Dec.{leb};
 ghost use lib.ListN.{length, getD};
 ghost use Rattle.grid.specs.Range.{sumFrom};
-ghost use Rattle.grid.specs.Grid.{binsOf, colourPlace, StepsOf};
+ghost use Rattle.grid.specs.Grid.{Accepted, binsOf, colourPlace, stepsOf};
 ghost use Rattle.table.specs.Cell.{wide, wideList, cellOf, plusCell, putAt, TableOf};
 ghost use Rattle.table.specs.Sound.{limit};
 ghost use Rattle.loader.specs.Load.{share, loadNumber, loadLater};
 ghost use Rattle.loader.specs.Merge.{merged, mergeNumber, mergeLater};
-ghost use Rattle.loader.specs.Step.{withColour, withPart, Adds, Fits};
+ghost use Rattle.loader.specs.Step.{squaresOf, withSquares, withColour, withPart, Packed, Adds, Fits};
 
 // Adds a cell to the one at a place.
 fn add_at(table: &mut [u64], place: usize, c: Cell)
@@ -73,19 +72,16 @@ fn weights_fit(weights: &[u32], had: u64) -> bool
 }
 
 // What a colour of weight w adds to its bin.
-fn share_of(x: Rgb, w: u64) -> Cell
-    requires { ⌜ w ≤ limit ⌝ }
+fn share_of(x: Rgb, w: u64, squares: u64) -> Cell
+    requires { ⌜ (w ≤ limit) × (squares ≡ squaresOf x) ⌝ }
     ensures { λ r. ⌜ r ≡ cellOf (share (record { colour = x; weight = w })) ⌝ }
 {
-    let y1 = x.c1 as u64;
-    let y2 = x.c2 as u64;
-    let y3 = x.c3 as u64;
     Cell {
         weight: w,
-        sum1: w * y1,
-        sum2: w * y2,
-        sum3: w * y3,
-        squares: w * (y1 * y1 + y2 * y2 + y3 * y3),
+        sum1: w * (x.c1 as u64),
+        sum2: w * (x.c2 as u64),
+        sum3: w * (x.c3 as u64),
+        squares: w * squares,
     }
 }
 
@@ -111,31 +107,58 @@ fn block_weight(weighted: bool, weights: &[u32], i: usize) -> u64
     64
 }
 
-// Adds one colour to a table by the steps of its grid, which the contract alone names.
+// For each value of a component its step in a dimension, and 2^32 times its square: one look gives both.
+fn packed(g: Grid, dimension: usize) -> [u64; 256]
+    requires { ⌜ Accepted g ⌝ }
+    ensures { λ r. ⌜ r ≡ withSquares (stepsOf g dimension) ⌝ }
+{
+    let s = steps(g, dimension);
+    let mut out = [0u64; 256];
+    let mut c = 0;
+    while c < 256 {
+        out[c] = s[c] as u64 + 4294967296 * (c * c) as u64;
+        c = c + 1;
+    }
+    out
+}
+
+// The place of a colour, and 2^32 times its squares. The contract alone names the grid.
+fn look_up(g: Grid, t1: &[u64; 256], t2: &[u64; 256], t3: &[u64; 256], x: Rgb) -> u64
+    requires { ⌜ Packed g (now t1) (now t2) (now t3) ⌝ }
+    ensures { λ r. ⌜ r ≡ colourPlace g x + 4294967296 * squaresOf x ⌝ }
+{
+    let i1 = x.c1 as usize;
+    let i2 = x.c2 as usize;
+    let i3 = x.c3 as usize;
+    t1[i1] + t2[i2] + t3[i3]
+}
+
+// Adds one colour to a table.
 fn add_colour(
     g: Grid,
     table: &mut [u64],
-    t1: &[usize; 256],
-    t2: &[usize; 256],
-    t3: &[usize; 256],
+    t1: &[u64; 256],
+    t2: &[u64; 256],
+    t3: &[u64; 256],
     x: Rgb,
     w: u64,
 )
-    requires { ⌜ StepsOf g (now t1) (now t2) (now t3) × (w ≤ limit) ⌝ }
+    requires { ⌜ Packed g (now t1) (now t2) (now t3) × (w ≤ limit) ⌝ }
     requires { ⌜ Adds (now table) (colourPlace g x) (cellOf (share (record { colour = x; weight = w }))) ⌝ }
     ensures { λ r. ⌜ now (table .exit) ≡ withColour g (now (table .entry)) (record { colour = x; weight = w }) ⌝ }
 {
-    let p = place_by_steps(t1, t2, t3, x);
-    add_at(table, p, share_of(x, w));
+    let v = look_up(g, t1, t2, t3, x);
+    let p = (v % 4294967296) as usize;
+    add_at(table, p, share_of(x, w, v / 4294967296));
 }
 
 // Adds n colours of a batch, from colour at on, one after the other.
 fn add_each(
     g: Grid,
     table: &mut [u64],
-    t1: &[usize; 256],
-    t2: &[usize; 256],
-    t3: &[usize; 256],
+    t1: &[u64; 256],
+    t2: &[u64; 256],
+    t3: &[u64; 256],
     colours: &[u8],
     weighted: bool,
     weights: &[u32],
@@ -143,7 +166,7 @@ fn add_each(
     n: usize,
 )
     requires { ⌜ Fits g (now table) (now colours) weighted (now weights) at n ⌝ }
-    requires { ⌜ StepsOf g (now t1) (now t2) (now t3) ⌝ }
+    requires { ⌜ Packed g (now t1) (now t2) (now t3) ⌝ }
     ensures { λ r. ⌜ now (table .exit) ≡ withPart g (now (table .entry)) (now (colours .entry)) weighted (now (weights .entry)) at n ⌝ }
 {
     let mut k = 0;
@@ -161,16 +184,16 @@ fn add_each(
 fn add_block(
     g: Grid,
     table: &mut [u64],
-    t1: &[usize; 256],
-    t2: &[usize; 256],
-    t3: &[usize; 256],
+    t1: &[u64; 256],
+    t2: &[u64; 256],
+    t3: &[u64; 256],
     colours: &[u8],
     weighted: bool,
     weights: &[u32],
     at: usize,
 )
     requires { ⌜ Fits g (now table) (now colours) weighted (now weights) at 64 × (3 * at + 194 < length (now colours)) ⌝ }
-    requires { ⌜ StepsOf g (now t1) (now t2) (now t3) ⌝ }
+    requires { ⌜ Packed g (now t1) (now t2) (now t3) ⌝ }
     ensures { λ r. ⌜ now (table .exit) ≡ withPart g (now (table .entry)) (now (colours .entry)) weighted (now (weights .entry)) at 64 ⌝ }
 {
     if flat(colours, at) {
@@ -190,16 +213,16 @@ fn add_block(
 fn add_blocks(
     g: Grid,
     table: &mut [u64],
-    t1: &[usize; 256],
-    t2: &[usize; 256],
-    t3: &[usize; 256],
+    t1: &[u64; 256],
+    t2: &[u64; 256],
+    t3: &[u64; 256],
     colours: &[u8],
     weighted: bool,
     weights: &[u32],
     n: usize,
 )
     requires { ⌜ Fits g (now table) (now colours) weighted (now weights) 0 n ⌝ }
-    requires { ⌜ StepsOf g (now t1) (now t2) (now t3) ⌝ }
+    requires { ⌜ Packed g (now t1) (now t2) (now t3) ⌝ }
     ensures { λ r. ⌜ now (table .exit) ≡ withPart g (now (table .entry)) (now (colours .entry)) weighted (now (weights .entry)) 0 n ⌝ }
 {
     let mut i = 0;
@@ -222,9 +245,9 @@ fn add_colours(
     requires { ⌜ Fits g (now table) (now colours) weighted (now weights) 0 n ⌝ }
     ensures { λ r. ⌜ now (table .exit) ≡ withPart g (now (table .entry)) (now (colours .entry)) weighted (now (weights .entry)) 0 n ⌝ }
 {
-    let t1 = steps(g, 0);
-    let t2 = steps(g, 1);
-    let t3 = steps(g, 2);
+    let t1 = packed(g, 0);
+    let t2 = packed(g, 1);
+    let t3 = packed(g, 2);
     add_blocks(g, table, &t1, &t2, &t3, colours, weighted, weights, n);
 }
 

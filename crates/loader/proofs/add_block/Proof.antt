@@ -11,7 +11,7 @@ use Rattle.grid.specs.Grid.{colourAt}
 use Rattle.grid.proofs.OneColour.{one-colour}
 use Rattle.table.proofs.Cells.{holds-list}
 use Rattle.loader.specs.Step.{withPart, Fits}
-use Rattle.loader.proofs.Loading.{light, has-room, at-once}
+use Rattle.loader.proofs.Parts.{light, has-room, at-once}
 use Rattle.loader.proofs.add_block.Statement.{statement}
 use Rattle.loader.proofs.add_block.Tie as tie
 

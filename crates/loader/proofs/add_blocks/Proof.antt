@@ -10,7 +10,7 @@ use Rattle.table.specs.Cell.{wide}
 use Rattle.table.proofs.Cells.{Holds, holds-list}
 use Rattle.loader.specs.Load.{loaded}
 use Rattle.loader.specs.Step.{partOf, withPart}
-use Rattle.loader.proofs.Loading.{held-none, fits-later, held-later, part-held}
+use Rattle.loader.proofs.Parts.{held-none, fits-later, held-later, part-held}
 use Rattle.loader.proofs.add_blocks.Statement.{statement}
 use Rattle.loader.proofs.add_blocks.Tie as tie
 

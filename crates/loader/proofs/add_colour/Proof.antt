@@ -1,40 +1,41 @@
--- `loader::add_colour` meets its contract: the steps lead to the place of the colour.
+-- `loader::add_colour` meets its contract: what was looked up is the place of the colour and its squares.
 -- Assumes nothing.
-use mathlib.Core.Path.{_≡_, refl, _∙_}
-use Prim.Native.Nat.{ℕ, _+_}
+use mathlib.Core.Path.{refl}
 use native.Mathlib.Omega.{arith}
 use borrow.Author.Needs.{needs}
-use denote.Ref.{now}
-use lib.ListN.{getD}
-use Rattle.grid.specs.Grid.{colourPlace}
-use Rattle.grid.proofs.Places.{steps-place}
+use Rattle.grid.proofs.Places.{Bytes}
 use Rattle.loader.specs.Step.{withColour}
+use Rattle.loader.proofs.Packing.{place-below, squares-above}
 use Rattle.loader.proofs.add_colour.Statement.{statement}
 use Rattle.loader.proofs.add_colour.Tie as tie
 
--- the three steps lead to the place of the colour
-place-is : (s : tie.Start) {p : ℕ} → p ≡ getD (now (s .args .t1)) (s .args .x .c1) 0 + getD (now (s .args .t2)) (s .args .x .c2) 0 + getD (now (s .args .t3)) (s .args .x .c3) 0 → p ≡ colourPlace (s .args .g) (s .args .x)
-place-is s e =
+is-bytes : (s : tie.Start) → Bytes (s .args .x)
+is-bytes s =
     let known = s .good .1 .1 .1 .1 .1 .0 in
-    e ∙ steps-place (s .pre .0 .0) {x = s .args .x} (record { one = omega (arith, known); two = omega (arith, known); three = omega (arith, known) })
+    record { one = omega (arith, known); two = omega (arith, known); three = omega (arith, known) }
 
-place-by-steps-requires : tie.Need-place-by-steps-requires
-place-by-steps-requires c κs = search needs
+look-up-requires : tie.Need-look-up-requires
+look-up-requires c κs = search needs
 
 share-of-requires : tie.Need-share-of-requires
-share-of-requires c κs = search needs
+share-of-requires c κs =
+    let s = c .before .before .before in
+    (omega (arith, s .pre .0 .1), squares-above (s .pre .0 .0) (is-bytes s) (c .before .look-up .ensures))
 
 add-at-requires : tie.Need-add-at-requires
-add-at-requires c κs = rw (place-is (c .before .before .before .before) (c .before .before .place-by-steps .ensures), c .share-of .ensures) (c .before .before .before .before .pre .1)
+add-at-requires c κs =
+    let s = c .before .before .before .before in
+    rw (place-below (s .pre .0 .0) (is-bytes s) (c .before .before .look-up .ensures), c .share-of .ensures) (s .pre .1)
 
 same-length : tie.Need-same-length
 same-length c = search needs
 
 returns : tie.Need-returns
 unfolding withColour
-returns c = rw (c .before .before .add-at .ensures, place-is (c .before .before .before .before .before .before .before) (c .before .before .before .before .before .place-by-steps .ensures), c .before .before .before .share-of .ensures) refl
+returns c =
+    let s = c .before .before .before .before .before .before .before in
+    rw (c .before .before .add-at .ensures, place-below (s .pre .0 .0) (is-bytes s) (c .before .before .before .before .before .look-up .ensures), c .before .before .before .share-of .ensures) refl
 
 pub add-colour-spec : {M : Type 1} → statement M
 add-colour-spec =
-    tie.close
-    (tie.spec place-by-steps-requires share-of-requires add-at-requires same-length returns)
+    tie.close (tie.spec look-up-requires share-of-requires add-at-requires same-length returns)

@@ -22,7 +22,7 @@ use Rattle.table.specs.Sound.{limit, total, sound}
 use Rattle.table.specs.Cell.{wide, TableOf}
 use Rattle.loader.proofs.Calls.{pairs, load-no-grid, load-not-threes, load-not-paired, load-length, load-unsound, load-over, load-done}
 use Rattle.table.proofs.Scans.{weighed-unsound, weighed-total}
-use Rattle.loader.proofs.Loading.{batch-weight}
+use Rattle.loader.proofs.Parts.{batch-weight}
 use Rattle.table.proofs.Soundness.{sound-total}
 use Rattle.loader.proofs.load.Statement.{statement}
 use Rattle.loader.proofs.load.Tie as tie
