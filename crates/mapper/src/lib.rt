@@ -331,13 +331,13 @@ fn put_packed(bytes: &mut [u8], i: usize, v: u32)
 }
 
 // Writes a packed colour as some pixels, one after the other.
-fn fill_some(bytes: &mut [u8], from: usize, count: usize, v: u32)
-    requires { ⌜ 3 * (from + count) ≤ length (now bytes) ⌝ }
-    ensures { λ r. ⌜ now (bytes .exit) ≡ writeBand (3 * from) (3 * count) (fillAt v) (now (bytes .entry)) ⌝ }
+fn fill_some(bytes: &mut [u8], first: usize, pixels: usize, v: u32)
+    requires { ⌜ 3 * (first + pixels) ≤ length (now bytes) ⌝ }
+    ensures { λ r. ⌜ now (bytes .exit) ≡ writeBand (3 * first) (3 * pixels) (fillAt v) (now (bytes .entry)) ⌝ }
 {
     let mut k = 0;
-    while k < count {
-        put_packed(bytes, from + k, v);
+    while k < pixels {
+        put_packed(bytes, first + k, v);
         k = k + 1;
     }
 }
@@ -351,16 +351,16 @@ fn paint_some(
     map: &[u8],
     colours: &[u32; 256],
     part: &mut [u8],
-    from: usize,
-    count: usize,
+    first: usize,
+    pixels: usize,
 )
     requires { ⌜ StepsOf g (now t1) (now t2) (now t3) × MapOf g (now map) × (length (now colours) ≡ 256) ⌝ }
-    requires { ⌜ 3 * (from + count) ≤ length (now part) ⌝ }
-    ensures { λ r. ⌜ now (part .exit) ≡ writeBand (3 * from) (3 * count) (packedAt g (now (map .entry)) (now (colours .entry)) (now (part .entry))) (now (part .entry)) ⌝ }
+    requires { ⌜ 3 * (first + pixels) ≤ length (now part) ⌝ }
+    ensures { λ r. ⌜ now (part .exit) ≡ writeBand (3 * first) (3 * pixels) (packedAt g (now (map .entry)) (now (colours .entry)) (now (part .entry))) (now (part .entry)) ⌝ }
 {
     let mut k = 0;
-    while k < count {
-        let i = from + k;
+    while k < pixels {
+        let i = first + k;
         let v = painted(g, t1, t2, t3, map, colours, part, i);
         put_packed(part, i, v);
         k = k + 1;
@@ -376,17 +376,17 @@ fn paint_block(
     map: &[u8],
     colours: &[u32; 256],
     part: &mut [u8],
-    from: usize,
+    first: usize,
 )
     requires { ⌜ StepsOf g (now t1) (now t2) (now t3) × MapOf g (now map) × (length (now colours) ≡ 256) ⌝ }
-    requires { ⌜ 3 * from + 194 < length (now part) ⌝ }
-    ensures { λ r. ⌜ now (part .exit) ≡ writeBand (3 * from) (3 * 64) (packedAt g (now (map .entry)) (now (colours .entry)) (now (part .entry))) (now (part .entry)) ⌝ }
+    requires { ⌜ 3 * (first + 65) ≤ length (now part) ⌝ }
+    ensures { λ r. ⌜ now (part .exit) ≡ writeBand (3 * first) (3 * 64) (packedAt g (now (map .entry)) (now (colours .entry)) (now (part .entry))) (now (part .entry)) ⌝ }
 {
-    if flat(part, from) {
-        let v = painted(g, t1, t2, t3, map, colours, part, from);
-        fill_some(part, from, 64, v);
+    if flat(part, first) {
+        let v = painted(g, t1, t2, t3, map, colours, part, first);
+        fill_some(part, first, 64, v);
     } else {
-        paint_some(g, t1, t2, t3, map, colours, part, from, 64);
+        paint_some(g, t1, t2, t3, map, colours, part, first, 64);
     }
 }
 
