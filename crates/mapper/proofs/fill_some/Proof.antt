@@ -14,10 +14,10 @@ use Rattle.mapper.proofs.fill_some.Statement.{statement}
 use Rattle.mapper.proofs.fill_some.Tie as tie
 
 abbrev Inv-loop : tie.InvT-loop
-Inv-loop bytes₀ from count v k₀ bytes k = (k ≤ count) × (bytes ≡ writeBand (3 * from) (3 * k) (fillAt v) bytes₀)
+Inv-loop bytes₀ first pixels v k₀ bytes k = (k ≤ pixels) × (bytes ≡ writeBand (3 * first) (3 * k) (fillAt v) bytes₀)
 
 abbrev μ-loop : tie.MeasureT-loop
-μ-loop bytes₀ from count v k₀ bytes k = count - k
+μ-loop bytes₀ first pixels v k₀ bytes k = pixels - k
 
 -- the bytes are as many as they were
 same : (k : tie.At-loop Inv-loop μ-loop) → length (k .loop .bytes) ≡ length (now (k .before .before .args .bytes))
@@ -44,8 +44,8 @@ loop-again c =
     let l = c .before .before .before .before .before .loop in (
       omega arith,
       c .before .before .put-packed .ensures
-          ∙ ap (λ (b : List ℕ). writeBand (3 * (a .from + l .k)) 3 (fillAt (a .v)) b) (l .inv .1)
-          ∙ run-join (fillAt (a .v)) (now (a .bytes)) (a .from) (l .k) 1,
+          ∙ ap (λ (b : List ℕ). writeBand (3 * (a .first + l .k)) 3 (fillAt (a .v)) b) (l .inv .1)
+          ∙ run-join (fillAt (a .v)) (now (a .bytes)) (a .first) (l .k) 1,
     )
 
 same-length : tie.Need-same-length Inv-loop μ-loop
@@ -55,8 +55,8 @@ returns : tie.Need-returns Inv-loop μ-loop
 returns c =
     let a = c .before .before .before .args in
     let l = c .before .loop in
-    let all : l .k ≡ a .count = omega arith in
-    l .inv .1 ∙ ap (λ (n : ℕ). writeBand (3 * a .from) (3 * n) (fillAt (a .v)) (now (a .bytes))) all
+    let all : l .k ≡ a .pixels = omega arith in
+    l .inv .1 ∙ ap (λ (n : ℕ). writeBand (3 * a .first) (3 * n) (fillAt (a .v)) (now (a .bytes))) all
 
 pub fill-some-spec : {M : Type 1} → statement M
 fill-some-spec =

@@ -28,7 +28,7 @@ abbrev start : tie.After-known-told → tie.Start
 start k = k .before .before .before .before .before .before .before
 
 on-grid : (k : tie.After-known-told) → gridOf (start k .args .b1) (start k .args .b2) (start k .args .b3) ≡ Of (grid k)
-on-grid k = cc
+on-grid k = sym (k .before .before .before .grid-of .ensures) ∙ k .before .g .given .1
 
 accepted : (k : tie.After-known-told) → Accepted (grid k)
 accepted k = chose _ _ _ (grid k) (on-grid k) .accepted
@@ -80,7 +80,7 @@ enum-told : tie.Need-enum-told
 enum-told c = search needs
 
 returns : tie.Need-returns
-returns c = paint-no-grid _ _ _ _ _ _ _ _ (cc)
+returns c = paint-no-grid _ _ _ _ _ _ _ _ (sym (c .before .before .grid-of .ensures) ∙ c .enum-told .given .1)
 
 returns-2 : tie.Need-returns-2
 unfolding paintNumberOn refuse whenDone

@@ -29,7 +29,7 @@ returns c =
     let a = test .before .before .before .before .before .args in
     let part = now (a .part) in
     c .before .before .fill-some .ensures
-    ∙ run-alike (a .g) (now (a .map)) (now (a .colours)) part (a .from) 64 _ (c .before .before .before .before .painted .ensures) (run-colour part (a .from) (sym (test .before .flat .ensures) ∙ test .if1 .taken))
+    ∙ run-alike (a .g) (now (a .map)) (now (a .colours)) part (a .first) 64 _ (c .before .before .before .before .painted .ensures) (run-colour part (a .first) (sym (test .before .flat .ensures) ∙ test .if1 .taken))
 
 same-length-2 : tie.Need-same-length-2
 same-length-2 c = search needs

@@ -11,10 +11,10 @@ use Rattle.mapper.proofs.paint_some.Statement.{statement}
 use Rattle.mapper.proofs.paint_some.Tie as tie
 
 abbrev Inv-loop : tie.InvT-loop
-Inv-loop g t1 t2 t3 map colours part₀ from count k₀ part k = (k ≤ count) × (part ≡ paintedFor g map colours part₀ from k)
+Inv-loop g t1 t2 map colours part₀ first pixels k₀ part k = (k ≤ pixels) × (part ≡ paintedFor g map colours part₀ first k)
 
 abbrev μ-loop : tie.MeasureT-loop
-μ-loop g t1 t2 t3 map colours part₀ from count k₀ part k = count - k
+μ-loop g t1 t2 map colours part₀ first pixels k₀ part k = pixels - k
 
 -- the part is as long as it was
 same : (k : tie.At-loop Inv-loop μ-loop) → length (k .loop .part) ≡ length (now (k .before .before .before .args .part))
@@ -44,7 +44,7 @@ loop-again c =
     let l = c .before .before .before .before .before .before .before .loop in (
       omega arith,
       c .before .before .put-packed .ensures
-          ∙ painted-next (a .g) (now (a .map)) (now (a .colours)) (now (a .part)) (a .from) (l .k) _ (l .part) (l .inv .1) (c .before .before .before .before .painted .ensures),
+          ∙ painted-next (a .g) (now (a .map)) (now (a .colours)) (now (a .part)) (a .first) (l .k) _ (l .part) (l .inv .1) (c .before .before .before .before .painted .ensures),
     )
 
 same-length : tie.Need-same-length Inv-loop μ-loop
@@ -54,8 +54,8 @@ returns : tie.Need-returns Inv-loop μ-loop
 returns c =
     let a = c .before .before .before .before .args in
     let l = c .before .loop in
-    let all : l .k ≡ a .count = omega arith in
-    l .inv .1 ∙ ap (paintedFor (a .g) (now (a .map)) (now (a .colours)) (now (a .part)) (a .from)) all
+    let all : l .k ≡ a .pixels = omega arith in
+    l .inv .1 ∙ ap (paintedFor (a .g) (now (a .map)) (now (a .colours)) (now (a .part)) (a .first)) all
 
 pub paint-some-spec : {M : Type 1} → statement M
 paint-some-spec =
