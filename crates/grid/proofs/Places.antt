@@ -11,7 +11,7 @@ use Rattle.grid.specs.declared.Grid.{Grid}
 use Rattle.grid.specs.declared.Rgb.{Rgb}
 use Rattle.grid.specs.declared.Shift.{Shift}
 use Rattle.grid.specs.Size.{shiftOf, binOf}
-use Rattle.grid.specs.Grid.{choose, sizeAt, shiftAt, componentAt, gridWith, gridOf, Accepted, binsOf, placeOf, binAt, Inside, colourPlace, strideAt, stepsOf, StepsOf, Steps}
+use Rattle.grid.specs.Grid.{choose, sizeAt, shiftAt, componentAt, gridWith, gridOf, Accepted, binsOf, placeOf, binAt, Inside, colourPlace, strideAt, stepsOf, StepsOf}
 use Rattle.grid.specs.declared.Shift.the-variants as shift
 use Rattle.grid.specs.declared.Chosen.the-variants as chosen
 use Rattle.grid.proofs.Range.{list-at}
@@ -184,11 +184,6 @@ steps-add g x b =
 
 pub steps-place : {g : Grid} {t1 t2 t3 : List ℕ} → StepsOf g t1 t2 t3 → {x : Rgb} → Bytes x → getD t1 (x .c1) 0 + getD t2 (x .c2) 0 + getD t3 (x .c3) 0 ≡ colourPlace g x
 steps-place {g} s {x} b = rw (s .one, s .two, s .three) (steps-add g x b)
-
-pub steps-high : {t1 t2 t3 : List ℕ} → Steps t1 t2 t3 → {x : Rgb} → Bytes x → getD t1 (x .c1) 0 + getD t2 (x .c2) 0 + getD t3 (x .c3) 0 < 2097152
-steps-high s b =
-    rw (steps-place (s .steps) b)
-    (lt-of-lt-of-le (colour-place-lt (s .steps .accepted) b) (bins-high (s .steps .accepted)))
 
 -- the places where rows and planes start
 pub row-start : (g : Grid) (r gr : ℕ) → placeOf g r gr 0 ≡ placeOf g r 0 0 + gr * g .b3

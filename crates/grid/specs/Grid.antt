@@ -100,7 +100,3 @@ pub record StepsOf (g : Grid) (t1 t2 t3 : List ℕ) : Type 0 where
   pub one : t1 ≡ stepsOf g 0
   pub two : t2 ≡ stepsOf g 1
   pub three : t3 ≡ stepsOf g 2
-
-pub record Steps (t1 t2 t3 : List ℕ) : Type 0 where
-  pub grid : Grid
-  pub steps : StepsOf grid t1 t2 t3

@@ -4,7 +4,7 @@ ghost use Prim.Native.Nat.{_+_, _*_, _≤_, _<_};
 ghost use lib.ListN.{length, getD};
 ghost use Rattle.grid.specs.Range.{listFrom, sumFrom};
 ghost use Rattle.grid.specs.Size.{shiftOf, binOf, spanOf, InSize};
-ghost use Rattle.grid.specs.Grid.{gridOf, binsOf, placeOf, colourAt, stepsOf, Accepted, Inside, Steps};
+ghost use Rattle.grid.specs.Grid.{gridOf, binsOf, placeOf, colourAt, stepsOf, Accepted, Inside};
 ghost use Rattle.grid.specs.OneColour.{sameColour, oneColour, differs};
 
 // What a size is answered with.
@@ -154,17 +154,6 @@ pub fn steps(g: Grid, dimension: usize) -> [usize; 256]
         1 => strides(g.s2, g.b3),
         _ => strides(g.s3, 1),
     }
-}
-
-// The place of a colour's bin, by the steps of its three components.
-pub fn place_by_steps(t1: &[usize; 256], t2: &[usize; 256], t3: &[usize; 256], x: Rgb) -> usize
-    requires { ⌜ Steps (now t1) (now t2) (now t3) ⌝ }
-    ensures { λ r. ⌜ r ≡ getD (now (t1 .entry)) (x .c1) 0 + getD (now (t2 .entry)) (x .c2) 0 + getD (now (t3 .entry)) (x .c3) 0 ⌝ }
-{
-    let i1 = x.c1 as usize;
-    let i2 = x.c2 as usize;
-    let i3 = x.c3 as usize;
-    t1[i1] + t2[i2] + t3[i3]
 }
 
 // Whether two colours are one.

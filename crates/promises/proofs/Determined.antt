@@ -17,7 +17,6 @@ use Rattle.grid.proofs.bins as bins
 use Rattle.grid.proofs.place as place
 use Rattle.grid.proofs.colour as colour
 use Rattle.grid.proofs.steps as steps
-use Rattle.grid.proofs.place_by_steps as place-by-steps
 use Rattle.grid.proofs.flat as flat
 use Rattle.table.proofs.cell_at as cell-at
 use Rattle.table.proofs.put_at as put-at
@@ -84,9 +83,6 @@ colour-determined κs a r s x y p q = determined p q
 
 pub steps-determined : Determines 0 steps.Kinds.ps steps.Kinds.r steps.Reads.Learnt (λ κs r e. r)
 steps-determined κs a r s x y p q = determined p q
-
-pub place-by-steps-determined : Determines 3 place-by-steps.Kinds.ps place-by-steps.Kinds.r place-by-steps.Reads.Learnt (λ κs r e. r)
-place-by-steps-determined κs a r s x y p q = determined p q
 
 pub flat-determined : Determines 1 flat.Kinds.ps flat.Kinds.r flat.Reads.Learnt (λ κs r e. r)
 flat-determined κs a r s x y p q = determined p q
