@@ -145,9 +145,9 @@ fn text(file: &str) -> String {
 }
 
 /// Runs a class, prints what was seen, and shrinks the first case that differs.
-fn run_and_tell(port: &dyn Port, class: &Class, cases: usize, seed: u64) -> Ran {
+fn run_and_tell(port: &dyn Port, class: &Class, cases: usize, seed: u64, most: usize) -> Ran {
     let start = Instant::now();
-    let ran = run(port, class, cases, seed, usize::MAX);
+    let ran = run(port, class, cases, seed, most);
     report(class.name, &ran, start.elapsed().as_secs_f64());
     if let Some(found) = &ran.first {
         println!("A CASE DIFFERS\n{}\n  {}", found.case, found.differs);
@@ -163,6 +163,11 @@ pub fn main(port: &dyn Port) -> ExitCode {
         return ended(replay(port, &text(&file)));
     }
     let (cases, seed) = (number("--cases", 1000) as usize, number("--seed", 1));
+    // With --first, the first case that differs ends the run.
+    let most = match env::args().any(|w| w == "--first") {
+        true => 1,
+        false => usize::MAX,
+    };
     let named = after("--class");
     let chosen = |class: &&Class| match &named {
         Some(name) => name == class.name,
@@ -173,10 +178,13 @@ pub fn main(port: &dyn Port) -> ExitCode {
     let mut grids: HashSet<Grid> = HashSet::new();
     let (mut all, mut differ) = (0, 0);
     for class in CLASSES.iter().filter(chosen) {
-        let ran = run_and_tell(port, class, cases, seed);
+        let ran = run_and_tell(port, class, cases, seed, most);
         grids.extend(&ran.grids);
         all += ran.tally.cases;
         differ += ran.differ;
+        if differ >= most {
+            break;
+        }
     }
     let grids = grids.len();
     println!("seed {seed}: {all} cases at {grids} grids, {differ} differ");
