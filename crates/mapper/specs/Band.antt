@@ -7,7 +7,7 @@ use lib.Dec.{leb, ltb}
 use lib.ListN.{length, getD}
 use Rattle.grid.specs.declared.Grid.{Grid}
 use Rattle.grid.specs.Range.{listFrom, allFrom}
-use Rattle.grid.specs.Grid.{binsOf, colourAt, colourPlace, Accepted}
+use Rattle.grid.specs.Grid.{binsOf, colourAt, colourPlace, stepsOf, Accepted}
 
 -- "A pixel's index is the map's byte at its bin."
 unfoldable pub indexAt : Grid → List ℕ → List ℕ → ℕ → ℕ
@@ -29,3 +29,9 @@ allBelow colours map = allFrom 0 (length map) (λ p. ltb (getD map p 0) colours)
 pub record MapOf (g : Grid) (map : List ℕ) : Type 0 where
   pub accepted : Accepted g
   pub lent : length map ≡ binsOf g
+
+-- what indices are looked up by: a map of an accepted grid, and the steps of its first two dimensions
+pub record Lookup (g : Grid) (t1 t2 map : List ℕ) : Type 0 where
+  pub of-grid : MapOf g map
+  pub one : t1 ≡ stepsOf g 0
+  pub two : t2 ≡ stepsOf g 1

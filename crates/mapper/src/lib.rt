@@ -13,8 +13,8 @@ ghost use Prim.Native.Nat.{ℕ, _+_, _*_, _/_, _%_, _≤_, _<_};
 ghost use lib.Dec.{ltb};
 ghost use lib.ListN.{length, getD};
 ghost use Rattle.grid.specs.Range.{listFrom};
-ghost use Rattle.grid.specs.Grid.{colourPlace, componentAt, StepsOf};
-ghost use Rattle.mapper.specs.Band.{indexAt, writeBand, allBelow, MapOf};
+ghost use Rattle.grid.specs.Grid.{colourPlace, componentAt};
+ghost use Rattle.mapper.specs.Band.{indexAt, writeBand, allBelow, MapOf, Lookup};
 ghost use Rattle.mapper.specs.Map.{mapNumber, mapLater};
 ghost use Rattle.mapper.specs.Paint.{paintAt, Fits, paintNumber, paintLater};
 ghost use Rattle.mapper.specs.Packed.{unpacked, fillAt, packedAt, Packed};
@@ -35,15 +35,8 @@ fn largest(map: &[u8]) -> u8
 }
 
 // The index of a colour.
-fn index_of(
-    g: Grid,
-    t1: &[usize; 256],
-    t2: &[usize; 256],
-    t3: &[usize; 256],
-    map: &[u8],
-    x: Rgb,
-) -> u8
-    requires { ⌜ StepsOf g (now t1) (now t2) (now t3) × MapOf g (now map) ⌝ }
+fn index_of(g: Grid, t1: &[usize; 256], t2: &[usize; 256], map: &[u8], x: Rgb) -> u8
+    requires { ⌜ Lookup g (now t1) (now t2) (now map) ⌝ }
     ensures { λ r. ⌜ r ≡ getD (now (map .entry)) (colourPlace g x) 0 ⌝ }
 {
     let i1 = x.c1 as usize;
@@ -53,20 +46,12 @@ fn index_of(
 }
 
 // The index of pixel i of a part of a frame.
-fn index_at(
-    g: Grid,
-    t1: &[usize; 256],
-    t2: &[usize; 256],
-    t3: &[usize; 256],
-    map: &[u8],
-    part: &[u8],
-    i: usize,
-) -> u8
-    requires { ⌜ StepsOf g (now t1) (now t2) (now t3) × MapOf g (now map) ⌝ }
+fn index_at(g: Grid, t1: &[usize; 256], t2: &[usize; 256], map: &[u8], part: &[u8], i: usize) -> u8
+    requires { ⌜ Lookup g (now t1) (now t2) (now map) ⌝ }
     requires { ⌜ 3 * i + 2 < length (now part) ⌝ }
     ensures { λ r. ⌜ r ≡ indexAt g (now (map .entry)) (now (part .entry)) i ⌝ }
 {
-    index_of(g, t1, t2, t3, map, colour(part, i))
+    index_of(g, t1, t2, map, colour(part, i))
 }
 
 // Whether a band reaches past a frame of n pixels. Its first pixel and its length can add up past the largest number.
@@ -86,21 +71,20 @@ fn map_some(
     g: Grid,
     t1: &[usize; 256],
     t2: &[usize; 256],
-    t3: &[usize; 256],
     map: &[u8],
     part: &[u8],
     indices: &mut [u8],
     from: usize,
     count: usize,
 )
-    requires { ⌜ StepsOf g (now t1) (now t2) (now t3) × MapOf g (now map) ⌝ }
+    requires { ⌜ Lookup g (now t1) (now t2) (now map) ⌝ }
     requires { ⌜ (3 * (from + count) ≤ length (now part)) × (from + count ≤ length (now indices)) ⌝ }
     ensures { λ r. ⌜ now (indices .exit) ≡ writeBand from count (indexAt g (now (map .entry)) (now (part .entry))) (now (indices .entry)) ⌝ }
 {
     let mut k = 0;
     while k < count {
         let i = from + k;
-        indices[i] = index_at(g, t1, t2, t3, map, part, i);
+        indices[i] = index_at(g, t1, t2, map, part, i);
         k = k + 1;
     }
 }
@@ -110,20 +94,19 @@ fn map_four(
     g: Grid,
     t1: &[usize; 256],
     t2: &[usize; 256],
-    t3: &[usize; 256],
     map: &[u8],
     part: &[u8],
     indices: &mut [u8],
     i: usize,
 )
-    requires { ⌜ StepsOf g (now t1) (now t2) (now t3) × MapOf g (now map) ⌝ }
+    requires { ⌜ Lookup g (now t1) (now t2) (now map) ⌝ }
     requires { ⌜ (3 * (i + 4) ≤ length (now part)) × (i + 4 ≤ length (now indices)) ⌝ }
     ensures { λ r. ⌜ now (indices .exit) ≡ writeBand i 4 (indexAt g (now (map .entry)) (now (part .entry))) (now (indices .entry)) ⌝ }
 {
-    let a = index_at(g, t1, t2, t3, map, part, i);
-    let b = index_at(g, t1, t2, t3, map, part, i + 1);
-    let c = index_at(g, t1, t2, t3, map, part, i + 2);
-    let d = index_at(g, t1, t2, t3, map, part, i + 3);
+    let a = index_at(g, t1, t2, map, part, i);
+    let b = index_at(g, t1, t2, map, part, i + 1);
+    let c = index_at(g, t1, t2, map, part, i + 2);
+    let d = index_at(g, t1, t2, map, part, i + 3);
     indices[i] = a;
     indices[i + 1] = b;
     indices[i + 2] = c;
@@ -135,19 +118,18 @@ fn map_by_fours(
     g: Grid,
     t1: &[usize; 256],
     t2: &[usize; 256],
-    t3: &[usize; 256],
     map: &[u8],
     part: &[u8],
     indices: &mut [u8],
     from: usize,
 )
-    requires { ⌜ StepsOf g (now t1) (now t2) (now t3) × MapOf g (now map) ⌝ }
+    requires { ⌜ Lookup g (now t1) (now t2) (now map) ⌝ }
     requires { ⌜ (3 * (from + 64) ≤ length (now part)) × (from + 64 ≤ length (now indices)) ⌝ }
     ensures { λ r. ⌜ now (indices .exit) ≡ writeBand from 64 (indexAt g (now (map .entry)) (now (part .entry))) (now (indices .entry)) ⌝ }
 {
     let mut k = 0;
     while k < 16 {
-        map_four(g, t1, t2, t3, map, part, indices, from + 4 * k);
+        map_four(g, t1, t2, map, part, indices, from + 4 * k);
         k = k + 1;
     }
 }
@@ -169,45 +151,43 @@ fn map_block(
     g: Grid,
     t1: &[usize; 256],
     t2: &[usize; 256],
-    t3: &[usize; 256],
     map: &[u8],
     part: &[u8],
     indices: &mut [u8],
     from: usize,
 )
-    requires { ⌜ StepsOf g (now t1) (now t2) (now t3) × MapOf g (now map) ⌝ }
+    requires { ⌜ Lookup g (now t1) (now t2) (now map) ⌝ }
     requires { ⌜ (3 * (from + 65) ≤ length (now part)) × (from + 64 ≤ length (now indices)) ⌝ }
     ensures { λ r. ⌜ now (indices .exit) ≡ writeBand from 64 (indexAt g (now (map .entry)) (now (part .entry))) (now (indices .entry)) ⌝ }
 {
     if flat(part, from) {
-        let index = index_at(g, t1, t2, t3, map, part, from);
+        let index = index_at(g, t1, t2, map, part, from);
         fill_block(indices, from, index);
     } else {
-        map_by_fours(g, t1, t2, t3, map, part, indices, from);
+        map_by_fours(g, t1, t2, map, part, indices, from);
     }
 }
 
-// The index of each pixel of a part of a frame, into the same part of the index buffer: 64 at a time, and then the rest.
+// The index of each pixel of a part of a frame, into the same part of the index buffer: 64 at a time, then the rest.
 fn map_part(
     g: Grid,
     t1: &[usize; 256],
     t2: &[usize; 256],
-    t3: &[usize; 256],
     map: &[u8],
     part: &[u8],
     indices: &mut [u8],
 )
-    requires { ⌜ StepsOf g (now t1) (now t2) (now t3) × MapOf g (now map) ⌝ }
+    requires { ⌜ Lookup g (now t1) (now t2) (now map) ⌝ }
     requires { ⌜ length (now part) ≡ 3 * length (now indices) ⌝ }
     ensures { λ r. ⌜ now (indices .exit) ≡ listFrom 0 (length (now (indices .entry))) (indexAt g (now (map .entry)) (now (part .entry))) ⌝ }
 {
     let n = indices.len();
     let mut i = 0;
     while 64 < n - i {
-        map_block(g, t1, t2, t3, map, part, indices, i);
+        map_block(g, t1, t2, map, part, indices, i);
         i = i + 64;
     }
-    map_some(g, t1, t2, t3, map, part, indices, i, n - i);
+    map_some(g, t1, t2, map, part, indices, i, n - i);
 }
 
 // Hands the band of the frame and of the index buffer on as parts.
@@ -217,19 +197,10 @@ fn map_band(g: Grid, map: &[u8], frame: &[u8], indices: &mut [u8], first: usize,
 {
     let t1 = steps(g, 0);
     let t2 = steps(g, 1);
-    let t3 = steps(g, 2);
     let end = first + pixels;
     let from = 3 * first;
     let to = 3 * end;
-    map_part(
-        g,
-        &t1,
-        &t2,
-        &t3,
-        map,
-        &frame[from..to],
-        &mut indices[first..end],
-    );
+    map_part(g, &t1, &t2, map, &frame[from..to], &mut indices[first..end]);
 }
 
 // The index of each pixel of a band of a frame, into the same band of the index buffer.
@@ -305,17 +276,16 @@ fn painted(
     g: Grid,
     t1: &[usize; 256],
     t2: &[usize; 256],
-    t3: &[usize; 256],
     map: &[u8],
     colours: &[u32; 256],
     part: &[u8],
     i: usize,
 ) -> u32
-    requires { ⌜ StepsOf g (now t1) (now t2) (now t3) × MapOf g (now map) × (length (now colours) ≡ 256) ⌝ }
+    requires { ⌜ Lookup g (now t1) (now t2) (now map) × (length (now colours) ≡ 256) ⌝ }
     requires { ⌜ 3 * i + 2 < length (now part) ⌝ }
     ensures { λ r. ⌜ r ≡ getD (now (colours .entry)) (indexAt g (now (map .entry)) (now (part .entry)) i) 0 ⌝ }
 {
-    let index = index_at(g, t1, t2, t3, map, part, i) as usize;
+    let index = index_at(g, t1, t2, map, part, i) as usize;
     colours[index]
 }
 
@@ -362,21 +332,20 @@ fn paint_some(
     g: Grid,
     t1: &[usize; 256],
     t2: &[usize; 256],
-    t3: &[usize; 256],
     map: &[u8],
     colours: &[u32; 256],
     part: &mut [u8],
     first: usize,
     pixels: usize,
 )
-    requires { ⌜ StepsOf g (now t1) (now t2) (now t3) × MapOf g (now map) × (length (now colours) ≡ 256) ⌝ }
+    requires { ⌜ Lookup g (now t1) (now t2) (now map) × (length (now colours) ≡ 256) ⌝ }
     requires { ⌜ 3 * (first + pixels) ≤ length (now part) ⌝ }
     ensures { λ r. ⌜ now (part .exit) ≡ writeBand (3 * first) (3 * pixels) (packedAt g (now (map .entry)) (now (colours .entry)) (now (part .entry))) (now (part .entry)) ⌝ }
 {
     let mut k = 0;
     while k < pixels {
         let i = first + k;
-        let v = painted(g, t1, t2, t3, map, colours, part, i);
+        let v = painted(g, t1, t2, map, colours, part, i);
         put_packed(part, i, v);
         k = k + 1;
     }
@@ -387,45 +356,43 @@ fn paint_block(
     g: Grid,
     t1: &[usize; 256],
     t2: &[usize; 256],
-    t3: &[usize; 256],
     map: &[u8],
     colours: &[u32; 256],
     part: &mut [u8],
     first: usize,
 )
-    requires { ⌜ StepsOf g (now t1) (now t2) (now t3) × MapOf g (now map) × (length (now colours) ≡ 256) ⌝ }
+    requires { ⌜ Lookup g (now t1) (now t2) (now map) × (length (now colours) ≡ 256) ⌝ }
     requires { ⌜ 3 * (first + 65) ≤ length (now part) ⌝ }
     ensures { λ r. ⌜ now (part .exit) ≡ writeBand (3 * first) (3 * 64) (packedAt g (now (map .entry)) (now (colours .entry)) (now (part .entry))) (now (part .entry)) ⌝ }
 {
     if flat(part, first) {
-        let v = painted(g, t1, t2, t3, map, colours, part, first);
+        let v = painted(g, t1, t2, map, colours, part, first);
         fill_pixels(part, first, v);
     } else {
-        paint_some(g, t1, t2, t3, map, colours, part, first, 64);
+        paint_some(g, t1, t2, map, colours, part, first, 64);
     }
 }
 
-// The packed colour at each pixel's index, in the place of a part of a frame: 64 at a time, and then the rest.
+// The packed colour at each pixel's index, in the place of a part of a frame: 64 at a time, then the rest.
 fn paint_part(
     g: Grid,
     t1: &[usize; 256],
     t2: &[usize; 256],
-    t3: &[usize; 256],
     map: &[u8],
     colours: &[u32; 256],
     part: &mut [u8],
 )
-    requires { ⌜ StepsOf g (now t1) (now t2) (now t3) × MapOf g (now map) × (length (now colours) ≡ 256) ⌝ }
+    requires { ⌜ Lookup g (now t1) (now t2) (now map) × (length (now colours) ≡ 256) ⌝ }
     requires { ⌜ length (now part) % 3 ≡ 0 ⌝ }
     ensures { λ r. ⌜ now (part .exit) ≡ listFrom 0 (length (now (part .entry))) (packedAt g (now (map .entry)) (now (colours .entry)) (now (part .entry))) ⌝ }
 {
     let n = part.len() / 3;
     let mut i = 0;
     while 64 < n - i {
-        paint_block(g, t1, t2, t3, map, colours, part, i);
+        paint_block(g, t1, t2, map, colours, part, i);
         i = i + 64;
     }
-    paint_some(g, t1, t2, t3, map, colours, part, i, n - i);
+    paint_some(g, t1, t2, map, colours, part, i, n - i);
 }
 
 // Hands the band of the frame on as a part.
@@ -435,11 +402,10 @@ fn paint_band(g: Grid, map: &[u8], palette: &[u8], frame: &mut [u8], first: usiz
 {
     let t1 = steps(g, 0);
     let t2 = steps(g, 1);
-    let t3 = steps(g, 2);
     let from = 3 * first;
     let to = from + 3 * pixels;
     let colours = packed_palette(palette);
-    paint_part(g, &t1, &t2, &t3, map, &colours, &mut frame[from..to]);
+    paint_part(g, &t1, &t2, map, &colours, &mut frame[from..to]);
 }
 
 // The palette's colour at each pixel's index, in the place of a band of a frame.

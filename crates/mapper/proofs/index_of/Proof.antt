@@ -1,13 +1,12 @@
 -- `mapper::index_of` meets its contract: two steps and a bin lead to the place of the colour, which lies in the map.
 -- Assumes nothing.
-use mathlib.Core.Path.{_≡_, refl, ap, _∙_}
-use mathlib.Core.List.{List}
+use mathlib.Core.Path.{_≡_, refl, ap}
 use Prim.Native.Nat.{ℕ, _+_, _<_, _^_}
 use native.Mathlib.Omega.{arith}
 use borrow.Author.Needs.{needs}
 use denote.Ref.{now}
 use lib.ListN.{getD, length}
-use Rattle.grid.specs.Grid.{colourPlace}
+use Rattle.grid.specs.Grid.{colourPlace, stepsOf, StepsOf}
 use Rattle.grid.specs.Size.{binOf}
 use Rattle.grid.proofs.Places.{Bytes, three, last-step, steps-place, colour-place-lt}
 use Rattle.mapper.proofs.index_of.Statement.{statement}
@@ -19,13 +18,12 @@ bytes s = let known = s .good in record { one = omega (arith, known); two = omeg
 -- what the code adds up
 place-is : (s : tie.Start) {n : ℕ} → n ≡ binOf (s .args .g .s3) (s .args .x .c3) → getD (now (s .args .t1)) (s .args .x .c1) 0 + getD (now (s .args .t2)) (s .args .x .c2) 0 + n ≡ colourPlace (s .args .g) (s .args .x)
 place-is s e =
-    let x = s .args .x in
-    let last : getD (now (s .args .t3)) (x .c3) 0 ≡ binOf (s .args .g .s3) (x .c3) =
-    ap (λ (t : List ℕ). getD t (x .c3) 0) (s .pre .0 .three) ∙ last-step (s .args .g) (x .c3) (bytes s .three) in
-    omega (arith, e, last, steps-place (s .pre .0) {x = x} (bytes s))
+    let steps : StepsOf (s .args .g) (now (s .args .t1)) (now (s .args .t2)) (stepsOf (s .args .g) 2) =
+    record { accepted = s .pre .of-grid .accepted; one = s .pre .one; two = s .pre .two; three = refl } in
+    omega (arith, e, last-step (s .args .g) (s .args .x .c3) (bytes s .three), steps-place steps {x = s .args .x} (bytes s))
 
 inside : (s : tie.Start) → colourPlace (s .args .g) (s .args .x) < length (now (s .args .map))
-inside s = omega (arith, colour-place-lt (s .pre .1 .accepted) (bytes s), s .pre .1 .lent)
+inside s = omega (arith, colour-place-lt (s .pre .of-grid .accepted) (bytes s), s .pre .of-grid .lent)
 
 -- and it is small
 small : (s : tie.Start) → colourPlace (s .args .g) (s .args .x) < 2 ^ 64
@@ -53,7 +51,7 @@ add-p : tie.Need-add-p
 add-p c = let s = c .before .before .before .before .before in omega (arith, place-is s refl, small s)
 
 bin-of-requires : tie.Need-bin-of-requires
-bin-of-requires c κs = omega (arith, three (c .before .before .before .before .before .pre .1 .accepted) .few)
+bin-of-requires c κs = omega (arith, three (c .before .before .before .before .before .pre .of-grid .accepted) .few)
 
 add-p-2 : tie.Need-add-p-2
 add-p-2 c = let s = c .before .before .before .before .before .before in omega (arith, place-is s (c .bin-of .ensures), small s)

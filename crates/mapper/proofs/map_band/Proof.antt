@@ -16,9 +16,6 @@ steps-requires c κs = search needs
 steps-requires-2 : tie.Need-steps-requires-2
 steps-requires-2 c κs = search needs
 
-steps-requires-3 : tie.Need-steps-requires-3
-steps-requires-3 c κs = search needs
-
 add-end : tie.Need-add-end
 add-end c = search needs
 
@@ -48,17 +45,13 @@ part-map-part-end-2 c = search needs
 
 map-part-requires : tie.Need-map-part-requires
 map-part-requires c κs =
-    let s = c .before .before .before .before .before .before .before .before .before .before .before in
+    let s = c .before .before .before .before .before .before .before .before .before in
     let a = s .args in (
-      (
-        record {
-          accepted = s .pre .0 .accepted;
-          one = c .before .before .before .before .before .before .before .steps .ensures;
-          two = c .before .before .before .before .before .before .steps2 .ensures;
-          three = c .before .before .before .before .before .steps3 .ensures;
-        },
-        s .pre .0,
-      ),
+      record {
+        of-grid = s .pre .0;
+        one = c .before .before .before .before .before .steps .ensures;
+        two = c .before .before .before .before .steps2 .ensures;
+      },
       omega (arith, part-length (a .first) (a .pixels) (now (a .indices)) (s .pre .2), mid-len (3 * a .first) (3 * (a .first + a .pixels)) (now (a .frame)) (omega arith)),
     )
 
@@ -67,7 +60,7 @@ same-length c = search needs
 
 returns : tie.Need-returns
 returns c =
-    let s = c .before .before .before .before .before .before .before .before .before .before .before .before .before .before in
+    let s = c .before .before .before .before .before .before .before .before .before .before .before .before in
     let a = s .args in
     part-written (a .first) (a .pixels) _ _ _ (now (a .indices)) _ (s .pre .2) (part-length (a .first) (a .pixels) (now (a .indices)) (s .pre .2)) (c .before .before .map-part .ensures)
     (λ i h. part-index (a .g) (now (a .map)) (now (a .frame)) (a .first) (3 * (a .first + a .pixels) - 3 * a .first) i (omega arith))
@@ -78,7 +71,6 @@ map-band-spec =
     (tie.spec
     steps-requires
     steps-requires-2
-    steps-requires-3
     add-end
     mul-from
     mul-to

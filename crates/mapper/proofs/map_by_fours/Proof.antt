@@ -11,11 +11,11 @@ use Rattle.mapper.proofs.map_by_fours.Statement.{statement}
 use Rattle.mapper.proofs.map_by_fours.Tie as tie
 
 abbrev Inv-loop : tie.InvT-loop
-Inv-loop g t1 t2 t3 map part indices₀ from k₀ indices k =
+Inv-loop g t1 t2 map part indices₀ from k₀ indices k =
     (k ≤ 16) × (indices ≡ writeBand from (4 * k) (indexAt g map part) indices₀)
 
 abbrev μ-loop : tie.MeasureT-loop
-μ-loop g t1 t2 t3 map part indices₀ from k₀ indices k = 16 - k
+μ-loop g t1 t2 map part indices₀ from k₀ indices k = 16 - k
 
 -- the buffer is as long as it was
 same : (k : tie.At-loop Inv-loop μ-loop) → length (k .loop .indices) ≡ length (now (k .before .before .before .before .args .indices))

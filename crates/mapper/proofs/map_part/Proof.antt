@@ -11,11 +11,11 @@ use Rattle.mapper.proofs.map_part.Statement.{statement}
 use Rattle.mapper.proofs.map_part.Tie as tie
 
 abbrev Inv-loop : tie.InvT-loop
-Inv-loop g t1 t2 t3 map part indices₀ n i₀ indices i =
+Inv-loop g t1 t2 map part indices₀ n i₀ indices i =
     (i ≤ n) × (indices ≡ writeBand 0 i (indexAt g map part) indices₀)
 
 abbrev μ-loop : tie.MeasureT-loop
-μ-loop g t1 t2 t3 map part indices₀ n i₀ indices i = n - i
+μ-loop g t1 t2 map part indices₀ n i₀ indices i = n - i
 
 -- the buffer is as long as it was
 same : (k : tie.At-loop Inv-loop μ-loop) → length (k .loop .indices) ≡ length (now (k .before .before .before .before .args .indices))

@@ -18,9 +18,6 @@ steps-requires c κs = search needs
 steps-requires-2 : tie.Need-steps-requires-2
 steps-requires-2 c κs = search needs
 
-steps-requires-3 : tie.Need-steps-requires-3
-steps-requires-3 c κs = search needs
-
 mul-from : tie.Need-mul-from
 mul-from c = search needs
 
@@ -50,12 +47,12 @@ same-length c = search needs
 
 returns : tie.Need-returns
 returns c =
-    let s = c .before .before .before .before .before .before .before .before .before .before .before .before .before .before .before in
+    let s = c .before .before .before .before .before .before .before .before .before .before .before .before .before in
     let a = s .args in
     let k = (3 * a .first + 3 * a .pixels) - 3 * a .first in
     let fits : 3 * a .first + 3 * a .pixels ≤ length (now (a .frame)) = omega (arith, s .pre .1) in
     part-written (3 * a .first) (3 * a .pixels) _ _ _ (now (a .frame)) _ fits (part-length (3 * a .first) (3 * a .pixels) (now (a .frame)) fits) (c .before .before .paint-part .ensures)
-    (λ i h. packed-is (a .g) (now (a .map)) (now (a .palette)) _ (take k (drop (3 * a .first) (now (a .frame)))) (s .pre .0) (c .before .before .before .before .before .before .before .before .packed-palette .ensures) i ∙ part-paint (a .g) (now (a .map)) (now (a .palette)) (now (a .frame)) (a .first) k i (omega (arith, h)))
+    (λ i h. packed-is (a .g) (now (a .map)) (now (a .palette)) _ (take k (drop (3 * a .first) (now (a .frame)))) (s .pre .0) (c .before .before .before .before .before .before .before .packed-palette .ensures) i ∙ part-paint (a .g) (now (a .map)) (now (a .palette)) (now (a .frame)) (a .first) k i (omega (arith, h)))
 
 pub paint-band-spec : {M : Type 1} → statement M
 paint-band-spec =
@@ -63,7 +60,6 @@ paint-band-spec =
     (tie.spec
     steps-requires
     steps-requires-2
-    steps-requires-3
     mul-from
     mul-to
     add-to

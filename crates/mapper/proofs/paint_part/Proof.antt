@@ -14,10 +14,10 @@ use Rattle.mapper.proofs.paint_part.Statement.{statement}
 use Rattle.mapper.proofs.paint_part.Tie as tie
 
 abbrev Inv-loop : tie.InvT-loop
-Inv-loop g t1 t2 t3 map colours part₀ n i₀ part i = (i ≤ n) × (part ≡ paintedFor g map colours part₀ 0 i)
+Inv-loop g t1 t2 map colours part₀ n i₀ part i = (i ≤ n) × (part ≡ paintedFor g map colours part₀ 0 i)
 
 abbrev μ-loop : tie.MeasureT-loop
-μ-loop g t1 t2 t3 map colours part₀ n i₀ part i = n - i
+μ-loop g t1 t2 map colours part₀ n i₀ part i = n - i
 
 -- the part is as long as it was
 same : (k : tie.At-loop Inv-loop μ-loop) → length (k .loop .part) ≡ length (now (k .before .before .before .args .part))

@@ -11,10 +11,10 @@ use Rattle.mapper.proofs.paint_some.Statement.{statement}
 use Rattle.mapper.proofs.paint_some.Tie as tie
 
 abbrev Inv-loop : tie.InvT-loop
-Inv-loop g t1 t2 t3 map colours part₀ first pixels k₀ part k = (k ≤ pixels) × (part ≡ paintedFor g map colours part₀ first k)
+Inv-loop g t1 t2 map colours part₀ first pixels k₀ part k = (k ≤ pixels) × (part ≡ paintedFor g map colours part₀ first k)
 
 abbrev μ-loop : tie.MeasureT-loop
-μ-loop g t1 t2 t3 map colours part₀ first pixels k₀ part k = pixels - k
+μ-loop g t1 t2 map colours part₀ first pixels k₀ part k = pixels - k
 
 -- the part is as long as it was
 same : (k : tie.At-loop Inv-loop μ-loop) → length (k .loop .part) ≡ length (now (k .before .before .before .args .part))
