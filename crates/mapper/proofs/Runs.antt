@@ -14,7 +14,7 @@ use Rattle.grid.specs.Grid.{choose, componentAt, colourAt, colourPlace}
 use Rattle.mapper.specs.Band.{indexAt, writeBand}
 use Rattle.mapper.specs.Paint.{paintAt, Fits}
 use Rattle.mapper.specs.Packed.{unpacked, fillAt, packedAt, Packed}
-use Rattle.mapper.proofs.Band.{among-after, band-kept, band-one, band-next, band-join, band-same}
+use Rattle.mapper.proofs.Band.{among-after, band-length, band-within, band-kept, band-one, band-next, band-join, band-same}
 use Rattle.mapper.proofs.Below.{entry-below}
 use Rattle.mapper.proofs.Pixels.{same-index}
 
@@ -88,6 +88,22 @@ run-join f old from n m =
   where
     bytes : (n m : ℕ) → 3 * (n + m) ≡ 3 * n + 3 * m
     bytes n m = omega arith
+
+-- a run goes on as it began, 16 pixels before
+pub run-copied : (v at k : ℕ) (old half l : List ℕ) → half ≡ writeBand at 48 (fillAt v) old → l ≡ writeBand (at + 48) k (fillAt v) half → at + 48 + k < length old → set l (at + 48 + k) (getD l (at + k) 0) ≡ writeBand (at + 48) (k + 1) (fillAt v) half
+unfolding fillAt
+run-copied v at k old half l begun more h =
+    (λ t. set (more t) (at + 48 + k) (byte t))
+    ∙ band-next (fillAt v) half (at + 48) k (omega (arith, ap length begun, band-length at 48 (fillAt v) old))
+  where
+    before : (at k : ℕ) → (at + k) % 3 ≡ (at + 48 + k) % 3
+    before at k = omega arith
+
+    byte : getD l (at + k) 0 ≡ fillAt v (at + 48 + k)
+    byte =
+        ap (λ (b : List ℕ). getD b (at + k) 0) (more ∙ ap (writeBand (at + 48) k (fillAt v)) begun ∙ band-join (fillAt v) old at 48 k)
+        ∙ band-within at (48 + k) (fillAt v) old (at + k) (omega arith) (omega arith) (omega arith)
+        ∙ ap (unpacked v) (before at k)
 
 module _ (g : Grid) (map colours : List ℕ) where
   -- pixels of one colour are painted with one packed colour

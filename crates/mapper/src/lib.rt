@@ -312,6 +312,21 @@ fn fill_some(bytes: &mut [u8], first: usize, pixels: usize, v: u32)
     }
 }
 
+// Writes a packed colour as 64 pixels: as 16 of them, and then each byte as it stands 48 bytes before, which the machine
+// copies many at a time.
+fn fill_pixels(bytes: &mut [u8], first: usize, v: u32)
+    requires { ⌜ 3 * (first + 64) ≤ length (now bytes) ⌝ }
+    ensures { λ r. ⌜ now (bytes .exit) ≡ writeBand (3 * first) (3 * 64) (fillAt v) (now (bytes .entry)) ⌝ }
+{
+    fill_some(bytes, first, 16, v);
+    let at = 3 * first;
+    let mut k = 0;
+    while k < 144 {
+        bytes[at + 48 + k] = bytes[at + k];
+        k = k + 1;
+    }
+}
+
 // Paints some pixels of a part, one after the other.
 fn paint_some(
     g: Grid,
@@ -336,7 +351,7 @@ fn paint_some(
     }
 }
 
-// Paints 64 pixels of a part, at once where they are of one colour.
+// Paints 64 pixels of a part, looked up once where they are of one colour with the pixel after them.
 fn paint_block(
     g: Grid,
     t1: &[usize; 256],
@@ -352,13 +367,13 @@ fn paint_block(
 {
     if flat(part, first) {
         let v = painted(g, t1, t2, map, colours, part, first);
-        fill_some(part, first, 64, v);
+        fill_pixels(part, first, v);
     } else {
         paint_some(g, t1, t2, map, colours, part, first, 64);
     }
 }
 
-// The packed colour at each pixel's index, in the place of a part of a frame.
+// The packed colour at each pixel's index, in the place of a part of a frame: 64 at a time, then the rest.
 fn paint_part(
     g: Grid,
     t1: &[usize; 256],

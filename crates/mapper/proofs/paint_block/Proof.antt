@@ -14,8 +14,8 @@ flat-requires c κs = search needs
 painted-requires : tie.Need-painted-requires
 painted-requires c κs = search needs
 
-fill-some-requires : tie.Need-fill-some-requires
-fill-some-requires c κs = search needs
+fill-pixels-requires : tie.Need-fill-pixels-requires
+fill-pixels-requires c κs = search needs
 
 paint-some-requires : tie.Need-paint-some-requires
 paint-some-requires c κs = search needs
@@ -28,7 +28,7 @@ returns c =
     let test = c .before .before .before .before .before .before in
     let a = test .before .before .before .before .before .args in
     let part = now (a .part) in
-    c .before .before .fill-some .ensures
+    c .before .before .fill-pixels .ensures
     ∙ run-alike (a .g) (now (a .map)) (now (a .colours)) part (a .first) 64 _ (c .before .before .before .before .painted .ensures) (run-colour part (a .first) (sym (test .before .flat .ensures) ∙ test .if1 .taken))
 
 same-length-2 : tie.Need-same-length-2
@@ -43,7 +43,7 @@ paint-block-spec =
     (tie.spec
     flat-requires
     painted-requires
-    fill-some-requires
+    fill-pixels-requires
     paint-some-requires
     same-length
     returns
