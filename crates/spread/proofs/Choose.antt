@@ -3,7 +3,7 @@
 use mathlib.Core.Path.{_≡_, refl, sym, ap, ap₂, _∙_}
 use mathlib.Core.Bool.{Bool, true, false, cond}
 use Prim.Native.Nat.{ℕ, suc, _+_, _-_, _≤_}
-use native.Mathlib.Nat.{le-trans, sub-self}
+use native.Mathlib.Nat.{le-trans}
 use native.Mathlib.Omega.{arith}
 use lib.Dec.{T, le→leb, lit<}
 use lib.IntN.{pos}
@@ -69,9 +69,12 @@ module _ (g : Grid) (v : View) (x : Bounds) (d : ℕ) where
   unfolding positionAt
   position-is bin e f q = q ∙ (λ i. positionOf d bin (e i) (f i))
 
-  pub run-none : (first bin : ℕ) → bin ≡ first → Nowhere ≡ bestRun g v x d first (bin - first)
+  pub run-none : (first bin : ℕ) → bin ≤ first → Nowhere ≡ bestRun g v x d first (bin - first)
   unfolding bestRun
-  run-none first bin e = rw (e, sub-self first) refl
+  run-none first bin h = ap (bestRun g v x d first) (none first bin h)
+    where
+      none : (first bin : ℕ) → bin ≤ first → 0 ≡ bin - first
+      none first bin h = omega arith
 
   pub run-next : (first bin : ℕ) → first ≤ bin → {best p r : Position} → best ≡ bestRun g v x d first (bin - first) → p ≡ positionAt g v x d bin → r ≡ better best p → r ≡ bestRun g v x d first ((bin + 1) - first)
   unfolding bestRun

@@ -1,19 +1,25 @@
 // Spread and score of boxes in f64, and the best position to cut a box.
 use grid::Grid;
+use grid::place;
 use sums::Bounds;
 use sums::Stats;
+use sums::ZEROS;
 use sums::box_cell;
 use sums::stats_of;
 use table::Cell;
+use table::cell_at;
 use table::minus;
 ghost use mathlib.Core.Path.{_≡_};
-ghost use Prim.Native.Nat.{_≤_, _<_};
-ghost use Rattle.grid.specs.Grid.{choose};
+ghost use mathlib.Core.Bool.{true};
+ghost use Prim.Native.Nat.{_-_, _≤_, _<_};
+ghost use Rattle.grid.specs.Grid.{sizeAt, strideAt, Accepted};
 ghost use Rattle.table.specs.Cell.{wide};
+ghost use Rattle.table.specs.Sound.{limit, sound};
 ghost use Rattle.sums.specs.Box.{boxCell, minAt, maxAt, lowSide, highSide, Within};
 ghost use Rattle.sums.specs.Moments.{Worked};
 ghost use Rattle.spread.specs.Spread.{quotOf, oneBin, spreadOf, scoreOf, Plain, Ordered};
 ghost use Rattle.spread.specs.Cut.{positionOf, positionAt, better as betterOf, bestIn, bestCut};
+ghost use Rattle.spread.specs.Walk.{outerOf, innerOf, startOf, walkOf};
 
 // ---- Spread and score
 
@@ -156,42 +162,152 @@ fn end_bin(x: Bounds, dimension: u8) -> u8
     }
 }
 
-// The five sums of a box's bins before a bin of a dimension, from the edge of the grid on (`volume_at`).
-fn sums_before(table: &[u64], work: &[u64], g: Grid, x: Bounds, dimension: u8, bin: u8) -> Cell
-    requires { ⌜ Worked g (now table) (now work) × Within g x × (bin ≤ maxAt x dimension) ⌝ }
-    ensures { λ c. ⌜ c ≡ boxCell g (wide (now (table .entry))) (lowSide (highSide x dimension 0) dimension bin) ⌝ }
+// The two other dimensions, in order.
+fn outer_of(dimension: u8) -> u8
+    ensures { λ r. ⌜ r ≡ outerOf dimension ⌝ }
 {
-    box_cell(
-        table,
-        work,
-        g,
-        low_side(high_side(x, dimension, 0), dimension, bin),
-    )
+    match dimension {
+        0 => 1,
+        _ => 0,
+    }
 }
 
-// The position at a bin, from the five sums of the box and of what lies before the box in the dimension: the low side is
-// what lies before the bin and not before the box, the high side the rest of the box.
-fn position_at(
+fn inner_of(dimension: u8) -> u8
+    ensures { λ r. ⌜ r ≡ innerOf dimension ⌝ }
+{
+    match dimension {
+        0 => 2,
+        1 => 2,
+        _ => 1,
+    }
+}
+
+// What one bin more in a dimension adds to the place.
+fn stride_of(g: Grid, dimension: u8) -> usize
+    requires { ⌜ Accepted g ⌝ }
+    ensures { λ r. ⌜ r ≡ strideAt g dimension ⌝ }
+{
+    match dimension {
+        0 => g.b2 * g.b3,
+        1 => g.b3,
+        _ => 1,
+    }
+}
+
+// The last bin before an end; bin 0 stands for none, and is not read.
+fn last_before(end: u8) -> usize
+    ensures { λ r. ⌜ r ≡ end - 1 ⌝ }
+{
+    if end == 0 {
+        return 0;
+    }
+    (end - 1) as usize
+}
+
+// The place of the last bins before two ends of the other dimensions, at bin 0 of a dimension.
+fn start_of(g: Grid, dimension: u8, outer: u8, inner: u8) -> usize
+    requires { ⌜ Accepted g × (outer ≤ sizeAt g (outerOf dimension)) × (inner ≤ sizeAt g (innerOf dimension)) ⌝ }
+    ensures { λ r. ⌜ r ≡ startOf g dimension outer inner ⌝ }
+{
+    let a = last_before(outer);
+    let b = last_before(inner);
+    match dimension {
+        0 => place(g, 0, a, b),
+        1 => place(g, a, 0, b),
+        _ => place(g, a, b, 0),
+    }
+}
+
+// What stays the same from bin to bin of a dimension: the step, the box's first bins in the two other dimensions, and
+// the four places that are read, at bin 0.
+struct Walk {
+    step: usize,
+    outer: u8,
+    inner: u8,
+    corner: usize,
+    above: usize,
+    left: usize,
+    diagonal: usize,
+}
+
+fn walk_of(g: Grid, x: Bounds, dimension: u8) -> Walk
+    requires { ⌜ Within g x ⌝ }
+    ensures { λ r. ⌜ r ≡ walkOf g x dimension ⌝ }
+{
+    let outer = first_bin(x, outer_of(dimension));
+    let inner = first_bin(x, inner_of(dimension));
+    let outer_end = end_bin(x, outer_of(dimension));
+    let inner_end = end_bin(x, inner_of(dimension));
+    Walk {
+        step: stride_of(g, dimension),
+        outer,
+        inner,
+        corner: start_of(g, dimension, outer_end, inner_end),
+        above: start_of(g, dimension, outer, inner_end),
+        left: start_of(g, dimension, outer_end, inner),
+        diagonal: start_of(g, dimension, outer, inner),
+    }
+}
+
+// The five sums of a box's bins before a bin of a dimension, from the edge of the grid on (`volume_at`). The table and
+// the box are named by the contract alone.
+fn sums_before(
     table: &[u64],
     work: &[u64],
+    g: Grid,
+    x: Bounds,
+    dimension: u8,
+    walk: Walk,
+    bin: u8,
+) -> Cell
+    requires { ⌜ Worked g (now table) (now work) × Within g x × (bin ≤ maxAt x dimension) ⌝ }
+    requires { ⌜ walk ≡ walkOf g x dimension ⌝ }
+    ensures { λ c. ⌜ c ≡ boxCell g (wide (now (table .entry))) (lowSide (highSide x dimension 0) dimension bin) ⌝ }
+{
+    if bin == 0 {
+        return ZEROS;
+    }
+    let far = walk.step * ((bin - 1) as usize);
+    let corner = cell_at(work, walk.corner + far);
+    if walk.inner == 0 {
+        if walk.outer == 0 {
+            return corner;
+        }
+        return minus(corner, cell_at(work, walk.above + far));
+    }
+    let row = minus(corner, cell_at(work, walk.left + far));
+    if walk.outer == 0 {
+        return row;
+    }
+    let above = cell_at(work, walk.above + far);
+    minus(row, minus(above, cell_at(work, walk.diagonal + far)))
+}
+
+// The position at a bin, from the five sums of the box, of what lies before the box in the dimension and of what lies
+// before the bin: the low side is what lies before the bin and not before the box, the high side the rest of the box.
+// The table is named by the contract alone.
+fn position_at(
+    table: &[u64],
     g: Grid,
     x: Bounds,
     dimension: u8,
     bin: u8,
     all: Cell,
     base: Cell,
+    before: Cell,
 ) -> Position
-    requires { ⌜ Worked g (now table) (now work) × Within g x × (minAt x dimension < bin) × (bin < maxAt x dimension) ⌝ }
+    requires { ⌜ (sound limit g (wide (now table)) ≡ true) × Within g x × (minAt x dimension < bin) × (bin < maxAt x dimension) ⌝ }
     requires { ⌜ all ≡ boxCell g (wide (now table)) x ⌝ }
     requires { ⌜ base ≡ boxCell g (wide (now table)) (lowSide (highSide x dimension 0) dimension (minAt x dimension)) ⌝ }
+    requires { ⌜ before ≡ boxCell g (wide (now table)) (lowSide (highSide x dimension 0) dimension bin) ⌝ }
     ensures { λ r. ⌜ r ≡ positionAt g (wide (now (table .entry))) x dimension bin ⌝ }
 {
-    let low = minus(sums_before(table, work, g, x, dimension, bin), base);
+    let low = minus(before, base);
     let high = minus(all, low);
     position_between(dimension, bin, stats_of(low), stats_of(high))
 }
 
-// The best position of a box in one dimension.
+// The best position of a box in one dimension. The first bin gives what lies before the box, each other bin a position.
 fn best_in(table: &[u64], work: &[u64], g: Grid, x: Bounds, dimension: u8, all: Cell) -> Position
     requires { ⌜ Worked g (now table) (now work) × Within g x ⌝ }
     requires { ⌜ all ≡ boxCell g (wide (now table)) x ⌝ }
@@ -199,14 +315,23 @@ fn best_in(table: &[u64], work: &[u64], g: Grid, x: Bounds, dimension: u8, all: 
 {
     let end = end_bin(x, dimension);
     let first = first_bin(x, dimension);
-    let base = sums_before(table, work, g, x, dimension, first);
+    if end - first == 1 {
+        return Position::Nowhere;
+    }
+    let walk = walk_of(g, x, dimension);
+    let mut base = ZEROS;
     let mut best = Position::Nowhere;
-    let mut bin = first + 1;
+    let mut bin = first;
     while bin < end {
-        best = better(
-            best,
-            position_at(table, work, g, x, dimension, bin, all, base),
-        );
+        let before = sums_before(table, work, g, x, dimension, walk, bin);
+        if bin == first {
+            base = before;
+        } else {
+            best = better(
+                best,
+                position_at(table, g, x, dimension, bin, all, base, before),
+            );
+        }
         bin = bin + 1;
     }
     best

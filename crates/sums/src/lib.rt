@@ -36,7 +36,7 @@ pub struct Stats {
 }
 
 // A cell of zeros.
-const ZEROS: Cell = Cell {
+pub const ZEROS: Cell = Cell {
     weight: 0,
     sum1: 0,
     sum2: 0,

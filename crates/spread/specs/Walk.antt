@@ -1,0 +1,35 @@
+-- How the bins of one dimension are walked through in the moments. Definitions only.
+use Prim.Native.Nat.{ℕ, _-_}
+use Rattle.grid.specs.declared.Grid.{Grid}
+use Rattle.grid.specs.Grid.{choose, placeOf, strideAt}
+use Rattle.sums.specs.declared.Bounds.{Bounds}
+use Rattle.sums.specs.Box.{minAt, maxAt}
+use Rattle.spread.specs.declared.Walk.{Walk}
+
+-- the two dimensions other than d, in order
+unfoldable pub outerOf : ℕ → ℕ
+outerOf d = choose d 1 0 0
+
+unfoldable pub innerOf : ℕ → ℕ
+innerOf d = choose d 2 2 1
+
+-- the place of the last bins before two ends of the other dimensions, at bin 0 of dimension d
+unfoldable pub startOf : Grid → ℕ → ℕ → ℕ → ℕ
+startOf g d outer inner =
+    choose d
+    (placeOf g 0 (outer - 1) (inner - 1))
+    (placeOf g (outer - 1) 0 (inner - 1))
+    (placeOf g (outer - 1) (inner - 1) 0)
+
+-- "by inclusion and exclusion": the four places at bin 0 of dimension d, and the step from bin to bin
+unfoldable pub walkOf : Grid → Bounds → ℕ → Walk
+walkOf g x d =
+    record {
+      step = strideAt g d;
+      outer = minAt x (outerOf d);
+      inner = minAt x (innerOf d);
+      corner = startOf g d (maxAt x (outerOf d)) (maxAt x (innerOf d));
+      above = startOf g d (minAt x (outerOf d)) (maxAt x (innerOf d));
+      left = startOf g d (maxAt x (outerOf d)) (minAt x (innerOf d));
+      diagonal = startOf g d (minAt x (outerOf d)) (minAt x (innerOf d));
+    }
