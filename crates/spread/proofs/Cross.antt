@@ -1,13 +1,13 @@
 -- Laws of the walk through the bins of one dimension: the four places that it reads hold what inclusion and exclusion
 -- need.
 -- Assumes nothing.
-use mathlib.Core.Path.{_≡_, refl, sym, ap, _∙_}
+use mathlib.Core.Path.{_≡_, refl, ap, _∙_}
 use mathlib.Core.List.{List}
 use Prim.Native.Nat.{ℕ, zero, suc, _+_, _-_, _*_, _≤_, _<_}
-use native.Mathlib.Nat.{add-zero, add-mul, mul-comm, mul-assoc, zero-mul, one-mul, zero-add, le-trans, le-of-lt}
+use native.Mathlib.Nat.{add-zero, add-mul, mul-comm, mul-assoc, zero-mul, one-mul, le-trans, le-of-lt}
 use native.Mathlib.Omega.{arith}
 use Rattle.grid.specs.declared.Grid.{Grid}
-use Rattle.grid.specs.Grid.{choose, sizeAt, binsOf, placeOf, strideAt, Accepted, Inside}
+use Rattle.grid.specs.Grid.{choose, sizeAt, placeOf, strideAt, Accepted, Inside}
 use Rattle.grid.proofs.Size.{size-low}
 use Rattle.grid.proofs.Places.{one, two, three, place-lt, bins-high}
 use Rattle.table.specs.declared.Cell.{Cell}

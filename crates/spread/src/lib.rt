@@ -17,21 +17,29 @@ ghost use Rattle.table.specs.Cell.{wide};
 ghost use Rattle.table.specs.Sound.{limit, sound};
 ghost use Rattle.sums.specs.Box.{boxCell, minAt, maxAt, lowSide, highSide, Within};
 ghost use Rattle.sums.specs.Moments.{Worked};
-ghost use Rattle.spread.specs.Spread.{quotOf, oneBin, spreadOf, scoreOf, Plain, Ordered};
+ghost use Rattle.spread.specs.Spread.{whole, quotOf, oneBin, spreadOf, scoreOf, Plain, Ordered};
 ghost use Rattle.spread.specs.Cut.{positionOf, positionAt, better as betterOf, bestIn, bestCut};
 ghost use Rattle.spread.specs.Walk.{outerOf, innerOf, startOf, walkOf};
 
 // ---- Spread and score
+
+// A whole number in f64. The machine turns an i64 into an f64 by one instruction, a u64 by several.
+fn in_float(n: u64) -> f64
+    requires { ⌜ n ≤ 9007199254740992 ⌝ }
+    ensures { λ r. ⌜ r ≡ whole n ⌝ }
+{
+    (n as i64) as f64
+}
 
 // Q/n.
 fn quotient(s: Stats) -> f64
     requires { ⌜ Plain s ⌝ }
     ensures { λ r. ⌜ r ≡ quotOf s ⌝ }
 {
-    let a = s.sum1 as f64;
-    let b = s.sum2 as f64;
-    let c = s.sum3 as f64;
-    let n = s.weight as f64;
+    let a = in_float(s.sum1);
+    let b = in_float(s.sum2);
+    let c = in_float(s.sum3);
+    let n = in_float(s.weight);
     (a * a + b * b + c * c) / n
 }
 

@@ -2,7 +2,6 @@
 -- Assumes nothing.
 use mathlib.Core.Path.{_≡_, ap, _∙_}
 use Prim.Native.Nat.{ℕ, zero, suc, _+_, _-_, _*_, _≤_, _<_}
-use native.Mathlib.Nat.{le-trans, le-of-lt}
 use native.Mathlib.Omega.{arith}
 use Rattle.grid.specs.declared.Grid.{Grid}
 use Rattle.grid.specs.Grid.{Accepted, Inside, choose, sizeAt, binsOf, placeOf}
@@ -13,10 +12,10 @@ use Rattle.table.specs.Sound.{limit}
 use Rattle.table.proofs.Cells.{minus-least, minus-is}
 use Rattle.table.proofs.Soundness.{Sound, sums-high, squares-high, sound-total, total-is}
 use Rattle.sums.specs.declared.Bounds.{Bounds}
-use Rattle.sums.specs.Box.{minAt, maxAt, sum3, binSum, boxSum, boxCell, Spans, Within, lowSide, highSide, InBox}
+use Rattle.sums.specs.Box.{minAt, maxAt, sum3, binSum, boxSum, boxCell, Within, lowSide, highSide, InBox}
 use Rattle.sums.proofs.Boxes.{sum3-first, sum3-second, sum3-third, sum3-le, sum3-scale, sum3-term, sum3-zero}
 use Rattle.sums.proofs.Below.{all-bins, below-all}
-use Rattle.sums.proofs.Corners.{Sides, sides, Edges, box-below}
+use Rattle.sums.proofs.Corners.{Sides, sides, box-below}
 
 -- ---- a cut
 runs : (a c e : ℕ) → a ≤ c → c ≤ e → e - a ≡ (c - a) + (e - c)
@@ -85,15 +84,6 @@ high-within {g} {x} w (suc (suc d)) c h l =
     let s = sides w in
     within-by (w .accepted) _ (record { one = s .one; two = s .two; three = l; one-fits = s .one-fits; two-fits = s .two-fits; three-fits = s .three-fits })
 
-spans-by : {g : Grid} → Accepted g → (x : Bounds) → Edges g x → Spans g x
-unfolding minAt maxAt sizeAt
-spans-by {g} a x s =
-    record {
-      accepted = a;
-      ordered = λ d. by-dimension _≤_ d (x .r0) (x .g0) (x .b0) (x .r1) (x .g1) (x .b1) (s .one) (s .two) (s .three);
-      fits = λ d. by-dimension _≤_ d (x .r1) (x .g1) (x .b1) (g .b1) (g .b2) (g .b3) (s .one-fits) (s .two-fits) (s .three-fits);
-    }
-
 -- ---- what lies before a bin in a dimension, from the edge of the grid on: before the box, and its low side
 abbrev pub slabTo : Bounds → ℕ → ℕ → Bounds
 slabTo x d c = lowSide (highSide x d 0) d c
@@ -103,18 +93,6 @@ unfolding lowSide highSide minAt maxAt choose
 slab-sum g v x zero c j h = cut-sum g v (slabTo x 0 c) 0 (x .r0) j (omega arith) h
 slab-sum g v x (suc zero) c j h = cut-sum g v (slabTo x 1 c) 1 (x .g0) j (omega arith) h
 slab-sum g v x (suc (suc d)) c j h = cut-sum g v (slabTo x 2 c) 2 (x .b0) j (omega arith) h
-
-pub slab-spans : {g : Grid} {x : Bounds} → Within g x → (d c : ℕ) → c ≤ maxAt x d → Spans g (slabTo x d c)
-unfolding lowSide highSide maxAt choose
-slab-spans {g} {x} w zero c h =
-    let s = sides w in
-    spans-by (w .accepted) _ (record { one = omega arith; two = le-of-lt (s .two); three = le-of-lt (s .three); one-fits = le-trans h (s .one-fits); two-fits = s .two-fits; three-fits = s .three-fits })
-slab-spans {g} {x} w (suc zero) c h =
-    let s = sides w in
-    spans-by (w .accepted) _ (record { one = le-of-lt (s .one); two = omega arith; three = le-of-lt (s .three); one-fits = s .one-fits; two-fits = le-trans h (s .two-fits); three-fits = s .three-fits })
-slab-spans {g} {x} w (suc (suc d)) c h =
-    let s = sides w in
-    spans-by (w .accepted) _ (record { one = le-of-lt (s .one); two = le-of-lt (s .two); three = omega arith; one-fits = s .one-fits; two-fits = s .two-fits; three-fits = le-trans h (s .three-fits) })
 
 -- the five sums of the two sides of a cut, from those of the box, of what lies before it and of what lies before the bin
 module _ (g : Grid) (v : View) (x : Bounds) (d c : ℕ) (h : minAt x d ≤ c) where

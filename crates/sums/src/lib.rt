@@ -175,7 +175,7 @@ fn slab(table: &[u64], work: &[u64], g: Grid, r: usize, x: Bounds) -> Cell
     minus(upper, run(table, work, g, r, x.g0 as usize, b0, b1))
 }
 
-// The five sums of a box, from the moments of its table (`volume`, and `volume_at` where the box starts at 0).
+// The five sums of a box, from the moments of its table (`volume`).
 pub fn box_cell(table: &[u64], work: &[u64], g: Grid, x: Bounds) -> Cell
     requires { ⌜ Worked g (now table) (now work) × Spans g x ⌝ }
     ensures { λ c. ⌜ c ≡ boxCell g (wide (now (table .entry))) x ⌝ }

@@ -1,28 +1,38 @@
--- `spread::quotient` meets its contract: each whole number is at most 2^53, so its cast loses nothing.
+-- `spread::quotient` meets its contract: each whole number is at most 2^53.
 -- Assumes nothing.
-use mathlib.Core.Path.{refl}
 use native.Mathlib.Omega.{arith}
+use lib.Ieee.{Float, binary64, add, mul, div}
 use Rattle.spread.specs.Spread.{quotOf}
-use Rattle.spread.proofs.Choose.{casts}
 use Rattle.spread.proofs.quotient.Statement.{statement}
 use Rattle.spread.proofs.quotient.Tie as tie
 
-int-to-float-a : tie.Need-int-to-float-a
-int-to-float-a c = casts _ (omega (arith, c .before .pre .weight, c .before .pre .one, c .before .pre .two, c .before .pre .three))
+in-float-requires : tie.Need-in-float-requires
+in-float-requires c κs = omega (arith, c .pre .weight, c .pre .one)
 
-int-to-float-b : tie.Need-int-to-float-b
-int-to-float-b c = casts _ (omega (arith, c .before .before .pre .weight, c .before .before .pre .one, c .before .before .pre .two, c .before .before .pre .three))
+in-float-requires-2 : tie.Need-in-float-requires-2
+in-float-requires-2 c κs = omega (arith, c .before .pre .weight, c .before .pre .two)
 
-int-to-float-c : tie.Need-int-to-float-c
-int-to-float-c c = casts _ (omega (arith, c .before .before .before .pre .weight, c .before .before .before .pre .one, c .before .before .before .pre .two, c .before .before .before .pre .three))
+in-float-requires-3 : tie.Need-in-float-requires-3
+in-float-requires-3 c κs = omega (arith, c .before .before .pre .weight, c .before .before .pre .three)
 
-int-to-float-n : tie.Need-int-to-float-n
-int-to-float-n c = casts _ (omega (arith, c .before .before .before .before .pre .weight, c .before .before .before .before .pre .one, c .before .before .before .before .pre .two, c .before .before .before .before .pre .three))
+in-float-requires-4 : tie.Need-in-float-requires-4
+in-float-requires-4 c κs = omega (arith, c .before .before .before .pre .weight)
 
 returns : tie.Need-returns
 unfolding quotOf
-returns c = refl
+returns c =
+    λ t.
+    let a : Float = c .before .before .before .in-float .ensures t in
+    let b : Float = c .before .before .in-float2 .ensures t in
+    let d : Float = c .before .in-float3 .ensures t in
+    div binary64 (add binary64 (add binary64 (mul binary64 a a) (mul binary64 b b)) (mul binary64 d d)) (c .in-float4 .ensures t)
 
 pub quotient-spec : {M : Type 1} → statement M
 quotient-spec =
-    tie.close (tie.spec int-to-float-a int-to-float-b int-to-float-c int-to-float-n returns)
+    tie.close
+    (tie.spec
+    in-float-requires
+    in-float-requires-2
+    in-float-requires-3
+    in-float-requires-4
+    returns)
