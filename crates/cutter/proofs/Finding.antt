@@ -20,7 +20,8 @@ use Rattle.heap.specs.Heap.{Room, item}
 use Rattle.rounds.specs.Loop.{noBox, noItem, spent, heapOf, boxSpread, placesOf, boxesOf}
 use Rattle.rounds.proofs.Filled.{heap-in-use}
 use Rattle.cutter.specs.Map.{Tiles}
-use Rattle.cutter.specs.Cut.{boundsOf, pastPlaces, listOf, Found}
+use Rattle.cutter.specs.Cut.{boundsOf, listOf, Found}
+use Rattle.cutter.proofs.Listed.{pastPlaces}
 use Rattle.cutter.proofs.Tiling.{boxesFound, boxes-long, box-at, tiles, all-occupied}
 
 -- a place in front has its box

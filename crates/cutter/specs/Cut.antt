@@ -5,7 +5,6 @@ use mathlib.Core.List.{List, map}
 use Prim.Native.Nat.{ℕ, _*_, _≤_, _<_}
 use lib.Dec.{eqb, leb}
 use lib.ListN.{length, getD, take, replicate}
-use lib.Ieee.{nan}
 use Rattle.grid.specs.declared.Grid.{Grid}
 use Rattle.grid.specs.Answer.{refuse, whenDone}
 use Rattle.grid.specs.Grid.{gridOf, onGrid, numberOn, binsOf}
@@ -73,10 +72,6 @@ cutRecord b1 b2 b3 k t b = onGrid (gridOf b1 b2 b3) (refusedRecord 1) (λ g. rec
 -- the box of a place of the record
 unfoldable pub boundsOf : BoxSpread → Bounds
 boundsOf x = record { r0 = x .r0; r1 = x .r1; g0 = x .g0; g1 = x .g1; b0 = x .b0; b1 = x .b1 }
-
--- what the places read past their end
-abbrev pub pastPlaces : BoxSpread
-pastPlaces = record { r0 = 0; r1 = 0; g0 = 0; g1 = 0; b0 = 0; b1 = 0; spread = nan }
 
 -- the boxes found, in order
 unfoldable pub listOf : Boxes → List Bounds

@@ -15,7 +15,7 @@ use table::Weighed;
 use table::weigh;
 ghost use mathlib.Core.Path.{_≡_};
 ghost use Prim.Native.Nat.{_+_, _*_, _≤_, _<_};
-ghost use lib.ListN.{length, getD, set};
+ghost use lib.ListN.{length, set};
 ghost use Rattle.grid.specs.Grid.{Accepted, binsOf};
 ghost use Rattle.table.specs.Cell.{wide};
 ghost use Rattle.table.specs.Sound.{limit};
@@ -24,7 +24,7 @@ ghost use Rattle.sums.specs.Moments.{Worked};
 ghost use Rattle.cutter.specs.Palette.{meanOf, colourOf, countOf, paletteLater, countsLater, frontOf, statsColour, withColourAt, Coloured, Occupied};
 ghost use Rattle.cutter.specs.Map.{lies, holds, slice, fillWhere, fillOf, fillFrom, Plane};
 ghost use Rattle.rounds.specs.Loop.{boxesOf};
-ghost use Rattle.cutter.specs.Cut.{buffers, lengthsOf, longEnough, cutNumberOn, refusedRecord, doneRecord, cutRecord, boundsOf, pastPlaces, listOf, laterOn, cutLater, CanCut, Found};
+ghost use Rattle.cutter.specs.Cut.{buffers, lengthsOf, longEnough, cutNumberOn, refusedRecord, doneRecord, cutRecord, boundsOf, listOf, laterOn, cutLater, CanCut, Found};
 
 // ---- Palette and counts
 
@@ -131,12 +131,10 @@ fn fill_box(map: &mut [u8], g: Grid, x: Bounds, index: u8)
 
 // ---- Every box
 
-// Box i of the record.
-fn box_at(b: Boxes, i: usize) -> Bounds
-    requires { ⌜ i < 256 ⌝ }
-    ensures { λ r. ⌜ r ≡ boundsOf (getD (b .places) i pastPlaces) ⌝ }
+// The box of a place of the record.
+fn bounds_of(x: BoxSpread) -> Bounds
+    ensures { λ r. ⌜ r ≡ boundsOf x ⌝ }
 {
-    let x = b.places[i];
     Bounds {
         r0: x.r0,
         r1: x.r1,
@@ -161,10 +159,11 @@ fn put_results(
     ensures { λ r. ⌜ now (palette .exit) ≡ paletteLater g (wide (now (table .entry))) (listOf b) (now (palette .entry)) ⌝ }
     ensures { λ r. ⌜ now (counts .exit) ≡ countsLater g (wide (now (table .entry))) (listOf b) (now (counts .entry)) ⌝ }
 {
+    let places = b.places;
     let n = b.found;
     let mut i = 0;
     while i < n {
-        let x = box_at(b, i);
+        let x = bounds_of(places[i]);
         put_result(table, work, g, x, i, palette, counts);
         i = i + 1;
     }
@@ -175,10 +174,11 @@ fn fill_boxes(table: &[u64], g: Grid, b: Boxes, map: &mut [u8])
     requires { ⌜ Found g (wide (now table)) b × (length (now map) ≡ binsOf g) ⌝ }
     ensures { λ r. ⌜ now (map .exit) ≡ fillFrom g 0 (listOf b) (now (map .entry)) ⌝ }
 {
+    let places = b.places;
     let n = b.found;
     let mut place = 0;
     while place < n {
-        let held = box_at(b, place);
+        let held = bounds_of(places[place]);
         let index = place as u8;
         fill_box(map, g, held, index);
         place = place + 1;

@@ -10,8 +10,8 @@ use lib.Seq.{length-take-le, getD-take, take-all}
 use lib.Ieee.{Float, nan}
 use Rattle.rounds.specs.declared.BoxSpread.{BoxSpread}
 use Rattle.cutter.specs.declared.CutRecord.{CutRecord}
-use Rattle.cutter.specs.Cut.{pastPlaces}
 use Rattle.cutter.specs.Fronts.{filled, putFrom}
+use Rattle.cutter.proofs.Listed.{pastPlaces}
 use Rattle.cutter.proofs.Fronts.{filled-none, filled-next, length-filled}
 use Rattle.seluvava.specs.Cut.{boxBytes, spreadOf, told, withBoxAt}
 

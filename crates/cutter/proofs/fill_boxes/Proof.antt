@@ -4,6 +4,7 @@ use mathlib.Core.Path.{_≡_, sym, ap, subst, _∙_}
 use mathlib.Core.List.{List}
 use Prim.Native.Nat.{ℕ, _-_, _≤_, _<_}
 use native.Mathlib.Omega.{arith}
+use borrow.Author.Needs.{needs}
 use denote.Ref.{now}
 use lib.ListN.{length, take}
 use Rattle.sums.specs.declared.Bounds.{Bounds}
@@ -18,46 +19,52 @@ use Rattle.cutter.proofs.fill_boxes.Statement.{statement}
 use Rattle.cutter.proofs.fill_boxes.Tie as tie
 
 abbrev Inv-loop : tie.InvT-loop
-Inv-loop table g b map₀ n place₀ map place = (place ≤ n) × (map ≡ fillFrom g 0 (take place (listOf b)) map₀)
+Inv-loop table g map₀ places n place₀ map place = (place ≤ n) × (map ≡ fillFrom g 0 (take place (listOf (record { found = n; places = places }))) map₀)
 
 abbrev μ-loop : tie.MeasureT-loop
-μ-loop table g b map₀ n place₀ map place = n - place
+μ-loop table g map₀ places n place₀ map place = n - place
 
 loop-holds : tie.Need-loop-holds Inv-loop μ-loop
 loop-holds c = (omega arith, sym (filled-none _ 0 _))
 
-box-at-requires : tie.Need-box-at-requires Inv-loop μ-loop
-box-at-requires c κs = omega (arith, c .loop-test .taken, c .before .before .before .before .pre .0 .few)
+mul-bounds-of : tie.Need-mul-bounds-of Inv-loop μ-loop
+mul-bounds-of c = omega (arith, c .loop-test .taken, c .before .before .before .before .before .pre .0 .few)
+
+array-copy-out-bounds-of : tie.Need-array-copy-out-bounds-of Inv-loop μ-loop
+array-copy-out-bounds-of c = omega (arith, c .loop-test .taken, c .before .before .before .before .before .pre .0 .few)
+
+bounds-of-requires : tie.Need-bounds-of-requires Inv-loop μ-loop
+bounds-of-requires c κs = search needs
 
 cast-index : tie.Need-cast-index Inv-loop μ-loop
-cast-index c = omega (arith, c .before .loop-test .taken, c .before .before .before .before .before .pre .0 .few)
+cast-index c = omega (arith, c .before .before .loop-test .taken, c .before .before .before .before .before .before .before .pre .0 .few)
 
 fill-box-requires : tie.Need-fill-box-requires Inv-loop μ-loop
 fill-box-requires c κs =
-    let s = c .before .before .before .before .before .before in
-    let l = c .before .before .before .loop in
+    let s = c .before .before .before .before .before .before .before .before in
+    let l = c .before .before .before .before .loop in
     let f = s .pre .0 in
-    let t : l .place < s .args .b .found = omega (arith, c .before .before .loop-test .taken) in (
-      subst (Within (s .args .g)) (sym (list-item f (l .place) t (c .before .box-at .ensures))) (f .occupied (l .place) t .within),
+    let t : l .place < s .args .b .found = omega (arith, c .before .before .before .loop-test .taken) in (
+      subst (Within (s .args .g)) (sym (list-item f (l .place) t (c .before .bounds-of .ensures))) (f .occupied (l .place) t .within),
       ap length (l .inv .1) ∙ length-filled (s .args .g) 0 (take (l .place) (listOf (s .args .b))) (now (s .args .map)) ∙ s .pre .1,
     )
 
 add-place : tie.Need-add-place Inv-loop μ-loop
-add-place c = omega (arith, c .before .before .before .before .before .loop-test .taken, c .before .before .before .before .before .before .before .before .before .pre .0 .few)
+add-place c = omega (arith, c .before .before .before .before .before .before .loop-test .taken, c .before .before .before .before .before .before .before .before .before .before .before .pre .0 .few)
 
 loop-less : tie.Need-loop-less Inv-loop μ-loop
-loop-less c = omega (arith, c .before .before .before .before .before .loop-test .taken)
+loop-less c = omega (arith, c .before .before .before .before .before .before .loop-test .taken)
 
 loop-again : tie.Need-loop-again Inv-loop μ-loop
 loop-again c =
-    let s = c .before .before .before .before .before .before .before .before .before in
-    let l = c .before .before .before .before .before .before .loop in
+    let s = c .before .before .before .before .before .before .before .before .before .before .before in
+    let l = c .before .before .before .before .before .before .before .loop in
     let f = s .pre .0 in
-    let t : l .place < s .args .b .found = omega (arith, c .before .before .before .before .before .loop-test .taken) in
+    let t : l .place < s .args .b .found = omega (arith, c .before .before .before .before .before .before .loop-test .taken) in
     let at : l .place < length (listOf (s .args .b)) = omega (arith, list-length f) in (
       omega arith,
       filled-next (listOf (s .args .b)) (l .place) noBox at (s .args .g) (now (s .args .map)) (l .inv .1)
-          (c .before .before .fill-box .ensures ∙ ap (λ (x : Bounds). fillOf (s .args .g) x (l .place) (l .map)) (list-item f (l .place) t (c .before .before .before .before .box-at .ensures))),
+          (c .before .before .fill-box .ensures ∙ ap (λ (x : Bounds). fillOf (s .args .g) x (l .place) (l .map)) (list-item f (l .place) t (c .before .before .before .before .bounds-of .ensures))),
     )
 
 same-length : tie.Need-same-length Inv-loop μ-loop
@@ -65,7 +72,7 @@ same-length c = ap length (c .before .loop .inv .1) ∙ length-filled _ 0 _ _
 
 returns : tie.Need-returns Inv-loop μ-loop
 returns c =
-    let s = c .before .before .before .before in
+    let s = c .before .before .before .before .before in
     let l = c .before .loop in
     l .inv .1 ∙ ap (λ (xs : List Bounds). fillFrom (s .args .g) 0 xs (now (s .args .map))) (take-listed (s .pre .0) {i = l .place} (omega (arith, l .inv .0, c .loop-test .left)))
 
@@ -76,7 +83,9 @@ fill-boxes-spec =
     Inv-loop
     μ-loop
     loop-holds
-    box-at-requires
+    mul-bounds-of
+    array-copy-out-bounds-of
+    bounds-of-requires
     cast-index
     fill-box-requires
     add-place

@@ -5,6 +5,7 @@ use mathlib.Core.List.{List}
 use Prim.Native.Nat.{ℕ, _-_, _*_, _≤_, _<_}
 use native.Mathlib.Nat.{le-of-lt}
 use native.Mathlib.Omega.{arith}
+use borrow.Author.Needs.{needs}
 use denote.Ref.{now}
 use lib.ListN.{length, take, set}
 use Rattle.table.specs.Cell.{wide}
@@ -19,25 +20,32 @@ use Rattle.cutter.proofs.put_results.Statement.{statement}
 use Rattle.cutter.proofs.put_results.Tie as tie
 
 abbrev Inv-loop : tie.InvT-loop
-Inv-loop table work g b palette₀ counts₀ n i₀ palette counts i =
-    (i ≤ n) × (palette ≡ paletteLater g (wide table) (take i (listOf b)) palette₀) × (counts ≡ countsLater g (wide table) (take i (listOf b)) counts₀)
+Inv-loop table work g palette₀ counts₀ places n i₀ palette counts i =
+    let boxes = take i (listOf (record { found = n; places = places })) in
+    (i ≤ n) × (palette ≡ paletteLater g (wide table) boxes palette₀) × (counts ≡ countsLater g (wide table) boxes counts₀)
 
 abbrev μ-loop : tie.MeasureT-loop
-μ-loop table work g b palette₀ counts₀ n i₀ palette counts i = n - i
+μ-loop table work g palette₀ counts₀ places n i₀ palette counts i = n - i
 
 loop-holds : tie.Need-loop-holds Inv-loop μ-loop
 loop-holds c = (omega arith, sym (palette-none _ _ _), sym (counts-none _ _ _))
 
-box-at-requires : tie.Need-box-at-requires Inv-loop μ-loop
-box-at-requires c κs = omega (arith, c .loop-test .taken, c .before .before .before .before .before .before .pre .0 .1 .few)
+mul-bounds-of : tie.Need-mul-bounds-of Inv-loop μ-loop
+mul-bounds-of c = omega (arith, c .loop-test .taken, c .before .before .before .before .before .before .before .pre .0 .1 .few)
+
+array-copy-out-bounds-of : tie.Need-array-copy-out-bounds-of Inv-loop μ-loop
+array-copy-out-bounds-of c = omega (arith, c .loop-test .taken, c .before .before .before .before .before .before .before .pre .0 .1 .few)
+
+bounds-of-requires : tie.Need-bounds-of-requires Inv-loop μ-loop
+bounds-of-requires c κs = search needs
 
 put-result-requires : tie.Need-put-result-requires Inv-loop μ-loop
 put-result-requires c κs =
-    let s = c .before .before .before .before .before .before .before .before .before in
-    let l = c .before .before .before .before .loop in
+    let s = c .before .before .before .before .before .before .before .before .before .before .before in
+    let l = c .before .before .before .before .before .loop in
     let f = s .pre .0 .1 in
-    let t : l .i < s .args .b .found = omega (arith, c .before .before .before .loop-test .taken) in (
-      (s .pre .0 .0, subst (Occupied (s .args .g) (wide (now (s .args .table)))) (sym (list-item f (l .i) t (c .before .before .box-at .ensures))) (f .occupied (l .i) t)),
+    let t : l .i < s .args .b .found = omega (arith, c .before .before .before .before .loop-test .taken) in (
+      (s .pre .0 .0, subst (Occupied (s .args .g) (wide (now (s .args .table)))) (sym (list-item f (l .i) t (c .before .before .bounds-of .ensures))) (f .occupied (l .i) t)),
       (
         omega (arith, ap length (l .inv .1), palette-long f (l .i) (le-of-lt t) (now (s .args .palette)) (s .pre .1 .0), s .pre .1 .0),
         omega (arith, ap length (l .inv .2), counts-long f (l .i) (le-of-lt t) (now (s .args .counts)) (s .pre .1 .1), s .pre .1 .1),
@@ -45,19 +53,19 @@ put-result-requires c κs =
     )
 
 add-i : tie.Need-add-i Inv-loop μ-loop
-add-i c = omega (arith, c .before .before .before .before .before .before .before .before .loop-test .taken, c .before .before .before .before .before .before .before .before .before .before .before .before .before .before .pre .0 .1 .few)
+add-i c = omega (arith, c .before .before .before .before .before .before .before .before .before .loop-test .taken, c .before .before .before .before .before .before .before .before .before .before .before .before .before .before .before .before .pre .0 .1 .few)
 
 loop-less : tie.Need-loop-less Inv-loop μ-loop
-loop-less c = omega (arith, c .before .before .before .before .before .before .before .before .loop-test .taken)
+loop-less c = omega (arith, c .before .before .before .before .before .before .before .before .before .loop-test .taken)
 
 loop-again : tie.Need-loop-again Inv-loop μ-loop
 loop-again c =
-    let s = c .before .before .before .before .before .before .before .before .before .before .before .before .before .before in
-    let l = c .before .before .before .before .before .before .before .before .before .loop in
+    let s = c .before .before .before .before .before .before .before .before .before .before .before .before .before .before .before .before in
+    let l = c .before .before .before .before .before .before .before .before .before .before .loop in
     let f = s .pre .0 .1 in
-    let t : l .i < s .args .b .found = omega (arith, c .before .before .before .before .before .before .before .before .loop-test .taken) in
+    let t : l .i < s .args .b .found = omega (arith, c .before .before .before .before .before .before .before .before .before .loop-test .taken) in
     let at : l .i < length (listOf (s .args .b)) = omega (arith, list-length f) in
-    let same = list-item f (l .i) t (c .before .before .before .before .before .before .before .box-at .ensures) in
+    let same = list-item f (l .i) t (c .before .before .before .before .before .before .before .bounds-of .ensures) in
     let e = c .before .before .before .before .put-result .ensures in (
       omega arith,
       palette-next (listOf (s .args .b)) (l .i) noBox at (s .args .g) (wide (now (s .args .table))) (now (s .args .palette)) (omega (arith, list-length f, s .pre .1 .0)) (l .inv .1)
@@ -68,19 +76,19 @@ loop-again c =
 
 same-length : tie.Need-same-length Inv-loop μ-loop
 same-length c =
-    let s = c .before .before .before .before .before .before in
+    let s = c .before .before .before .before .before .before .before in
     let l = c .before .loop in
     ap length (l .inv .1) ∙ palette-long (s .pre .0 .1) (l .i) (l .inv .0) (now (s .args .palette)) (s .pre .1 .0)
 
 same-length-2 : tie.Need-same-length-2 Inv-loop μ-loop
 same-length-2 c =
-    let s = c .before .before .before .before .before .before in
+    let s = c .before .before .before .before .before .before .before in
     let l = c .before .loop in
     ap length (l .inv .2) ∙ counts-long (s .pre .0 .1) (l .i) (l .inv .0) (now (s .args .counts)) (s .pre .1 .1)
 
 returns : tie.Need-returns Inv-loop μ-loop
 returns c =
-    let s = c .before .before .before .before .before .before in
+    let s = c .before .before .before .before .before .before .before in
     let l = c .before .loop in
     let all = take-listed (s .pre .0 .1) {i = l .i} (omega (arith, l .inv .0, c .loop-test .left)) in (
       l .inv .1 ∙ ap (λ (xs : List Bounds). paletteLater (s .args .g) (wide (now (s .args .table))) xs (now (s .args .palette))) all,
@@ -94,7 +102,9 @@ put-results-spec =
     Inv-loop
     μ-loop
     loop-holds
-    box-at-requires
+    mul-bounds-of
+    array-copy-out-bounds-of
+    bounds-of-requires
     put-result-requires
     add-i
     loop-less
