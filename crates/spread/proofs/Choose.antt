@@ -1,7 +1,7 @@
 -- Laws of positions and of the better of two.
 -- Assumes nothing.
-use mathlib.Core.Path.{_≡_, sym, ap, ap₂, _∙_}
-use mathlib.Core.Bool.{Bool, true, false, cond}
+use mathlib.Core.Path.{_≡_, refl, sym, ap, _∙_}
+use mathlib.Core.Bool.{Bool, true, false, cond, true≢false, false≢true}
 use Prim.Native.Nat.{ℕ, suc, _+_, _-_, _≤_}
 use native.Mathlib.Nat.{le-trans}
 use native.Mathlib.Omega.{arith}
@@ -21,31 +21,26 @@ use Rattle.sums.proofs.Laws.{box-sums-high, box-weight-high}
 use Rattle.spread.specs.declared.Position.{Position}
 use Rattle.spread.specs.declared.Position.the-variants.{At, Nowhere}
 use Rattle.spread.specs.Spread.{Plain}
-use Rattle.spread.specs.Cut.{positionOf, positionAt, better, bestRun}
+use Rattle.spread.specs.Cut.{positionOf, positionAt, isBetter, better, bestRun}
 
 -- a whole number up to 2^53 is turned into f64 without loss
 pub casts : (n : ℕ) → n ≤ 9007199254740992 → T (inFloat binary64 (pos n))
 unfolding inFloat
 casts n h = le→leb n 9007199254740992 h
 
--- the better of two, by their cases
-module _ {a b : Position} where
-  pub later-only : a ≡ Nowhere → b ≡ better a b
-  unfolding better
-  later-only p = sym (ap (λ (x : Position). better x b) p)
+-- the better of two, by the question
+pub later-better : (a b : Position) → isBetter a b ≡ true → b ≡ better a b
+unfolding isBetter better
+later-better Nowhere b h = refl
+later-better (At d i x) Nowhere h = absurd (false≢true h)
+later-better (At d i x) (At e k y) h = sym (ap (λ (t : Bool). cond t (At e k y) (At d i x)) h)
 
-  pub earlier-only : {d i : ℕ} {x : Float} → a ≡ At d i x → b ≡ Nowhere → At d i x ≡ better a b
-  unfolding better
-  earlier-only p q = sym (ap₂ better p q)
-
-  module _ {d i : ℕ} {x : Float} (p : a ≡ At d i x) {e k : ℕ} {y : Float} (q : b ≡ At e k y) where
-    pub later-less : lt y x ≡ true → At e k y ≡ better a b
-    unfolding better
-    later-less l = sym (ap₂ better p q ∙ ap (λ (t : Bool). cond t (At e k y) (At d i x)) l)
-
-    pub later-not-less : lt y x ≡ false → At d i x ≡ better a b
-    unfolding better
-    later-not-less l = sym (ap₂ better p q ∙ ap (λ (t : Bool). cond t (At e k y) (At d i x)) l)
+pub earlier-better : (a b : Position) → isBetter a b ≡ false → a ≡ better a b
+unfolding isBetter better
+earlier-better Nowhere Nowhere h = refl
+earlier-better Nowhere (At e k y) h = absurd (true≢false h)
+earlier-better (At d i x) Nowhere h = refl
+earlier-better (At d i x) (At e k y) h = sym (ap (λ (t : Bool). cond t (At e k y) (At d i x)) h)
 
 -- ---- the statistics of a box of a sound table are plain
 pub plain-stats : {g : Grid} {v : View} → Sound limit g v → {x : Bounds} → Within g x → {s : Stats} → s ≡ statsOf g v x → Plain s

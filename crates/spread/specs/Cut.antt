@@ -1,5 +1,5 @@
 -- The best position to cut one box (document 01, "Cutting one box"). Definitions only.
-use mathlib.Core.Bool.{cond}
+use mathlib.Core.Bool.{Bool, true, false, cond}
 use mathlib.Core.List.{List, [], _∷_}
 use Prim.Native.Nat.{ℕ, zero, suc, _+_, _-_}
 use lib.Dec.{eqb}
@@ -30,6 +30,12 @@ positionOf d bin low high =
 -- the position at a bin of dimension d: "the low side is [min, bin), the high side the rest"
 unfoldable pub positionAt : Grid → View → Bounds → ℕ → ℕ → Position
 positionAt g v x d bin = positionOf d bin (statsOf g v (lowSide x d bin)) (statsOf g v (highSide x d bin))
+
+-- whether a later position takes the place of an earlier one
+unfoldable pub isBetter : Position → Position → Bool
+isBetter earlier Nowhere = false
+isBetter Nowhere (At e other less) = true
+isBetter (At d bin score) (At e other less) = lt less score
 
 -- of two positions the earlier, unless the later has a smaller score
 unfoldable pub better : Position → Position → Position

@@ -18,7 +18,7 @@ ghost use Rattle.table.specs.Sound.{limit, sound};
 ghost use Rattle.sums.specs.Box.{boxCell, minAt, maxAt, lowSide, highSide, Within};
 ghost use Rattle.sums.specs.Moments.{Worked};
 ghost use Rattle.spread.specs.Spread.{whole, quotOf, oneBin, spreadOf, scoreOf, Plain, Ordered};
-ghost use Rattle.spread.specs.Cut.{positionOf, positionAt, better as betterOf, bestIn, bestCut};
+ghost use Rattle.spread.specs.Cut.{positionOf, positionAt, isBetter, better as betterOf, bestIn, bestCut};
 ghost use Rattle.spread.specs.Walk.{outerOf, innerOf, startOf, walkOf};
 
 // ---- Spread and score
@@ -102,25 +102,35 @@ pub fn position_between(dimension: u8, bin: u8, low: Stats, high: Stats) -> Posi
     }
 }
 
+// Whether a later position takes the place of an earlier one.
+fn is_better(earlier: Position, later: Position) -> bool
+    ensures { λ r. ⌜ r ≡ isBetter earlier later ⌝ }
+{
+    match later {
+        Position::Nowhere => false,
+        Position::At {
+            dimension: _,
+            bin: _,
+            score: y,
+        } => match earlier {
+            Position::Nowhere => true,
+            Position::At {
+                dimension: _,
+                bin: _,
+                score: x,
+            } => y < x,
+        },
+    }
+}
+
 // Of two positions the earlier, unless the later has a smaller score.
 pub fn better(earlier: Position, later: Position) -> Position
     ensures { λ r. ⌜ r ≡ betterOf earlier later ⌝ }
 {
-    match earlier {
-        Position::Nowhere => later,
-        Position::At {
-            dimension: _,
-            bin: _,
-            score: x,
-        } => match later {
-            Position::Nowhere => earlier,
-            Position::At {
-                dimension: _,
-                bin: _,
-                score: y,
-            } => { if y < x { later } else { earlier } }
-        },
+    if is_better(earlier, later) {
+        return later;
     }
+    earlier
 }
 
 // The low side of a cut, [min, bin).
@@ -335,10 +345,10 @@ fn best_in(table: &[u64], work: &[u64], g: Grid, x: Bounds, dimension: u8, all: 
         if bin == first {
             base = before;
         } else {
-            best = better(
-                best,
-                position_at(table, g, x, dimension, bin, all, base, before),
-            );
+            let later = position_at(table, g, x, dimension, bin, all, base, before);
+            if is_better(best, later) {
+                best = later;
+            }
         }
         bin = bin + 1;
     }

@@ -1,6 +1,6 @@
 -- `spread::best_in` meets its contract: after each bin the best is that of the positions so far.
 -- Assumes nothing.
-use mathlib.Core.Path.{_≡_, ap, _∙_}
+use mathlib.Core.Path.{_≡_, sym, ap, _∙_}
 use mathlib.Core.Logic.{⊎-elim}
 use Prim.Native.Nat.{ℕ, _+_, _-_, _≤_, _<_}
 use native.Mathlib.Omega.{arith}
@@ -10,7 +10,7 @@ use Rattle.table.specs.Cell.{wide}
 use Rattle.sums.specs.Box.{boxCell, minAt, maxAt}
 use Rattle.sums.proofs.Laws.{slabTo}
 use Rattle.spread.specs.Cut.{bestRun, bestIn}
-use Rattle.spread.proofs.Choose.{end-high, run-none, run-next}
+use Rattle.spread.proofs.Choose.{later-better, earlier-better, end-high, run-none, run-next}
 use Rattle.spread.proofs.best_in.Statement.{statement}
 use Rattle.spread.proofs.best_in.Tie as tie
 
@@ -68,8 +68,8 @@ position-at-requires c κs =
       (s .pre .1, (c .before .before .before .loop .inv .3 (past-first c), c .before .sums-before .ensures)),
     )
 
-better-requires : tie.Need-better-requires Inv-loop μ-loop
-better-requires c κs = search needs
+is-better-requires : tie.Need-is-better-requires Inv-loop μ-loop
+is-better-requires c κs = search needs
 
 add-bin : tie.Need-add-bin Inv-loop μ-loop
 add-bin c = omega (arith, c .before .before .loop-test .taken, c .before .before .before .before .before .before .before .end-bin .ensures, end-high (c .before .before .before .before .before .before .before .before .before .before .pre .0 .1) (c .before .before .before .before .before .before .before .before .before .before .args .dimension))
@@ -87,12 +87,16 @@ loop-again c =
       omega (arith, c .before .before .loop-test .taken),
       ⊎-elim
           (λ w. w .2 ∙ l .inv .2 ∙ ap (bestRun (s .args .g) (wide (now (s .args .table))) (s .args .x) (s .args .dimension) (from + 1)) (none from (l .bin) (w .0 .taken ∙ first)))
-          (λ w. w .4 ∙ run-next (s .args .g) (wide (now (s .args .table))) (s .args .x) (s .args .dimension) (from + 1) (l .bin) (omega (arith, past-first (record { before = c .before; if2 = w .0 }))) (l .inv .2) (w .1 .ensures) (w .2 .ensures))
+          (⊎-elim
+          (λ w. run-next (s .args .g) (wide (now (s .args .table))) (s .args .x) (s .args .dimension) (from + 1) (l .bin) (omega (arith, past-first (record { before = c .before; if2 = w .0 }))) (l .inv .2) (w .1 .ensures) (w .5 ∙ later-better (l .best) (w .1 .result) (sym (w .2 .ensures) ∙ w .3 .taken)))
+          (λ w. run-next (s .args .g) (wide (now (s .args .table))) (s .args .x) (s .args .dimension) (from + 1) (l .bin) (omega (arith, past-first (record { before = c .before; if2 = w .0 }))) (l .inv .2) (w .1 .ensures) (w .5 ∙ earlier-better (l .best) (w .1 .result) (sym (w .2 .ensures) ∙ w .3 .left))))
           (c .if2 .came),
       λ h.
           ⊎-elim
           (λ w. w .1 ∙ c .before .sums-before .ensures ∙ ap (λ (n : ℕ). boxCell (s .args .g) (wide (now (s .args .table))) (slabTo (s .args .x) (s .args .dimension) n)) (w .0 .taken ∙ first))
-          (λ w. w .3 ∙ l .inv .3 (past-first (record { before = c .before; if2 = w .0 })))
+          (⊎-elim
+          (λ w. w .4 ∙ l .inv .3 (past-first (record { before = c .before; if2 = w .0 })))
+          (λ w. w .4 ∙ l .inv .3 (past-first (record { before = c .before; if2 = w .0 }))))
           (c .if2 .came),
     )
   where
@@ -121,7 +125,7 @@ best-in-spec =
     loop-holds
     sums-before-requires
     position-at-requires
-    better-requires
+    is-better-requires
     add-bin
     loop-less
     loop-again
