@@ -22,7 +22,7 @@ use Rattle.sums.proofs.Laws.{bins-empty, in-low, in-high, in-box}
 use Rattle.spread.specs.declared.Position.{Position}
 use Rattle.spread.specs.declared.Position.the-variants.{At, Nowhere}
 use Rattle.spread.specs.Spread.{scoreOf}
-use Rattle.spread.specs.Cut.{positionOf, positionAt, better, bestRun, bestIn, bestCut}
+use Rattle.spread.specs.Cut.{positionOf, positionAt, better, laterWins, bestRun, bestIn, bestCut}
 
 pub never : {A : Type 0} {d i : ℕ} {s : Float} → Nowhere ≡ At d i s → A
 never q = absurd (let z : _≡_ {A = ℕ} 0 1 = cc in omega arith)
@@ -88,7 +88,7 @@ module _ (g : Grid) (v : View) (x : Bounds) (d bin : ℕ) where
 
 -- ---- the better of two
 better-at : (a b : Position) {d i : ℕ} {s : Float} → better a b ≡ At d i s → (a ≡ At d i s) ⊎ (b ≡ At d i s)
-unfolding better
+unfolding better laterWins
 better-at Nowhere b q = inr q
 better-at (At e k y) Nowhere q = inl q
 better-at (At e k y) (At f l z) {d} {i} {s} q = go (lt z y) q
@@ -98,7 +98,7 @@ better-at (At e k y) (At f l z) {d} {i} {s} q = go (lt z y) q
     go false r = inl r
 
 better-nowhere : (a b : Position) → better a b ≡ Nowhere → (a ≡ Nowhere) × (b ≡ Nowhere)
-unfolding better
+unfolding better laterWins
 better-nowhere Nowhere b q = (refl, q)
 better-nowhere (At e k y) Nowhere q = never (sym q)
 better-nowhere (At e k y) (At f l z) q = never (sym (go (lt z y) q))
@@ -130,7 +130,7 @@ module _ (g : Grid) (v : View) (x : Bounds) (d first : ℕ) where
       go (no e) here before = before (omega arith)
 
   run-all-none : (n : ℕ) → ((k : ℕ) → k < n → positionAt g v x d (first + k) ≡ Nowhere) → bestRun g v x d first n ≡ Nowhere
-  unfolding bestRun better
+  unfolding bestRun better laterWins
   run-all-none zero h = refl
   run-all-none (suc n) h = rw (run-all-none n (λ k l. h k (omega arith))) (h n (omega arith))
 
@@ -184,7 +184,7 @@ module _ (g : Grid) (v : View) (x : Bounds) where
       at (suc (suc (suc d))) l a b c = absurd (omega arith)
 
   pub nowhere : ((d bin : ℕ) → d < 3 → minAt x d < bin → bin < maxAt x d → Split g v x d bin → ⊥) → bestCut g v x ≡ Nowhere
-  unfolding bestCut better
+  unfolding bestCut better laterWins
   nowhere h =
       rw (in-all-none 0 (λ b. h 0 b (omega arith)), in-all-none 1 (λ b. h 1 b (omega arith)))
       (in-all-none 2 (λ b. h 2 b (omega arith)))

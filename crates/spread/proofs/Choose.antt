@@ -1,13 +1,13 @@
 -- Laws of positions and of the better of two.
 -- Assumes nothing.
-use mathlib.Core.Path.{_≡_, refl, sym, ap, _∙_}
-use mathlib.Core.Bool.{Bool, true, false, cond, true≢false, false≢true}
+use mathlib.Core.Path.{_≡_, sym, ap, _∙_}
+use mathlib.Core.Bool.{Bool, true, false, cond}
 use Prim.Native.Nat.{ℕ, suc, _+_, _-_, _≤_}
 use native.Mathlib.Nat.{le-trans}
 use native.Mathlib.Omega.{arith}
 use lib.Dec.{T, le→leb, lit<}
 use lib.IntN.{pos}
-use lib.Ieee.{Float, binary64, inFloat, lt}
+use lib.Ieee.{binary64, inFloat}
 use Rattle.grid.specs.declared.Grid.{Grid}
 use Rattle.grid.proofs.Size.{size-high}
 use Rattle.grid.proofs.Places.{sized-at}
@@ -21,26 +21,22 @@ use Rattle.sums.proofs.Laws.{box-sums-high, box-weight-high}
 use Rattle.spread.specs.declared.Position.{Position}
 use Rattle.spread.specs.declared.Position.the-variants.{At, Nowhere}
 use Rattle.spread.specs.Spread.{Plain}
-use Rattle.spread.specs.Cut.{positionOf, positionAt, isBetter, better, bestRun}
+use Rattle.spread.specs.Cut.{positionOf, positionAt, laterWins, better, bestRun}
 
 -- a whole number up to 2^53 is turned into f64 without loss
 pub casts : (n : ℕ) → n ≤ 9007199254740992 → T (inFloat binary64 (pos n))
 unfolding inFloat
 casts n h = le→leb n 9007199254740992 h
 
--- the better of two, by the question
-pub later-better : (a b : Position) → isBetter a b ≡ true → b ≡ better a b
-unfolding isBetter better
-later-better Nowhere b h = refl
-later-better (At d i x) Nowhere h = absurd (false≢true h)
-later-better (At d i x) (At e k y) h = sym (ap (λ (t : Bool). cond t (At e k y) (At d i x)) h)
+-- the better of two, by which wins
+module _ (a b : Position) where
+  pub later-is-better : laterWins a b ≡ true → b ≡ better a b
+  unfolding better
+  later-is-better h = sym (ap (λ (t : Bool). cond t b a) h)
 
-pub earlier-better : (a b : Position) → isBetter a b ≡ false → a ≡ better a b
-unfolding isBetter better
-earlier-better Nowhere Nowhere h = refl
-earlier-better Nowhere (At e k y) h = absurd (true≢false h)
-earlier-better (At d i x) Nowhere h = refl
-earlier-better (At d i x) (At e k y) h = sym (ap (λ (t : Bool). cond t (At e k y) (At d i x)) h)
+  pub earlier-is-better : laterWins a b ≡ false → a ≡ better a b
+  unfolding better
+  earlier-is-better h = sym (ap (λ (t : Bool). cond t b a) h)
 
 -- ---- the statistics of a box of a sound table are plain
 pub plain-stats : {g : Grid} {v : View} → Sound limit g v → {x : Bounds} → Within g x → {s : Stats} → s ≡ statsOf g v x → Plain s

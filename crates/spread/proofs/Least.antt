@@ -19,7 +19,7 @@ use Rattle.sums.specs.declared.Bounds.{Bounds}
 use Rattle.sums.specs.Box.{minAt, maxAt, Within}
 use Rattle.spread.specs.declared.Position.{Position}
 use Rattle.spread.specs.declared.Position.the-variants.{At, Nowhere}
-use Rattle.spread.specs.Cut.{Told, positionAnswer, positionAt, better, bestRun, bestIn, bestCut}
+use Rattle.spread.specs.Cut.{Told, positionAnswer, positionAt, better, laterWins, bestRun, bestIn, bestCut}
 use Rattle.spread.proofs.Best.{Good, never, position-good, good-position}
 use Rattle.spread.proofs.Finite.{position-finite}
 
@@ -83,7 +83,7 @@ module _ {A B : ℕ → ℕ → Float → Type 0} (after : (e j d i : ℕ) (t s 
   Both e j t = A e j t ⊎ B e j t
 
   wins-better : (a b : Position) → Wins A a → Wins B b → Wins Both (better a b)
-  unfolding better
+  unfolding better laterWins
   wins-better Nowhere b none w = wins-same (λ e j t y. inr y) back b w
     where
       back : (e j : ℕ) (t : Float) → Both e j t → B e j t

@@ -31,17 +31,15 @@ positionOf d bin low high =
 unfoldable pub positionAt : Grid → View → Bounds → ℕ → ℕ → Position
 positionAt g v x d bin = positionOf d bin (statsOf g v (lowSide x d bin)) (statsOf g v (highSide x d bin))
 
--- whether a later position takes the place of an earlier one
-unfoldable pub isBetter : Position → Position → Bool
-isBetter earlier Nowhere = false
-isBetter Nowhere (At e other less) = true
-isBetter (At d bin score) (At e other less) = lt less score
+-- whether the later of two positions wins: where there is no earlier one, or with a smaller score
+unfoldable pub laterWins : Position → Position → Bool
+laterWins Nowhere later = true
+laterWins (At d bin score) Nowhere = false
+laterWins (At d bin score) (At e other less) = lt less score
 
 -- of two positions the earlier, unless the later has a smaller score
 unfoldable pub better : Position → Position → Position
-better Nowhere later = later
-better (At d bin score) Nowhere = At d bin score
-better (At d bin score) (At e other less) = cond (lt less score) (At e other less) (At d bin score)
+better earlier later = cond (laterWins earlier later) later earlier
 
 -- the best of the n positions from a bin of dimension d on, in order
 unfoldable pub bestRun : Grid → View → Bounds → ℕ → ℕ → ℕ → Position

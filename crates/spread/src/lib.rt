@@ -18,7 +18,7 @@ ghost use Rattle.table.specs.Sound.{limit, sound};
 ghost use Rattle.sums.specs.Box.{boxCell, minAt, maxAt, lowSide, highSide, Within};
 ghost use Rattle.sums.specs.Moments.{Worked};
 ghost use Rattle.spread.specs.Spread.{whole, quotOf, oneBin, spreadOf, scoreOf, Plain, Ordered};
-ghost use Rattle.spread.specs.Cut.{positionOf, positionAt, isBetter, better as betterOf, bestIn, bestCut};
+ghost use Rattle.spread.specs.Cut.{positionOf, positionAt, laterWins, better as betterOf, bestIn, bestCut};
 ghost use Rattle.spread.specs.Walk.{outerOf, innerOf, startOf, walkOf};
 
 // ---- Spread and score
@@ -102,22 +102,22 @@ pub fn position_between(dimension: u8, bin: u8, low: Stats, high: Stats) -> Posi
     }
 }
 
-// Whether a later position takes the place of an earlier one.
-fn is_better(earlier: Position, later: Position) -> bool
-    ensures { λ r. ⌜ r ≡ isBetter earlier later ⌝ }
+// Whether the later of two positions wins.
+fn later_wins(earlier: Position, later: Position) -> bool
+    ensures { λ r. ⌜ r ≡ laterWins earlier later ⌝ }
 {
-    match later {
-        Position::Nowhere => false,
+    match earlier {
+        Position::Nowhere => true,
         Position::At {
             dimension: _,
             bin: _,
-            score: y,
-        } => match earlier {
-            Position::Nowhere => true,
+            score: x,
+        } => match later {
+            Position::Nowhere => false,
             Position::At {
                 dimension: _,
                 bin: _,
-                score: x,
+                score: y,
             } => y < x,
         },
     }
@@ -127,7 +127,7 @@ fn is_better(earlier: Position, later: Position) -> bool
 pub fn better(earlier: Position, later: Position) -> Position
     ensures { λ r. ⌜ r ≡ betterOf earlier later ⌝ }
 {
-    if is_better(earlier, later) {
+    if later_wins(earlier, later) {
         return later;
     }
     earlier
@@ -346,7 +346,7 @@ fn best_in(table: &[u64], work: &[u64], g: Grid, x: Bounds, dimension: u8, all: 
             base = before;
         } else {
             let later = position_at(table, g, x, dimension, bin, all, base, before);
-            if is_better(best, later) {
+            if later_wins(best, later) {
                 best = later;
             }
         }

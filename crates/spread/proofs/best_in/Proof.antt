@@ -10,7 +10,7 @@ use Rattle.table.specs.Cell.{wide}
 use Rattle.sums.specs.Box.{boxCell, minAt, maxAt}
 use Rattle.sums.proofs.Laws.{slabTo}
 use Rattle.spread.specs.Cut.{bestRun, bestIn}
-use Rattle.spread.proofs.Choose.{later-better, earlier-better, end-high, run-none, run-next}
+use Rattle.spread.proofs.Choose.{later-is-better, earlier-is-better, end-high, run-none, run-next}
 use Rattle.spread.proofs.best_in.Statement.{statement}
 use Rattle.spread.proofs.best_in.Tie as tie
 
@@ -68,8 +68,8 @@ position-at-requires c κs =
       (s .pre .1, (c .before .before .before .loop .inv .3 (past-first c), c .before .sums-before .ensures)),
     )
 
-is-better-requires : tie.Need-is-better-requires Inv-loop μ-loop
-is-better-requires c κs = search needs
+later-wins-requires : tie.Need-later-wins-requires Inv-loop μ-loop
+later-wins-requires c κs = search needs
 
 add-bin : tie.Need-add-bin Inv-loop μ-loop
 add-bin c = omega (arith, c .before .before .loop-test .taken, c .before .before .before .before .before .before .before .end-bin .ensures, end-high (c .before .before .before .before .before .before .before .before .before .before .pre .0 .1) (c .before .before .before .before .before .before .before .before .before .before .args .dimension))
@@ -88,8 +88,8 @@ loop-again c =
       ⊎-elim
           (λ w. w .2 ∙ l .inv .2 ∙ ap (bestRun (s .args .g) (wide (now (s .args .table))) (s .args .x) (s .args .dimension) (from + 1)) (none from (l .bin) (w .0 .taken ∙ first)))
           (⊎-elim
-          (λ w. run-next (s .args .g) (wide (now (s .args .table))) (s .args .x) (s .args .dimension) (from + 1) (l .bin) (omega (arith, past-first (record { before = c .before; if2 = w .0 }))) (l .inv .2) (w .1 .ensures) (w .5 ∙ later-better (l .best) (w .1 .result) (sym (w .2 .ensures) ∙ w .3 .taken)))
-          (λ w. run-next (s .args .g) (wide (now (s .args .table))) (s .args .x) (s .args .dimension) (from + 1) (l .bin) (omega (arith, past-first (record { before = c .before; if2 = w .0 }))) (l .inv .2) (w .1 .ensures) (w .5 ∙ earlier-better (l .best) (w .1 .result) (sym (w .2 .ensures) ∙ w .3 .left))))
+          (λ w. run-next (s .args .g) (wide (now (s .args .table))) (s .args .x) (s .args .dimension) (from + 1) (l .bin) (omega (arith, past-first (record { before = c .before; if2 = w .0 }))) (l .inv .2) (w .1 .ensures) (w .5 ∙ later-is-better (l .best) (w .1 .result) (sym (w .2 .ensures) ∙ w .3 .taken)))
+          (λ w. run-next (s .args .g) (wide (now (s .args .table))) (s .args .x) (s .args .dimension) (from + 1) (l .bin) (omega (arith, past-first (record { before = c .before; if2 = w .0 }))) (l .inv .2) (w .1 .ensures) (w .5 ∙ earlier-is-better (l .best) (w .1 .result) (sym (w .2 .ensures) ∙ w .3 .left))))
           (c .if2 .came),
       λ h.
           ⊎-elim
@@ -125,7 +125,7 @@ best-in-spec =
     loop-holds
     sums-before-requires
     position-at-requires
-    is-better-requires
+    later-wins-requires
     add-bin
     loop-less
     loop-again

@@ -1,19 +1,19 @@
--- `spread::better` meets its contract: by the question.
+-- `spread::better` meets its contract: by which wins.
 -- Assumes nothing.
 use mathlib.Core.Path.{sym, _∙_}
 use borrow.Author.Needs.{needs}
-use Rattle.spread.proofs.Choose.{later-better, earlier-better}
+use Rattle.spread.proofs.Choose.{later-is-better, earlier-is-better}
 use Rattle.spread.proofs.better.Statement.{statement}
 use Rattle.spread.proofs.better.Tie as tie
 
-is-better-requires : tie.Need-is-better-requires
-is-better-requires c κs = search needs
+later-wins-requires : tie.Need-later-wins-requires
+later-wins-requires c κs = search needs
 
 returns : tie.Need-returns
-returns c = later-better (c .before .before .args .earlier) (c .before .before .args .later) (sym (c .before .is-better .ensures) ∙ c .if1 .taken)
+returns c = later-is-better (c .before .before .args .earlier) (c .before .before .args .later) (sym (c .before .later-wins .ensures) ∙ c .if1 .taken)
 
 returns-2 : tie.Need-returns-2
-returns-2 c = earlier-better (c .before .before .args .earlier) (c .before .before .args .later) (sym (c .before .is-better .ensures) ∙ c .if1 .left)
+returns-2 c = earlier-is-better (c .before .before .args .earlier) (c .before .before .args .later) (sym (c .before .later-wins .ensures) ∙ c .if1 .left)
 
 pub better-spec : {M : Type 1} → statement M
-better-spec = tie.close (tie.spec is-better-requires returns returns-2)
+better-spec = tie.close (tie.spec later-wins-requires returns returns-2)
