@@ -89,8 +89,8 @@ module _ (g : Grid) (v : View) (x : Bounds) (d bin : ℕ) where
 -- ---- the better of two
 better-at : (a b : Position) {d i : ℕ} {s : Float} → better a b ≡ At d i s → (a ≡ At d i s) ⊎ (b ≡ At d i s)
 unfolding better laterWins
-better-at Nowhere b q = inr q
-better-at (At e k y) Nowhere q = inl q
+better-at a Nowhere q = inl q
+better-at Nowhere (At f l z) q = inr q
 better-at (At e k y) (At f l z) {d} {i} {s} q = go (lt z y) q
   where
     go : (t : Bool) → cond t (At f l z) (At e k y) ≡ At d i s → (At e k y ≡ At d i s) ⊎ (At f l z ≡ At d i s)
@@ -99,8 +99,8 @@ better-at (At e k y) (At f l z) {d} {i} {s} q = go (lt z y) q
 
 better-nowhere : (a b : Position) → better a b ≡ Nowhere → (a ≡ Nowhere) × (b ≡ Nowhere)
 unfolding better laterWins
-better-nowhere Nowhere b q = (refl, q)
-better-nowhere (At e k y) Nowhere q = never (sym q)
+better-nowhere a Nowhere q = (q, refl)
+better-nowhere Nowhere (At f l z) q = never (sym q)
 better-nowhere (At e k y) (At f l z) q = never (sym (go (lt z y) q))
   where
     go : (t : Bool) → cond t (At f l z) (At e k y) ≡ Nowhere → At e k y ≡ Nowhere
@@ -132,7 +132,7 @@ module _ (g : Grid) (v : View) (x : Bounds) (d first : ℕ) where
   run-all-none : (n : ℕ) → ((k : ℕ) → k < n → positionAt g v x d (first + k) ≡ Nowhere) → bestRun g v x d first n ≡ Nowhere
   unfolding bestRun better laterWins
   run-all-none zero h = refl
-  run-all-none (suc n) h = rw (run-all-none n (λ k l. h k (omega arith))) (h n (omega arith))
+  run-all-none (suc n) h = rw (run-all-none n (λ k l. h k (omega arith)), h n (omega arith)) refl
 
 -- ---- the best of a box
 module _ (g : Grid) (v : View) (x : Bounds) where
@@ -186,8 +186,7 @@ module _ (g : Grid) (v : View) (x : Bounds) where
   pub nowhere : ((d bin : ℕ) → d < 3 → minAt x d < bin → bin < maxAt x d → Split g v x d bin → ⊥) → bestCut g v x ≡ Nowhere
   unfolding bestCut better laterWins
   nowhere h =
-      rw (in-all-none 0 (λ b. h 0 b (omega arith)), in-all-none 1 (λ b. h 1 b (omega arith)))
-      (in-all-none 2 (λ b. h 2 b (omega arith)))
+      rw (in-all-none 0 (λ b. h 0 b (omega arith)), in-all-none 1 (λ b. h 1 b (omega arith)), in-all-none 2 (λ b. h 2 b (omega arith))) refl
 
 -- ---- "a box with two occupied bins has a position"
 module _ (g : Grid) (v : View) (x : Bounds) where

@@ -84,16 +84,16 @@ module _ {A B : ℕ → ℕ → Float → Type 0} (after : (e j d i : ℕ) (t s 
 
   wins-better : (a b : Position) → Wins A a → Wins B b → Wins Both (better a b)
   unfolding better laterWins
-  wins-better Nowhere b none w = wins-same (λ e j t y. inr y) back b w
-    where
-      back : (e j : ℕ) (t : Float) → Both e j t → B e j t
-      back e j t (inl z) = absurd (none e j t z)
-      back e j t (inr y) = y
-  wins-better (At d i s) Nowhere w none = wins-same (λ e j t y. inl y) back (At d i s) w
+  wins-better a Nowhere w none = wins-same (λ e j t y. inl y) back a w
     where
       back : (e j : ℕ) (t : Float) → Both e j t → A e j t
       back e j t (inl y) = y
       back e j t (inr z) = absurd (none e j t z)
+  wins-better Nowhere (At d i s) none w = wins-same (λ e j t y. inr y) back (At d i s) w
+    where
+      back : (e j : ℕ) (t : Float) → Both e j t → B e j t
+      back e j t (inl z) = absurd (none e j t z)
+      back e j t (inr y) = y
   wins-better (At d i s) (At e k t) w u = go (lt t s) refl
     where
       -- the later has a smaller score than all of the first's

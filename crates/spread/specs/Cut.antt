@@ -31,10 +31,10 @@ positionOf d bin low high =
 unfoldable pub positionAt : Grid → View → Bounds → ℕ → ℕ → Position
 positionAt g v x d bin = positionOf d bin (statsOf g v (lowSide x d bin)) (statsOf g v (highSide x d bin))
 
--- whether the later of two positions wins: where there is no earlier one, or with a smaller score
+-- whether the later of two positions wins: where it is the only one, or with a smaller score
 unfoldable pub laterWins : Position → Position → Bool
-laterWins Nowhere later = true
-laterWins (At d bin score) Nowhere = false
+laterWins earlier Nowhere = false
+laterWins Nowhere (At e other less) = true
 laterWins (At d bin score) (At e other less) = lt less score
 
 -- of two positions the earlier, unless the later has a smaller score

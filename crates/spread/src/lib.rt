@@ -106,18 +106,18 @@ pub fn position_between(dimension: u8, bin: u8, low: Stats, high: Stats) -> Posi
 fn later_wins(earlier: Position, later: Position) -> bool
     ensures { λ r. ⌜ r ≡ laterWins earlier later ⌝ }
 {
-    match earlier {
-        Position::Nowhere => true,
+    match later {
+        Position::Nowhere => false,
         Position::At {
             dimension: _,
             bin: _,
-            score: x,
-        } => match later {
-            Position::Nowhere => false,
+            score: y,
+        } => match earlier {
+            Position::Nowhere => true,
             Position::At {
                 dimension: _,
                 bin: _,
-                score: y,
+                score: x,
             } => y < x,
         },
     }

@@ -9,14 +9,14 @@ use Rattle.spread.proofs.later_wins.Tie as tie
 enum-told : tie.Need-enum-told
 enum-told c = search needs
 
-enum-known-earlier : tie.Need-enum-known-earlier
-enum-known-earlier c = search needs
+enum-known-later : tie.Need-enum-known-later
+enum-known-later c = search needs
 
 enum-told-2 : tie.Need-enum-told-2
 enum-told-2 c = search needs
 
-enum-known-later : tie.Need-enum-known-later
-enum-known-later c = search needs
+enum-known-earlier : tie.Need-enum-known-earlier
+enum-known-earlier c = search needs
 
 returns : tie.Need-returns
 unfolding laterWins
@@ -28,16 +28,16 @@ returns-2 c = search needs
 
 returns-3 : tie.Need-returns-3
 unfolding laterWins
-returns-3 c = sym (ap₂ laterWins (c .before .before .before .before .earlier .given .1) (c .before .later .given .1))
+returns-3 c = sym (ap₂ laterWins (c .before .earlier .given .1) (c .before .before .before .before .later .given .1))
 
 pub later-wins-spec : {M : Type 1} → statement M
 later-wins-spec =
     tie.close
     (tie.spec
     enum-told
-    enum-known-earlier
-    enum-told-2
     enum-known-later
+    enum-told-2
+    enum-known-earlier
     returns
     returns-2
     returns-3)
