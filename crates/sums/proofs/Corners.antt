@@ -3,7 +3,7 @@
 use mathlib.Core.Path.{_≡_, refl, sym, ap, _∙_}
 use mathlib.Core.List.{List}
 use Prim.Native.Nat.{ℕ, _+_, _-_, _^_, _≤_, _<_}
-use native.Mathlib.Nat.{zero-add, le-of-lt, lt-of-le-of-lt}
+use native.Mathlib.Nat.{zero-add, lt-of-le-of-lt}
 use native.Mathlib.Omega.{arith}
 use lib.Dec.{lit<}
 use lib.Ieee.{binary64, ofInt}
@@ -20,7 +20,7 @@ use Rattle.table.proofs.Cells.{Holds, list-holds, number-cell, cell-by, cell-fi
 use Rattle.table.proofs.Soundness.{Sound}
 use Rattle.sums.specs.declared.Bounds.{Bounds}
 use Rattle.sums.specs.declared.Stats.{Stats}
-use Rattle.sums.specs.Box.{minAt, maxAt, sum3, binSum, boxSum, boxCell, cellStats, statsOf, Spans, Within}
+use Rattle.sums.specs.Box.{minAt, maxAt, sum3, binSum, boxSum, boxCell, cellStats, statsOf, Within}
 use Rattle.sums.specs.Moments.{belowSum, momentsOf, binCell, Corner}
 use Rattle.sums.proofs.Boxes.{sum3-first, sum3-second, sum3-third}
 use Rattle.sums.proofs.Below.{moments-at, below-small}
@@ -143,30 +143,6 @@ sides w =
       two-fits = w .fits 1;
       three-fits = w .fits 2;
     }
-
--- a box that has some bins, or none
-pub record Edges (g : Grid) (x : Bounds) : Type 0 where
-  pub one : x .r0 ≤ x .r1
-  pub two : x .g0 ≤ x .g1
-  pub three : x .b0 ≤ x .b1
-  pub one-fits : x .r1 ≤ g .b1
-  pub two-fits : x .g1 ≤ g .b2
-  pub three-fits : x .b1 ≤ g .b3
-
-pub edges : {g : Grid} {x : Bounds} → Spans g x → Edges g x
-unfolding minAt maxAt sizeAt choose
-edges w =
-    record {
-      one = w .ordered 0;
-      two = w .ordered 1;
-      three = w .ordered 2;
-      one-fits = w .fits 0;
-      two-fits = w .fits 1;
-      three-fits = w .fits 2;
-    }
-
-pub within-spans : {g : Grid} {x : Bounds} → Within g x → Spans g x
-within-spans w = record { accepted = w .accepted; ordered = λ d. le-of-lt (w .some d); fits = w .fits }
 
 -- a box has no more than the bins below its ends
 pub box-below : (g : Grid) (v : View) (x : Bounds) (j : ℕ) → Sides g x → boxSum g v x j ≤ belowSum g v (x .r1) (x .g1) (x .b1) j

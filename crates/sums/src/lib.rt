@@ -13,7 +13,7 @@ ghost use lib.ListN.{length};
 ghost use Rattle.grid.specs.Grid.{binsOf, placeOf, Inside};
 ghost use Rattle.table.specs.Cell.{wide, wideList, putAt, TableOf};
 ghost use Rattle.table.specs.Sound.{limit, sound};
-ghost use Rattle.sums.specs.Box.{boxCell, cellStats, statsOf, Spans, Within};
+ghost use Rattle.sums.specs.Box.{boxCell, cellStats, statsOf, Within};
 ghost use Rattle.sums.specs.Moments.{momentsOf, momentCell, lineCell, binCell, Lent, Worked, Before, Ready, Corner};
 
 // A box: min inclusive, max exclusive, in each dimension (`Cube`).
@@ -177,7 +177,7 @@ fn slab(table: &[u64], work: &[u64], g: Grid, r: usize, x: Bounds) -> Cell
 
 // The five sums of a box, from the moments of its table (`volume`).
 pub fn box_cell(table: &[u64], work: &[u64], g: Grid, x: Bounds) -> Cell
-    requires { ⌜ Worked g (now table) (now work) × Spans g x ⌝ }
+    requires { ⌜ Worked g (now table) (now work) × Within g x ⌝ }
     ensures { λ c. ⌜ c ≡ boxCell g (wide (now (table .entry))) x ⌝ }
 {
     let upper = slab(table, work, g, x.r1 as usize, x);

@@ -2,13 +2,12 @@
 -- Assumes nothing.
 use mathlib.Core.Path.{_∙_}
 use borrow.Author.Needs.{needs}
-use Rattle.sums.proofs.Corners.{within-spans}
 use Rattle.spread.specs.Cut.{better, bestCut}
 use Rattle.spread.proofs.best_cut.Statement.{statement}
 use Rattle.spread.proofs.best_cut.Tie as tie
 
 box-cell-requires : tie.Need-box-cell-requires
-box-cell-requires c κs = (c .before .before .pre .0, within-spans (c .before .before .pre .1))
+box-cell-requires c κs = c .before .before .pre
 
 best-in-requires : tie.Need-best-in-requires
 best-in-requires c κs = (c .before .before .before .pre, c .box-cell .ensures)

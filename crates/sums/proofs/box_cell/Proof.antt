@@ -2,13 +2,13 @@
 -- Assumes nothing.
 use mathlib.Core.Path.{_≡_}
 use Prim.Native.Nat.{ℕ, _+_, _-_, _≤_}
-use native.Mathlib.Nat.{le-trans}
+use native.Mathlib.Nat.{le-trans, le-of-lt}
 use borrow.Author.Needs.{needs}
 use denote.Ref.{now}
 use Rattle.table.specs.Cell.{wide}
 use Rattle.sums.specs.Moments.{binCell}
 use Rattle.sums.specs.Box.{binSum, boxSum, boxCell}
-use Rattle.sums.proofs.Corners.{first-from, from-least, from-is, from-start, edges}
+use Rattle.sums.proofs.Corners.{first-from, from-least, from-is, from-start, sides}
 use Rattle.sums.proofs.box_cell.Statement.{statement}
 use Rattle.sums.proofs.box_cell.Tie as tie
 
@@ -25,14 +25,14 @@ cast-slab c = search needs
 slab-requires : tie.Need-slab-requires
 slab-requires c κs =
     let s = c .before .before .before in
-    let e = edges (s .pre .1) in
-    (record { worked = s .pre .0; one = e .one-fits; two = e .two-fits; three = e .three-fits }, e .two, e .three)
+    let e = sides (s .pre .1) in
+    (record { worked = s .pre .0; one = e .one-fits; two = e .two-fits; three = e .three-fits }, le-of-lt (e .two), le-of-lt (e .three))
 
 returns : tie.Need-returns
 unfolding binCell boxCell boxSum
 returns c =
     let s = c .before .before .before .before .before .before in
-    from-start (planes s) (split s) (edges (s .pre .1) .one) (c .before .before .slab .ensures) (c .if1 .taken)
+    from-start (planes s) (split s) (le-of-lt (sides (s .pre .1) .one)) (c .before .before .slab .ensures) (c .if1 .taken)
 
 cast-slab-2 : tie.Need-cast-slab-2
 cast-slab-2 c = search needs
@@ -40,20 +40,20 @@ cast-slab-2 c = search needs
 slab-requires-2 : tie.Need-slab-requires-2
 slab-requires-2 c κs =
     let s = c .before .before .before .before .before .before .before in
-    let e = edges (s .pre .1) in
-    (record { worked = s .pre .0; one = le-trans (e .one) (e .one-fits); two = e .two-fits; three = e .three-fits }, e .two, e .three)
+    let e = sides (s .pre .1) in
+    (record { worked = s .pre .0; one = le-trans (le-of-lt (e .one)) (e .one-fits); two = e .two-fits; three = e .three-fits }, le-of-lt (e .two), le-of-lt (e .three))
 
 minus-requires : tie.Need-minus-requires
 unfolding binCell
 minus-requires c κs =
     let s = c .before .before .before .before .before .before .before .before in
-    from-least (planes s) (split s) (edges (s .pre .1) .one) (c .before .before .before .before .slab .ensures) (c .slab2 .ensures)
+    from-least (planes s) (split s) (le-of-lt (sides (s .pre .1) .one)) (c .before .before .before .before .slab .ensures) (c .slab2 .ensures)
 
 returns-2 : tie.Need-returns-2
 unfolding binCell boxCell boxSum
 returns-2 c =
     let s = c .before .before .before .before .before .before .before .before .before in
-    from-is (planes s) (split s) (edges (s .pre .1) .one) (c .before .before .before .before .before .slab .ensures) (c .before .slab2 .ensures) (c .minus .ensures)
+    from-is (planes s) (split s) (le-of-lt (sides (s .pre .1) .one)) (c .before .before .before .before .before .slab .ensures) (c .before .slab2 .ensures) (c .minus .ensures)
 
 pub box-cell-spec : {M : Type 1} → statement M
 box-cell-spec =

@@ -130,7 +130,7 @@ fn slips() -> Vec<Case> {
             3,
             &negative,
         ),
-        whole("slip: a falsely positive spread exact", CUBE, 3, &positive),
+        whole("slip: a falsely positive spread", CUBE, 3, &positive),
         whole("slip: sums of 32 bits", CUBE, 2, &wide),
         whole("slip: half a batch", CUBE, 4, &late).in_loads(&[1, 3], false),
         whole("slip: half a merge", CUBE, 4, &late).in_loads(&[1, 3], true),
