@@ -14,7 +14,7 @@ use Rattle.grid.specs.declared.Chosen.the-variants as chosen
 use Rattle.grid.specs.Answer.{refuse, whenDone}
 use Rattle.grid.specs.Grid.{gridOf, onGrid, binsOf}
 use Rattle.grid.proofs.Range.{and-left, and-right}
-use Rattle.grid.proofs.Ends.{passed}
+use Rattle.grid.proofs.Ends.{refused-keeps, passed}
 use Rattle.table.specs.Cell.{wide}
 use Rattle.table.specs.Sound.{limit, total, sound}
 use Rattle.rounds.specs.Loop.{boxesOf}
@@ -122,12 +122,8 @@ module _ (b1 b2 b3 k : ℕ) (t : List ℕ) (b : Buffers) where
 
   module _ {g : Grid} (e : gridOf b1 b2 b3 ≡ chosen.Of g) where
     pub cut-refused : {n : ℕ} → n ≡ cutNumberOn limit g k t (lengthsOf b) → (n ≡ 0 → ⊥) → {r : CutRecord} → r ≡ refusedRecord n → Ends r b
-    unfolding cutRecord cutLater recordOn onGrid whenDone
-    cut-refused {n} p h {r} q = (q ∙ rw (e, ← p) (kept n h (refusedRecord n) _), rw (e, ← p) (kept n h b _))
-      where
-        kept : {A : Type 0} (n : ℕ) → (n ≡ 0 → ⊥) → (x y : A) → x ≡ whenDone n y x
-        kept zero h x y = absurd (h refl)
-        kept (suc n) h x y = refl
+    unfolding cutRecord cutLater recordOn onGrid
+    cut-refused {n} p h {r} q = (q ∙ rw (e, ← p) (refused-keeps n h (refusedRecord n) _), rw (e, ← p) (refused-keeps n h b _))
 
     pub cut-done : cutNumberOn limit g k t (lengthsOf b) ≡ 0 → {r : CutRecord} → r ≡ doneRecord (boxesOf g (wide t) k) → {l : Buffers} → l ≡ laterOn g k t b → Ends r l
     unfolding cutRecord cutLater recordOn onGrid whenDone

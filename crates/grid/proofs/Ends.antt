@@ -26,6 +26,12 @@ module _ {A : Type 0} (c : Chosen) (f : Grid → ℕ) (done : Grid → A) (kept 
   unfolding numberOn onGrid
   ends p q r = (rw (p, q) refl, rw (p, q, r) refl)
 
+-- a call that gives another number than 0 leaves what was there
+pub refused-keeps : {A : Type 0} (n : ℕ) → (n ≡ 0 → ⊥) → (kept done : A) → kept ≡ whenDone n done kept
+unfolding whenDone
+refused-keeps zero h kept done = absurd (h refl)
+refused-keeps (suc n) h kept done = refl
+
 -- ---- what its number tells
 -- a test that did not refuse
 pub passed : (b : Bool) (n rest : ℕ) → refuse b (suc n) rest ≡ 0 → (b ≡ false) × (rest ≡ 0)

@@ -14,7 +14,7 @@ use Rattle.grid.specs.declared.Chosen.the-variants as chosen
 use Rattle.grid.specs.Answer.{refuse}
 use Rattle.grid.specs.Grid.{gridOf, numberOn, binsOf}
 use Rattle.grid.proofs.Range.{and-left, and-right}
-use Rattle.mapper.specs.Band.{indexAt, among, allBelow}
+use Rattle.mapper.specs.Band.{indexAt, among, allBelow, bandNumber}
 use Rattle.mapper.specs.Map.{mapNumberOn, mapNumber, mapLater}
 use Rattle.mapper.specs.Bands.{Band, mapBands, allInside, covered}
 use Rattle.mapper.proofs.Band.{band-at}
@@ -39,7 +39,7 @@ module _ (b1 b2 b3 : ℕ) (map : List ℕ) (colours : ℕ) (frame : List ℕ) wh
 
   -- every band inside the frame has the same number, with any buffer of the same length
   pub number-on-same : (g : Grid) (old new : List ℕ) (first pixels first' pixels' : ℕ) → length old ≡ length new → first + pixels ≤ size → first' + pixels' ≤ size → mapNumberOn g map colours frame old first pixels ≡ mapNumberOn g map colours frame new first' pixels'
-  unfolding mapNumberOn
+  unfolding mapNumberOn bandNumber
   number-on-same g old new first pixels first' pixels' long a b =
       λ t.
       refuse (not (eqb (length frame % 3) 0)) 3

@@ -2,38 +2,27 @@
 -- band has its indices, each below the palette's length, or the palette's colours at them.
 -- Assumes nothing.
 use mathlib.Core.Path.{_≡_, refl, sym, ap, _∙_}
-use mathlib.Core.Bool.{Bool, true, false, not, true≢false}
+use mathlib.Core.Bool.{true, false}
 use mathlib.Core.List.{List}
 use Prim.Native.Nat.{ℕ, zero, suc, _+_, _*_, _/_, _%_, _≤_, _<_}
 use native.Mathlib.Omega.{arith}
-use borrow.Author.Tests.{eqb-true, eqb-false, leb-true, ltb-false, not-false, eq-eqb, le-leb, le-ltb}
-use lib.Dec.{leb, eqb}
+use borrow.Author.Tests.{eqb-true, eq-eqb}
+use lib.Dec.{eqb}
 use lib.ListN.{length, getD}
 use Rattle.grid.specs.declared.Grid.{Grid}
 use Rattle.grid.specs.declared.Chosen.the-variants as chosen
-use Rattle.grid.specs.Answer.{refuse, whenDone}
+use Rattle.grid.specs.Answer.{whenDone}
 use Rattle.grid.specs.declared.Chosen.{Chosen}
 use Rattle.grid.specs.Grid.{gridOf, gridAnswer, onGrid, numberOn, binsOf}
-use Rattle.grid.proofs.Range.{and-left, and-right}
-use Rattle.grid.proofs.Ends.{passed, call-refused, call-done, same-length}
+use Rattle.grid.proofs.Ends.{call-refused, call-done, same-length}
 use Rattle.mapper.specs.Band.{indexAt, among, writeBand, allBelow}
 use Rattle.mapper.specs.Map.{mapNumberOn, mapNumber, mapLater}
 use Rattle.mapper.specs.Paint.{paintAt, paintNumberOn, paintNumber, paintLater}
 use Rattle.mapper.proofs.Band.{band-length, band-within, band-kept}
 use Rattle.mapper.proofs.Below.{entry-below}
 use Rattle.mapper.proofs.Pixels.{paint-byte}
+use Rattle.mapper.proofs.Numbers.{band-passed, band-accepted, band-not-9}
 use Rattle.mapper.proofs.Calls.{map-ends, paint-ends}
-
--- a test that gives another number than 9, and a last one that does not refuse
-past : (b : Bool) (n rest : ℕ) → refuse b n rest ≡ 9 → eqb n 9 ≡ false → rest ≡ 9
-unfolding refuse
-past true n rest e other = absurd (eqb-false n 9 other e)
-past false n rest e other = e
-
-no-9 : (b : Bool) → b ≡ true → refuse (not b) 9 0 ≡ 9 → ⊥
-unfolding refuse
-no-9 true below e = omega arith
-no-9 false below e = true≢false (sym below)
 
 -- ---- map
 module _ (b1 b2 b3 : ℕ) (map : List ℕ) (colours : ℕ) (frame indices : List ℕ) (first pixels : ℕ) where
@@ -66,23 +55,18 @@ module _ (b1 b2 b3 : ℕ) (map : List ℕ) (colours : ℕ) (frame indices : List
   unfolding mapNumber mapLater mapNumberOn
   map-says e =
       let c = call-done (gridOf b1 b2 b3) (λ g. mapNumberOn g map colours frame indices first pixels) (λ g. writeBand first pixels (indexAt g map frame) indices) indices e in
-      let threes = passed _ 2 _ (c .number) in
-      let lent = passed _ 4 _ (threes .1) in
-      let few = passed _ 4 _ (lent .1) in
-      let one-each = passed _ 4 _ (few .1) in
-      let inside = passed _ 4 _ (one-each .1) in
-      let last = passed _ 8 0 (inside .1) in
+      let p = band-passed (c .g) map colours (eqb (length indices) (length frame / 3)) (length frame) first pixels (c .number) in
       record {
         g = c .g;
         chosen = c .is;
         number-on = c .number;
-        threes = eqb-true (length frame % 3) 0 (not-false _ (threes .0));
-        lent = eqb-true (length map) (binsOf (c .g)) (not-false _ (lent .0));
-        some = leb-true 1 colours (and-left (leb 1 colours) (leb colours 256) (not-false _ (few .0)));
-        few = leb-true colours 256 (and-right (leb 1 colours) (leb colours 256) (not-false _ (few .0)));
-        one-each = eqb-true (length indices) (length frame / 3) (not-false _ (one-each .0));
-        inside = ltb-false (length frame / 3) (first + pixels) (inside .0);
-        below = not-false _ (last .0);
+        threes = p .threes;
+        lent = p .lent;
+        some = p .some;
+        few = p .few;
+        one-each = eqb-true (length indices) (length frame / 3) (p .is-right);
+        inside = p .inside;
+        below = p .below;
         writes = c .later;
       }
 
@@ -93,14 +77,16 @@ module _ (b1 b2 b3 : ℕ) (map : List ℕ) (colours : ℕ) (frame indices : List
 
   -- by its tests: "none is given otherwise"
   pub map-accepts : {g : Grid} → gridOf b1 b2 b3 ≡ chosen.Of g → length frame % 3 ≡ 0 → length map ≡ binsOf g → 1 ≤ colours → colours ≤ 256 → length indices ≡ length frame / 3 → first + pixels ≤ length frame / 3 → allBelow colours map ≡ true → (number ≡ 0) × (later ≡ writeBand first pixels (indexAt g map frame) indices)
-  unfolding mapNumberOn refuse
-  map-accepts e threes lent some few one-each inside below =
-      map-done e (simp (eq-eqb _ _ threes, eq-eqb _ _ lent, le-leb _ _ some, le-leb _ _ few, eq-eqb _ _ one-each, le-ltb _ _ inside, below))
+  unfolding mapNumberOn
+  map-accepts {g} e threes lent some few one-each inside below =
+      map-done e
+      (band-accepted g map colours (eqb (length indices) (length frame / 3)) (length frame) first pixels
+      (record { threes = threes; lent = lent; some = some; few = few; is-right = eq-eqb _ _ one-each; inside = inside; below = below }))
 
   -- 9 is given for an entry that is not below the palette's length, and for nothing else
   pub map-not-9 : allBelow colours map ≡ true → number ≡ 9 → ⊥
   unfolding mapNumber mapNumberOn numberOn onGrid gridAnswer
-  map-not-9 below = go (gridOf b1 b2 b3) (λ g e. no-9 (allBelow colours map) below (past _ 5 _ (past _ 5 _ (past _ 5 _ (past _ 5 _ (past _ 3 _ e refl) refl) refl) refl) refl))
+  map-not-9 below = go (gridOf b1 b2 b3) (λ g. band-not-9 g map colours (eqb (length indices) (length frame / 3)) (length frame) first pixels below)
     where
       go : (c : Chosen) → ((g : Grid) → mapNumberOn g map colours frame indices first pixels ≡ 9 → ⊥) → numberOn c (λ g. mapNumberOn g map colours frame indices first pixels) ≡ 9 → ⊥
       go (chosen.Of g) on e = on g e
@@ -164,33 +150,28 @@ module _ (b1 b2 b3 : ℕ) (map palette frame : List ℕ) (first pixels : ℕ) wh
   unfolding paintNumber paintLater paintNumberOn
   paint-says e =
       let c = call-done (gridOf b1 b2 b3) (λ g. paintNumberOn g map palette frame first pixels) (λ g. writeBand (3 * first) (3 * pixels) (paintAt g map palette frame) frame) frame e in
-      let threes = passed _ 2 _ (c .number) in
-      let lent = passed _ 4 _ (threes .1) in
-      let size = passed _ 4 _ (lent .1) in
-      let whole = passed _ 4 _ (size .1) in
-      let inside = passed _ 4 _ (whole .1) in
-      let last = passed _ 8 0 (inside .1) in
-      let low : Bool = leb 3 (length palette) in
-      let high : Bool = leb (length palette) 768 in
+      let p = band-passed (c .g) map (length palette / 3) (eqb (length palette % 3) 0) (length frame) first pixels (c .number) in
+      let whole : length palette % 3 ≡ 0 = eqb-true (length palette % 3) 0 (p .is-right) in
       record {
         g = c .g;
         chosen = c .is;
-        threes = eqb-true (length frame % 3) 0 (not-false _ (threes .0));
-        lent = eqb-true (length map) (binsOf (c .g)) (not-false _ (lent .0));
-        some = leb-true 3 (length palette) (and-left low high (not-false _ (size .0)));
-        few = leb-true (length palette) 768 (and-right low high (not-false _ (size .0)));
-        whole = eqb-true (length palette % 3) 0 (not-false _ (whole .0));
-        inside = ltb-false (length frame / 3) (first + pixels) (inside .0);
-        below = not-false _ (last .0);
+        threes = p .threes;
+        lent = p .lent;
+        some = omega (arith, p .some);
+        few = omega (arith, p .few, whole);
+        whole = whole;
+        inside = p .inside;
+        below = p .below;
         writes = c .later;
       }
 
   -- and the other way round: "none is given otherwise"
   pub paint-accepts : {g : Grid} → gridOf b1 b2 b3 ≡ chosen.Of g → length frame % 3 ≡ 0 → length map ≡ binsOf g → 3 ≤ length palette → length palette ≤ 768 → length palette % 3 ≡ 0 → first + pixels ≤ length frame / 3 → allBelow (length palette / 3) map ≡ true → (paint-number ≡ 0) × (paint-later ≡ writeBand (3 * first) (3 * pixels) (paintAt g map palette frame) frame)
-  unfolding paintNumberOn refuse whenDone
-  paint-accepts e threes lent some few whole inside below =
+  unfolding paintNumberOn whenDone
+  paint-accepts {g} e threes lent some few whole inside below =
       let ends = paint-ends b1 b2 b3 map palette frame first pixels e {n = 0}
-      (simp (eq-eqb _ _ threes, eq-eqb _ _ lent, le-leb _ _ some, le-leb _ _ few, eq-eqb _ _ whole, le-ltb _ _ inside, below)) refl in
+      (band-accepted g map (length palette / 3) (eqb (length palette % 3) 0) (length frame) first pixels
+      (record { threes = threes; lent = lent; some = omega (arith, some); few = omega (arith, few); is-right = eq-eqb _ _ whole; inside = inside; below = below })) refl in
       (sym (ends .0), sym (ends .1))
 
   pub paint-length : length paint-later ≡ length frame

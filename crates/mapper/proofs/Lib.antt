@@ -2,6 +2,7 @@ pub mod Below
 pub mod Band
 pub mod Pixels
 pub mod Runs
+pub mod Numbers
 pub mod Calls
 pub mod Laws
 pub mod Bands

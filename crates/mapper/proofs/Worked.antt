@@ -8,7 +8,7 @@ use Rattle.grid.specs.Answer.{refuse, whenDone}
 use Rattle.grid.specs.Range.{listFrom, allFrom}
 use Rattle.grid.specs.Size.{choices, shiftIn, shiftOf, binOf}
 use Rattle.grid.specs.Grid.{gridWith, gridOf, gridAnswer, onGrid, numberOn, binsOf, placeOf, colourPlace, colourAt}
-use Rattle.mapper.specs.Band.{indexAt, among, writeBand, allBelow}
+use Rattle.mapper.specs.Band.{indexAt, among, writeBand, allBelow, bandNumber}
 use Rattle.mapper.specs.Map.{mapNumberOn, mapNumber, mapLater}
 use Rattle.mapper.specs.Paint.{paintAt, paintNumberOn, paintNumber, paintLater}
 
@@ -72,7 +72,7 @@ mappings =
     ∷ []
 
 worked-map : map maps mappings ≡ map (λ c. c .expected) mappings
-unfolding pixels3 nines maps places mappings refuse whenDone listFrom allFrom choices shiftIn shiftOf binOf gridWith gridOf gridAnswer onGrid numberOn binsOf placeOf colourPlace colourAt indexAt among writeBand allBelow mapNumberOn mapNumber mapLater
+unfolding pixels3 nines maps places mappings refuse whenDone listFrom allFrom choices shiftIn shiftOf binOf gridWith gridOf gridAnswer onGrid numberOn binsOf placeOf colourPlace colourAt indexAt among writeBand allBelow bandNumber mapNumberOn mapNumber mapLater
 worked-map = refl
 
 -- ---- paint
@@ -115,5 +115,5 @@ paintings =
     ∷ []
 
 worked-paint : map paints paintings ≡ map (λ c. c .expected) paintings
-unfolding pixels3 halves paints two paintings refuse whenDone listFrom allFrom choices shiftIn shiftOf binOf gridWith gridOf gridAnswer onGrid numberOn binsOf placeOf colourPlace colourAt indexAt among writeBand allBelow paintAt paintNumberOn paintNumber paintLater
+unfolding pixels3 halves paints two paintings refuse whenDone listFrom allFrom choices shiftIn shiftOf binOf gridWith gridOf gridAnswer onGrid numberOn binsOf placeOf colourPlace colourAt indexAt among writeBand allBelow bandNumber paintAt paintNumberOn paintNumber paintLater
 worked-paint = refl

@@ -1,11 +1,12 @@
 -- What mapping and painting a band have in common (document 01, "Map and paint" and "Numbers a caller gets back"). Definitions only.
 use mathlib.Core.Path.{_≡_}
-use mathlib.Core.Bool.{Bool, _&&_, cond}
+use mathlib.Core.Bool.{Bool, not, _&&_, cond}
 use mathlib.Core.List.{List}
-use Prim.Native.Nat.{ℕ, _+_}
-use lib.Dec.{leb, ltb}
+use Prim.Native.Nat.{ℕ, _+_, _/_, _%_}
+use lib.Dec.{eqb, leb, ltb}
 use lib.ListN.{length, getD}
 use Rattle.grid.specs.declared.Grid.{Grid}
+use Rattle.grid.specs.Answer.{refuse}
 use Rattle.grid.specs.Range.{listFrom, allFrom}
 use Rattle.grid.specs.Grid.{binsOf, colourAt, colourPlace, stepsOf, Accepted}
 
@@ -24,6 +25,17 @@ writeBand first n f old = listFrom 0 (length old) (λ i. cond (among first n i) 
 -- every entry of the map is below the palette's length: "Answer 9 looks at every entry of the map, used by the band or not"
 unfoldable pub allBelow : ℕ → List ℕ → Bool
 allBelow colours map = allFrom 0 (length map) (λ p. ltb (getD map p 0) colours)
+
+-- the number of a band on an accepted grid, with a palette of some colours: "map exactly bins", a palette's length "in
+-- colours, and anything outside 1..256 gives 5", "a band reaches past the frame". What else a call is lent is right or not
+unfoldable pub bandNumber : Grid → List ℕ → ℕ → Bool → ℕ → ℕ → ℕ → ℕ
+bandNumber g map colours right bytes first pixels =
+    refuse (not (eqb (bytes % 3) 0)) 3
+    (refuse (not (eqb (length map) (binsOf g))) 5
+    (refuse (not (leb 1 colours && leb colours 256)) 5
+    (refuse (not right) 5
+    (refuse (ltb (bytes / 3) (first + pixels)) 5
+    (refuse (not (allBelow colours map)) 9 0)))))
 
 -- a map of an accepted grid: "map exactly bins"
 pub record MapOf (g : Grid) (map : List ℕ) : Type 0 where

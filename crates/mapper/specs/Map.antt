@@ -1,24 +1,17 @@
 -- Mapping a band (document 01, "Map and paint" and "Numbers a caller gets back"). Definitions only.
-use mathlib.Core.Bool.{not, _&&_}
 use mathlib.Core.List.{List}
-use Prim.Native.Nat.{ℕ, _+_, _/_, _%_}
-use lib.Dec.{eqb, leb, ltb}
+use Prim.Native.Nat.{ℕ, _/_}
+use lib.Dec.{eqb}
 use lib.ListN.{length}
 use Rattle.grid.specs.declared.Grid.{Grid}
-use Rattle.grid.specs.Answer.{refuse, whenDone}
-use Rattle.grid.specs.Grid.{gridOf, onGrid, numberOn, binsOf}
-use Rattle.mapper.specs.Band.{indexAt, writeBand, allBelow}
+use Rattle.grid.specs.Answer.{whenDone}
+use Rattle.grid.specs.Grid.{gridOf, onGrid, numberOn}
+use Rattle.mapper.specs.Band.{indexAt, writeBand, bandNumber}
 
--- the number of a mapping on an accepted grid: "map exactly bins", the palette's length "in colours, and anything outside
--- 1..256 gives 5", "index buffer exactly one byte per frame pixel", "a band reaches past the frame"
+-- the number of a mapping on an accepted grid: "index buffer exactly one byte per frame pixel"
 unfoldable pub mapNumberOn : Grid → List ℕ → ℕ → List ℕ → List ℕ → ℕ → ℕ → ℕ
 mapNumberOn g map colours frame indices first pixels =
-    refuse (not (eqb (length frame % 3) 0)) 3
-    (refuse (not (eqb (length map) (binsOf g))) 5
-    (refuse (not (leb 1 colours && leb colours 256)) 5
-    (refuse (not (eqb (length indices) (length frame / 3))) 5
-    (refuse (ltb (length frame / 3) (first + pixels)) 5
-    (refuse (not (allBelow colours map)) 9 0)))))
+    bandNumber g map colours (eqb (length indices) (length frame / 3)) (length frame) first pixels
 
 unfoldable pub mapNumber : ℕ → ℕ → ℕ → List ℕ → ℕ → List ℕ → List ℕ → ℕ → ℕ → ℕ
 mapNumber b1 b2 b3 map colours frame indices first pixels =

@@ -1,14 +1,14 @@
 -- Painting a band (document 01, "Map and paint" and "Numbers a caller gets back"). Definitions only.
 use mathlib.Core.Path.{_≡_}
-use mathlib.Core.Bool.{true, not, _&&_}
+use mathlib.Core.Bool.{true}
 use mathlib.Core.List.{List}
 use Prim.Native.Nat.{ℕ, _+_, _*_, _/_, _%_, _≤_}
-use lib.Dec.{eqb, leb, ltb}
+use lib.Dec.{eqb}
 use lib.ListN.{length, getD}
 use Rattle.grid.specs.declared.Grid.{Grid}
-use Rattle.grid.specs.Answer.{refuse, whenDone}
-use Rattle.grid.specs.Grid.{gridOf, onGrid, numberOn, binsOf}
-use Rattle.mapper.specs.Band.{indexAt, writeBand, allBelow, MapOf}
+use Rattle.grid.specs.Answer.{whenDone}
+use Rattle.grid.specs.Grid.{gridOf, onGrid, numberOn}
+use Rattle.mapper.specs.Band.{indexAt, writeBand, allBelow, bandNumber, MapOf}
 
 -- byte j of a painted frame, which is byte j % 3 of pixel j / 3: that byte of the palette's colour at the pixel's index
 unfoldable pub paintAt : Grid → List ℕ → List ℕ → List ℕ → ℕ → ℕ
@@ -24,12 +24,7 @@ pub record Fits (g : Grid) (map palette : List ℕ) : Type 0 where
 -- the number of a painting on an accepted grid: "the palette for painting 3..768 bytes, a multiple of three"
 unfoldable pub paintNumberOn : Grid → List ℕ → List ℕ → List ℕ → ℕ → ℕ → ℕ
 paintNumberOn g map palette frame first pixels =
-    refuse (not (eqb (length frame % 3) 0)) 3
-    (refuse (not (eqb (length map) (binsOf g))) 5
-    (refuse (not (leb 3 (length palette) && leb (length palette) 768)) 5
-    (refuse (not (eqb (length palette % 3) 0)) 5
-    (refuse (ltb (length frame / 3) (first + pixels)) 5
-    (refuse (not (allBelow (length palette / 3) map)) 9 0)))))
+    bandNumber g map (length palette / 3) (eqb (length palette % 3) 0) (length frame) first pixels
 
 unfoldable pub paintNumber : ℕ → ℕ → ℕ → List ℕ → List ℕ → List ℕ → ℕ → ℕ → ℕ
 paintNumber b1 b2 b3 map palette frame first pixels =

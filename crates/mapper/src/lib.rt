@@ -13,8 +13,8 @@ ghost use Prim.Native.Nat.{ℕ, _+_, _*_, _/_, _%_, _≤_, _<_};
 ghost use lib.Dec.{ltb};
 ghost use lib.ListN.{length, getD};
 ghost use Rattle.grid.specs.Range.{listFrom};
-ghost use Rattle.grid.specs.Grid.{colourPlace, componentAt};
-ghost use Rattle.mapper.specs.Band.{indexAt, writeBand, allBelow, MapOf, Lookup};
+ghost use Rattle.grid.specs.Grid.{colourPlace, componentAt, Accepted};
+ghost use Rattle.mapper.specs.Band.{indexAt, writeBand, allBelow, bandNumber, MapOf, Lookup};
 ghost use Rattle.mapper.specs.Map.{mapNumber, mapLater};
 ghost use Rattle.mapper.specs.Paint.{paintAt, Fits, paintNumber, paintLater};
 ghost use Rattle.mapper.specs.Packed.{unpacked, fillAt, packedAt, Packed};
@@ -62,6 +62,44 @@ fn reaches_past(n: usize, first: usize, pixels: usize) -> bool
         return true;
     }
     n - first < pixels
+}
+
+// The number of a band of a frame of some bytes, with a palette of some colours. What else the call is lent is right or
+// not.
+fn band_number(
+    g: Grid,
+    map: &[u8],
+    colours: usize,
+    right: bool,
+    bytes: usize,
+    first: usize,
+    pixels: usize,
+) -> u8
+    requires { ⌜ Accepted g ⌝ }
+    ensures { λ r. ⌜ r ≡ bandNumber g (now (map .entry)) colours right bytes first pixels ⌝ }
+{
+    if bytes % 3 != 0 {
+        return 3;
+    }
+    if map.len() != bins(g) {
+        return 5;
+    }
+    if colours < 1 {
+        return 5;
+    }
+    if 256 < colours {
+        return 5;
+    }
+    if !right {
+        return 5;
+    }
+    if reaches_past(bytes / 3, first, pixels) {
+        return 5;
+    }
+    if colours <= largest(map) as usize {
+        return 9;
+    }
+    0
 }
 
 // ---- Mapping
@@ -221,27 +259,10 @@ pub fn map(
     let Chosen::Of(g) = grid_of(b1, b2, b3) else {
         return 1;
     };
-    if frame.len() % 3 != 0 {
-        return 3;
-    }
-    let n = frame.len() / 3;
-    if map.len() != bins(g) {
-        return 5;
-    }
-    if colours < 1 {
-        return 5;
-    }
-    if 256 < colours {
-        return 5;
-    }
-    if indices.len() != n {
-        return 5;
-    }
-    if reaches_past(n, first, pixels) {
-        return 5;
-    }
-    if colours <= largest(map) as usize {
-        return 9;
+    let one_each = indices.len() == frame.len() / 3;
+    let number = band_number(g, map, colours, one_each, frame.len(), first, pixels);
+    if number != 0 {
+        return number;
     }
     map_band(g, map, frame, indices, first, pixels);
     0
@@ -425,26 +446,11 @@ pub fn paint(
     let Chosen::Of(g) = grid_of(b1, b2, b3) else {
         return 1;
     };
-    if frame.len() % 3 != 0 {
-        return 3;
-    }
-    if map.len() != bins(g) {
-        return 5;
-    }
-    if palette.len() < 3 {
-        return 5;
-    }
-    if 768 < palette.len() {
-        return 5;
-    }
-    if palette.len() % 3 != 0 {
-        return 5;
-    }
-    if reaches_past(frame.len() / 3, first, pixels) {
-        return 5;
-    }
-    if palette.len() / 3 <= largest(map) as usize {
-        return 9;
+    let colours = palette.len() / 3;
+    let whole = palette.len() % 3 == 0;
+    let number = band_number(g, map, colours, whole, frame.len(), first, pixels);
+    if number != 0 {
+        return number;
     }
     paint_band(g, map, palette, frame, first, pixels);
     0

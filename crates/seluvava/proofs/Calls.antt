@@ -15,7 +15,7 @@ use Rattle.grid.specs.Answer.{refuse, whenDone}
 use Rattle.grid.specs.Grid.{gridOf, gridAnswer, onGrid, numberOn, binsOf}
 use Rattle.grid.proofs.Places.{chose, bins-high}
 use Rattle.grid.proofs.Range.{and-left, and-right}
-use Rattle.grid.proofs.Ends.{passed}
+use Rattle.grid.proofs.Ends.{refused-keeps, passed}
 use Rattle.cutter.specs.declared.CutRecord.{CutRecord}
 use Rattle.cutter.specs.Fronts.{filled}
 use Rattle.cutter.specs.Cut.{Buffers, refusedRecord, cutRecord, cutLater}
@@ -108,11 +108,6 @@ roomy b1 b2 b3 k boxes spreads = go (gridOf b1 b2 b3)
     go (chosen.Of g) e = roomy-on k boxes spreads e
     go chosen.Refused e = absurd (never e)
 
-kept : {A : Type 0} (n : ℕ) → (n ≡ 0 → ⊥) → (x y : A) → x ≡ whenDone n y x
-unfolding whenDone
-kept zero h x y = absurd (h refl)
-kept (suc n) h x y = refl
-
 -- ---- the call: what it answers, and what it leaves behind
 module _ (b1 b2 b3 k : ℕ) (t : List ℕ) (l : Lent) where
   abbrev Ends : CutAnswer → Lent → Type 0
@@ -128,8 +123,8 @@ module _ (b1 b2 b3 k : ℕ) (t : List ℕ) (l : Lent) where
     pub call-refused : (n ≡ 0 → ⊥) → Ends (record { number = n; boxes = 0 }) l
     unfolding cutAnswer callRecord callLater answerOf refusedRecord
     call-refused h = (
-      ap answerOf (kept n h (refusedRecord n) _) ∙ ap (λ (m : ℕ). answerOf (whenDone m (cutRecord b1 b2 b3 k t (l .buffers)) (refusedRecord m))) e,
-      kept n h l cut ∙ ap (λ (m : ℕ). whenDone m cut l) e,
+      ap answerOf (refused-keeps n h (refusedRecord n) _) ∙ ap (λ (m : ℕ). answerOf (whenDone m (cutRecord b1 b2 b3 k t (l .buffers)) (refusedRecord m))) e,
+      refused-keeps n h l cut ∙ ap (λ (m : ℕ). whenDone m cut l) e,
     )
 
     pub call-done : n ≡ 0 → {r : CutRecord} → r ≡ cutRecord b1 b2 b3 k t (l .buffers) → {b : Buffers} {boxes : List ℕ} {spreads : List Float} → b ≡ cutLater b1 b2 b3 k t (l .buffers) → boxes ≡ filled 6 boxBytes (told r) (l .boxes) → spreads ≡ filled 1 spreadOf (told r) (l .spreads) → Ends (record { number = r .number; boxes = r .boxes }) (lent b boxes spreads)
