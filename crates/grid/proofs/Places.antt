@@ -3,7 +3,7 @@
 use mathlib.Core.Path.{_≡_, refl, sym, ap, subst, _∙_}
 use mathlib.Core.List.{List}
 use Prim.Native.Nat.{ℕ, zero, suc, _+_, _*_, _/_, _%_, _≤_, _<_}
-use native.Mathlib.Nat.{add-zero, mul-le-mul, div-lt-iff-lt-mul, mod-lt, div-add-mod', add-mul, mul-assoc, mul-one, zero-add, lt-of-lt-of-le}
+use native.Mathlib.Nat.{add-zero, mul-le-mul, div-lt-iff-lt-mul, mod-lt, div-add-mod', add-mul, mul-assoc, mul-one, zero-add}
 use native.Mathlib.Omega.{arith}
 use lib.Arith.{digits-lt, digits-div, digits-mod}
 use lib.ListN.{getD}

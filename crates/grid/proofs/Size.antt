@@ -1,4 +1,4 @@
--- Facts of a size, once over the shift: "size · 2^shift = 256" gives them all.
+-- Facts of a size, once over the shift: size · 2^shift = 256 gives them all.
 -- Assumes nothing.
 use mathlib.Core.Path.{_≡_, refl, sym, ap, _∙_}
 use mathlib.Core.Bool.{Bool, true, false, cond, _&&_}

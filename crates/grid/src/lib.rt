@@ -1,7 +1,7 @@
 // Grids: three sizes, each chosen by cases, the bins of a component and the places of bins.
 ghost use mathlib.Core.Path.{_≡_};
 ghost use Prim.Native.Nat.{_+_, _*_, _≤_, _<_};
-ghost use lib.ListN.{length, getD};
+ghost use lib.ListN.{length};
 ghost use Rattle.grid.specs.Range.{listFrom, sumFrom};
 ghost use Rattle.grid.specs.Size.{shiftOf, binOf, spanOf, InSize};
 ghost use Rattle.grid.specs.Grid.{gridOf, binsOf, placeOf, colourAt, stepsOf, Accepted, Inside};

@@ -1,7 +1,7 @@
 -- What a caller of load and merge may use without seeing inside their definitions: a refusal leaves all as it was, lengths
 -- stay, and where the number is 0 the grid is accepted, the tables were sound, the total fits, and each number is known.
 -- Assumes nothing.
-use mathlib.Core.Path.{_≡_, refl, sym, _∙_}
+use mathlib.Core.Path.{_≡_, sym, _∙_}
 use mathlib.Core.Bool.{Bool}
 use mathlib.Core.List.{List}
 use Prim.Native.Nat.{ℕ, suc, _+_, _*_, _≤_, _<_}
@@ -14,7 +14,7 @@ use Rattle.grid.specs.Grid.{gridOf, binsOf}
 use Rattle.grid.proofs.Ends.{passed, call-refused, call-done, same-length}
 use Rattle.grid.proofs.Range.{and-left, and-right}
 use Rattle.grid.proofs.Places.{chose}
-use Rattle.table.specs.Cell.{View, wide, wideList}
+use Rattle.table.specs.Cell.{wide, wideList}
 use Rattle.table.specs.Sound.{limit, total, sound}
 use Rattle.loader.specs.Load.{weightOf, batchOf, loaded, loadNumberOn, loadNumber, loadLater}
 use Rattle.loader.specs.Merge.{merged, mergeNumberOn, mergeNumber, mergeLater}

@@ -121,7 +121,7 @@ module _ {g : Grid} (a : Accepted g) where
       sum-hit 0 (binsOf g) (colourPlace g (c .colour)) (c .weight) (omega arith) (omega (arith, colour-place-lt a (b .0))) i
       + over-total cs (b .1) i)
 
-  -- "the total after is the sum"
+  -- the total after is the sum
   pub load-total : (cs : List Weighted) → AllBytes cs → (v : View) → total g (loaded g cs v) ≡ total g v + weightOf cs
   unfolding loaded
   load-total cs b v =

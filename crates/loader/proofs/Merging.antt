@@ -78,8 +78,3 @@ pub merge-sound : {most : ℕ} {g : Grid} {v u : View} → Sound most g v → So
 unfolding merged
 merge-sound {most} {g} {v} {u} s r l =
     sound-by most g (merged v u) (λ p h. keeps-plus (sound-keeps s p h) (sound-keeps r p h)) (omega (arith, merge-total g v u))
-
--- number j of place p, after a merge
-pub merged-at : (v u : View) (p j : ℕ) → merged v u p j ≡ v p j + u p j
-unfolding merged
-merged-at v u p j = refl

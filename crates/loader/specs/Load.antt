@@ -17,7 +17,7 @@ pub record Weighted : Type 0 where
   pub colour : Rgb
   pub weight : ℕ
 
--- "Each colour adds its weight w to n, w·c to each sum, w·(c1²+c2²+c3²) to the squares"
+-- "Each colour adds its weight .. w to n, w·c to each sum, w·(c1²+c2²+c3²) to the squares"
 unfoldable pub share : Weighted → ℕ → ℕ
 share c zero = c .weight
 share c (suc zero) = c .weight * c .colour .c1

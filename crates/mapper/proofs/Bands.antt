@@ -94,7 +94,7 @@ module _ (b1 b2 b3 : ℕ) (map : List ℕ) (colours : ℕ) (frame : List ℕ) wh
         ∙ ap (cond (covered bs i) (indexAt g map frame i)) (ap (λ (t : List ℕ). getD t i 0) (done .1) ∙ band-at (b .first) (b .pixels) (indexAt g map frame) indices i l)
         ∙ both (among (b .first) (b .pixels) i) (covered bs i) (indexAt g map frame i) (getD indices i 0)
 
-  -- "in any order of bands that cover it": the list is any list
+  -- in any order of bands that cover it: the list is any list
   pub bands-whole : (bs : List Band) (indices : List ℕ) → allInside size bs ≡ true → ((i : ℕ) → i < size → covered bs i ≡ true) → mapBands b1 b2 b3 map colours frame bs indices ≡ later indices 0 size
   bands-whole bs indices h cover = go (number indices 0 size) refl
     where

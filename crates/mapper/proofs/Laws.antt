@@ -64,7 +64,7 @@ module _ (b1 b2 b3 : ℕ) (map : List ℕ) (colours : ℕ) (frame indices : List
         lent = p .lent;
         some = p .some;
         few = p .few;
-        one-each = eqb-true (length indices) (length frame / 3) (p .is-right);
+        one-each = eqb-true (length indices) (length frame / 3) (p .is-fit);
         inside = p .inside;
         below = p .below;
         writes = c .later;
@@ -81,7 +81,7 @@ module _ (b1 b2 b3 : ℕ) (map : List ℕ) (colours : ℕ) (frame indices : List
   map-accepts {g} e threes lent some few one-each inside below =
       map-done e
       (band-accepted g map colours (eqb (length indices) (length frame / 3)) (length frame) first pixels
-      (record { threes = threes; lent = lent; some = some; few = few; is-right = eq-eqb _ _ one-each; inside = inside; below = below }))
+      (record { threes = threes; lent = lent; some = some; few = few; is-fit = eq-eqb _ _ one-each; inside = inside; below = below }))
 
   -- 9 is given for an entry that is not below the palette's length, and for nothing else
   pub map-not-9 : allBelow colours map ≡ true → number ≡ 9 → ⊥
@@ -151,7 +151,7 @@ module _ (b1 b2 b3 : ℕ) (map palette frame : List ℕ) (first pixels : ℕ) wh
   paint-says e =
       let c = call-done (gridOf b1 b2 b3) (λ g. paintNumberOn g map palette frame first pixels) (λ g. writeBand (3 * first) (3 * pixels) (paintAt g map palette frame) frame) frame e in
       let p = band-passed (c .g) map (length palette / 3) (eqb (length palette % 3) 0) (length frame) first pixels (c .number) in
-      let whole : length palette % 3 ≡ 0 = eqb-true (length palette % 3) 0 (p .is-right) in
+      let whole : length palette % 3 ≡ 0 = eqb-true (length palette % 3) 0 (p .is-fit) in
       record {
         g = c .g;
         chosen = c .is;
@@ -171,7 +171,7 @@ module _ (b1 b2 b3 : ℕ) (map palette frame : List ℕ) (first pixels : ℕ) wh
   paint-accepts {g} e threes lent some few whole inside below =
       let ends = paint-ends b1 b2 b3 map palette frame first pixels e {n = 0}
       (band-accepted g map (length palette / 3) (eqb (length palette % 3) 0) (length frame) first pixels
-      (record { threes = threes; lent = lent; some = omega (arith, some); few = omega (arith, few); is-right = eq-eqb _ _ whole; inside = inside; below = below })) refl in
+      (record { threes = threes; lent = lent; some = omega (arith, some); few = omega (arith, few); is-fit = eq-eqb _ _ whole; inside = inside; below = below })) refl in
       (sym (ends .0), sym (ends .1))
 
   pub paint-length : length paint-later ≡ length frame

@@ -16,12 +16,12 @@ use Rattle.grid.proofs.Ends.{passed}
 use Rattle.mapper.specs.Band.{allBelow, bandNumber}
 
 -- what a band that nothing refuses is given
-pub record Passed (g : Grid) (map : List ℕ) (colours : ℕ) (right : Bool) (bytes first pixels : ℕ) : Type 0 where
+pub record Passed (g : Grid) (map : List ℕ) (colours : ℕ) (fits : Bool) (bytes first pixels : ℕ) : Type 0 where
   pub threes : bytes % 3 ≡ 0
   pub lent : length map ≡ binsOf g
   pub some : 1 ≤ colours
   pub few : colours ≤ 256
-  pub is-right : right ≡ true
+  pub is-fit : fits ≡ true
   pub inside : first + pixels ≤ bytes / 3
   pub below : allBelow colours map ≡ true
 
@@ -36,8 +36,8 @@ unfolding refuse
 no-9 true below e = omega arith
 no-9 false below e = true≢false (sym below)
 
-module _ (g : Grid) (map : List ℕ) (colours : ℕ) (right : Bool) (bytes first pixels : ℕ) where
-  pub band-passed : bandNumber g map colours right bytes first pixels ≡ 0 → Passed g map colours right bytes first pixels
+module _ (g : Grid) (map : List ℕ) (colours : ℕ) (fits : Bool) (bytes first pixels : ℕ) where
+  pub band-passed : bandNumber g map colours fits bytes first pixels ≡ 0 → Passed g map colours fits bytes first pixels
   unfolding bandNumber
   band-passed e =
       let threes = passed _ 2 _ e in
@@ -51,18 +51,18 @@ module _ (g : Grid) (map : List ℕ) (colours : ℕ) (right : Bool) (bytes first
         lent = eqb-true (length map) (binsOf g) (not-false _ (lent .0));
         some = leb-true 1 colours (and-left (leb 1 colours) (leb colours 256) (not-false _ (few .0)));
         few = leb-true colours 256 (and-right (leb 1 colours) (leb colours 256) (not-false _ (few .0)));
-        is-right = not-false _ (own .0);
+        is-fit = not-false _ (own .0);
         inside = ltb-false (bytes / 3) (first + pixels) (inside .0);
         below = not-false _ (last .0);
       }
 
   -- and the other way round: "none is given otherwise"
-  pub band-accepted : Passed g map colours right bytes first pixels → bandNumber g map colours right bytes first pixels ≡ 0
+  pub band-accepted : Passed g map colours fits bytes first pixels → bandNumber g map colours fits bytes first pixels ≡ 0
   unfolding bandNumber refuse
   band-accepted p =
-      simp (eq-eqb _ _ (p .threes), eq-eqb _ _ (p .lent), le-leb _ _ (p .some), le-leb _ _ (p .few), p .is-right, le-ltb _ _ (p .inside), p .below)
+      simp (eq-eqb _ _ (p .threes), eq-eqb _ _ (p .lent), le-leb _ _ (p .some), le-leb _ _ (p .few), p .is-fit, le-ltb _ _ (p .inside), p .below)
 
   -- 9 is given for an entry that is not below the palette's length, and for nothing else
-  pub band-not-9 : allBelow colours map ≡ true → bandNumber g map colours right bytes first pixels ≡ 9 → ⊥
+  pub band-not-9 : allBelow colours map ≡ true → bandNumber g map colours fits bytes first pixels ≡ 9 → ⊥
   unfolding bandNumber
   band-not-9 below e = no-9 (allBelow colours map) below (past _ 5 _ (past _ 5 _ (past _ 5 _ (past _ 5 _ (past _ 3 _ e refl) refl) refl) refl) refl)

@@ -27,13 +27,14 @@ unfoldable pub allBelow : ℕ → List ℕ → Bool
 allBelow colours map = allFrom 0 (length map) (λ p. ltb (getD map p 0) colours)
 
 -- the number of a band on an accepted grid, with a palette of some colours: "map exactly bins", a palette's length "in
--- colours, and anything outside 1..256 gives 5", "a band reaches past the frame". What else a call is lent is right or not
+-- colours, and anything outside 1..256 gives 5", "a band reaches past the frame". `fits` is what only one of the calls tests:
+-- the index buffer's length, or that no byte of the palette is left over
 unfoldable pub bandNumber : Grid → List ℕ → ℕ → Bool → ℕ → ℕ → ℕ → ℕ
-bandNumber g map colours right bytes first pixels =
+bandNumber g map colours fits bytes first pixels =
     refuse (not (eqb (bytes % 3) 0)) 3
     (refuse (not (eqb (length map) (binsOf g))) 5
     (refuse (not (leb 1 colours && leb colours 256)) 5
-    (refuse (not right) 5
+    (refuse (not fits) 5
     (refuse (ltb (bytes / 3) (first + pixels)) 5
     (refuse (not (allBelow colours map)) 9 0)))))
 

@@ -21,7 +21,8 @@ pub record Fits (g : Grid) (map palette : List ℕ) : Type 0 where
   pub few : length palette ≤ 768
   pub below : allBelow (length palette / 3) map ≡ true
 
--- the number of a painting on an accepted grid: "the palette for painting 3..768 bytes, a multiple of three"
+-- the number of a painting on an accepted grid: "the palette for painting 3..768 bytes, a multiple of three", which is 1
+-- to 256 colours and no byte over
 unfoldable pub paintNumberOn : Grid → List ℕ → List ℕ → List ℕ → ℕ → ℕ → ℕ
 paintNumberOn g map palette frame first pixels =
     bandNumber g map (length palette / 3) (eqb (length palette % 3) 0) (length frame) first pixels

@@ -64,19 +64,19 @@ fn reaches_past(n: usize, first: usize, pixels: usize) -> bool
     n - first < pixels
 }
 
-// The number of a band of a frame of some bytes, with a palette of some colours. What else the call is lent is right or
-// not.
+// The number of a band of a frame of some bytes, with a palette of some colours. Whether the index buffer fits, or the
+// palette's last bytes do, the call has found out itself.
 fn band_number(
     g: Grid,
     map: &[u8],
     colours: usize,
-    right: bool,
+    fits: bool,
     bytes: usize,
     first: usize,
     pixels: usize,
 ) -> u8
     requires { ⌜ Accepted g ⌝ }
-    ensures { λ r. ⌜ r ≡ bandNumber g (now (map .entry)) colours right bytes first pixels ⌝ }
+    ensures { λ r. ⌜ r ≡ bandNumber g (now (map .entry)) colours fits bytes first pixels ⌝ }
 {
     if bytes % 3 != 0 {
         return 3;
@@ -90,7 +90,7 @@ fn band_number(
     if 256 < colours {
         return 5;
     }
-    if !right {
+    if !fits {
         return 5;
     }
     if reaches_past(bytes / 3, first, pixels) {

@@ -4,9 +4,9 @@
 use mathlib.Core.Path.{_≡_, ap, _∙_}
 use mathlib.Core.Bool.{true}
 use mathlib.Core.List.{List}
-use Prim.Native.Nat.{ℕ, _<_}
+use Prim.Native.Nat.{ℕ}
 use native.Mathlib.Omega.{arith}
-use lib.ListN.{length, getD}
+use lib.ListN.{length}
 use Rattle.grid.specs.declared.Grid.{Grid}
 use Rattle.grid.specs.declared.Chosen.the-variants.{Of}
 use Rattle.grid.specs.Grid.{gridOf, binsOf}
@@ -35,11 +35,11 @@ module _ (b1 b2 b3 k : ℕ) (t : List ℕ) (b : Buffers) {g : Grid} (e : gridOf 
   all-entries-below : allBelow boxes map ≡ true
   all-entries-below = all-below boxes map (λ p h. tiling b1 b2 b3 k t b e n .below p (omega (arith, full-map)))
 
-  -- "after a cut the map is never refused with 9 for that palette's length"
+  -- after a cut the map is never refused with 9 for that palette's length
   pub never-9 : (frame indices : List ℕ) (first pixels : ℕ) → mapNumber b1 b2 b3 map boxes frame indices first pixels ≡ 9 → ⊥
   never-9 frame indices first pixels = map-not-9 b1 b2 b3 map boxes frame indices first pixels all-entries-below
 
--- "the same indices for every pixel in any order of loading, over the call itself"
+-- the same indices for every pixel in any order of loading, over the call itself
 pub record SameIndices (b1 b2 b3 : ℕ) (m o : List ℕ) : Type 0 where
   pub number : (colours : ℕ) (frame indices : List ℕ) (first pixels : ℕ) → mapNumber b1 b2 b3 m colours frame indices first pixels ≡ mapNumber b1 b2 b3 o colours frame indices first pixels
   pub later : (colours : ℕ) (frame indices : List ℕ) (first pixels : ℕ) → mapLater b1 b2 b3 m colours frame indices first pixels ≡ mapLater b1 b2 b3 o colours frame indices first pixels

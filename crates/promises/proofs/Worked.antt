@@ -14,7 +14,7 @@ use Rattle.table.specs.Sound.{between, inBounds, spanAt, binSound, total, sound
 use Rattle.loader.specs.Load.{share, adds, sumOver, weightOf, loaded, weightedAt, batchOf, loadNumberOn, loadNumber, loadLater}
 use Rattle.sums.specs.Box.{minAt, maxAt, sum3, binSum, boxSum, statsOf, lowSide, highSide}
 use Rattle.sums.specs.Moments.{belowSum, momentsOf}
-use Rattle.spread.specs.Spread.{quotOf, oneBin, spreadOf, scoreOf}
+use Rattle.spread.specs.Spread.{quotientOf, oneBin, spreadOf, scoreOf}
 use Rattle.spread.specs.Cut.{positionAnswer, positionOf, positionAt, laterWins, better, bestRun, bestIn, bestCut}
 use Rattle.heap.specs.Heap.{climb, putIn, sink, enter, takeOut}
 use Rattle.rounds.specs.Loop.{itself, wholeOf, startRoom, start, roomAfter, usedAfter, goesOn, roundRoom, roundUsed, round, rounds, heapOf, boxSpread, placesOf, boxesOf}
@@ -29,7 +29,7 @@ unfolding loadsOf tableAfter positionIn lentTo outcome times empties plain weigh
     wide wideList between inBounds spanAt binSound total sound
     share adds sumOver weightOf loaded weightedAt batchOf loadNumberOn loadNumber loadLater
     minAt maxAt sum3 binSum boxSum statsOf lowSide highSide belowSum momentsOf
-    quotOf oneBin spreadOf scoreOf positionAnswer positionOf positionAt laterWins better bestRun bestIn bestCut
+    quotientOf oneBin spreadOf scoreOf positionAnswer positionOf positionAt laterWins better bestRun bestIn bestCut
     climb putIn sink enter takeOut
     itself wholeOf startRoom start roomAfter usedAfter goesOn roundRoom roundUsed round rounds heapOf boxSpread placesOf boxesOf
     meanOf colourOf countOf bytesOf coloursOf countsOf paletteLater countsLater lies holds indexFrom mapOf

@@ -12,7 +12,7 @@ use Rattle.rounds.specs.declared.BoxSpread.{BoxSpread}
 use Rattle.cutter.specs.declared.CutRecord.{CutRecord}
 use Rattle.cutter.specs.Fronts.{filled, putFrom}
 use Rattle.cutter.proofs.Listed.{pastPlaces}
-use Rattle.cutter.proofs.Fronts.{filled-none, filled-next, length-filled}
+use Rattle.cutter.proofs.Fronts.{filled-next, length-filled}
 use Rattle.seluvava.specs.Cut.{boxBytes, spreadOf, told, withBoxAt}
 
 -- the six bytes of a box are six stores

@@ -157,7 +157,7 @@ module _ (g : Grid) (v : View) (x : Bounds) where
       run-all-none g v x d (minAt x d + 1) (maxAt x d - (minAt x d + 1))
       (λ k l. not-split g v x d ((minAt x d + 1) + k) (h ((minAt x d + 1) + k) (omega arith) (omega arith)))
 
-  -- "both sides of the answered cut have weight"
+  -- both sides of the answered cut have weight
   pub answered : {d i : ℕ} {s : Float} → bestCut g v x ≡ At d i s → (d < 3) × Good g v x d i s
   unfolding bestCut
   answered {d} {i} {s} q =
@@ -188,7 +188,7 @@ module _ (g : Grid) (v : View) (x : Bounds) where
   nowhere h =
       rw (in-all-none 0 (λ b. h 0 b (omega arith)), in-all-none 1 (λ b. h 1 b (omega arith)), in-all-none 2 (λ b. h 2 b (omega arith))) refl
 
--- ---- "a box with two occupied bins has a position"
+-- ---- a box with two occupied bins has a position
 module _ (g : Grid) (v : View) (x : Bounds) where
   -- two occupied bins, apart in dimension d
   apart : (d : ℕ) → d < 3 → {r gr b r' gr' b' : ℕ} → InBox x r gr b → InBox x r' gr' b'

@@ -19,7 +19,7 @@ use Rattle.sums.specs.declared.Stats.{Stats}
 use Rattle.sums.specs.Box.{maxAt, statsOf, lowSide, highSide, Within}
 use Rattle.sums.proofs.Laws.{box-sums-high, box-weight-high}
 use Rattle.spread.specs.declared.Position.{Position}
-use Rattle.spread.specs.declared.Position.the-variants.{At, Nowhere}
+use Rattle.spread.specs.declared.Position.the-variants.{Nowhere}
 use Rattle.spread.specs.Spread.{Plain}
 use Rattle.spread.specs.Cut.{positionOf, positionAt, laterWins, better, bestRun}
 

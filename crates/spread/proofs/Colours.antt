@@ -7,11 +7,7 @@ use Prim.Native.Nat.{ℕ, zero, suc, _+_, _-_, _*_, _≤_, _<_}
 use native.Mathlib.Nat.{le-refl, le-trans, le-of-eq, le-of-lt, lt-of-not-le, not-le-of-lt, mul-comm, mul-assoc, mul-left-comm, mul-add, add-mul, add-assoc, add-comm, add-left-comm, mul-pos, mul-le-mul-left, mul-le-mul-right, zero-mul, mul-one, one-mul, zero-add, mul-suc, eq-zero-or-pos}
 use native.Mathlib.Omega.{arith}
 use native.Mathlib.Decide.{decLe}
-use lib.Dec.{T}
-use lib.Ieee.{lt}
-use Rattle.spread.specs.Spread.{zeroOf}
-use Rattle.spread.proofs.Numbers.{Numbers, exactQ, spreadAt}
-use Rattle.spread.proofs.Above.{numbers-above}
+use Rattle.spread.proofs.Numbers.{exactQ}
 
 -- the laws of a commutative semiring: simp sorts both sides of an equation by them
 ruleset ring = (mul-add, add-mul, mul-assoc, mul-comm, mul-left-comm, add-assoc, add-comm, add-left-comm)
@@ -251,6 +247,3 @@ module _ (l : List Point) (h : Positive l) (two : OneColour l → ⊥) where
     where
       close : (n p v e : ℕ) → n ≤ 2 * p → e ≡ v + p → 2 * v + n ≤ 2 * e
       close n p v e h k = omega arith
-
-  pub colours-above : Numbers (total l) (sum1 l) (sum2 l) (sum3 l) (squares l) → T (lt zeroOf (spreadAt (total l) (sum1 l) (sum2 l) (sum3 l) (squares l)))
-  colours-above box = numbers-above box colours-half

@@ -7,7 +7,7 @@ use native.Mathlib.Omega.{arith}
 use mathlib.Core.Bool.{Bool, true, false, not}
 use lib.Dec.{T, lit<}
 use lib.Pow.{pow-pos}
-use lib.Ieee.{Float, nan, inf, fin, add, neg, isNan}
+use lib.Ieee.{Float, nan, inf, fin, add, neg}
 use lib.Ieee.Exact.{HasValue}
 use lib.Ieee.Scale.{grid, finite}
 use Rattle.grid.specs.declared.Grid.{Grid}
@@ -65,17 +65,10 @@ module _ {g : Grid} {v : View} (s : Sound limit g v) {x : Bounds} (w : Within g 
       let high = numbers s w' some' in
       rw (quot-is g v x, quot-is g v y) (neg-finite (sum-value (w-value low) (w-value high) (w-lt low) (w-lt high)))
 
--- "every score of a position with weight on both sides"
+-- every score of a position with weight on both sides
 pub position-finite : {g : Grid} {v : View} → Sound limit g v → {x : Bounds} → Within g x → {d bin : ℕ} {score : Float} → Good g v x d bin score → T (finite score)
 position-finite s w {d} {bin} p =
     rw (p .scored)
     (score-finite s
     (low-within w d bin (p .inside .0) (p .inside .1)) (pos-of-ne-zero (p .split .low))
     (high-within w d bin (p .inside .0) (p .inside .1)) (pos-of-ne-zero (p .split .high)))
-
--- as `f64::to_bits` asks
-pub finite-not-nan : (x : Float) → T (finite x) → T (not (isNan x))
-unfolding isNan
-finite-not-nan nan t = t
-finite-not-nan (inf s) t = tt
-finite-not-nan (fin s m e) t = tt

@@ -201,7 +201,7 @@ spreads-same {g} {v} {u} same s =
 
 -- ---- the theorem
 module _ {g : Grid} (a : Accepted g) (cs : List Weighted) (b : AllBytes cs) where
-  -- "a table loaded from colours", of any total that a table has
+  -- a table loaded from colours, of any total that a table has
   pub from-colours : weightOf cs ≤ limit → SpreadsAbove g (loaded g cs zeros)
   from-colours most =
       record {

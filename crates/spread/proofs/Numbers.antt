@@ -13,7 +13,7 @@ use Rattle.table.proofs.Soundness.{Sound}
 use Rattle.sums.specs.declared.Bounds.{Bounds}
 use Rattle.sums.specs.Box.{boxSum, statsOf, Within}
 use Rattle.sums.proofs.Laws.{box-sums-high, box-squares-high, box-weight-high}
-use Rattle.spread.specs.Spread.{whole, qOf, quotOf, zeroOf, oneBin, spreadOf}
+use Rattle.spread.specs.Spread.{whole, qOf, quotientOf, zeroOf, oneBin, spreadOf}
 use Rattle.spread.proofs.Rounding.{Is, of-whole}
 
 -- a weight n, three sums and the squares, within the bounds of a box that is not empty
@@ -58,12 +58,12 @@ numbers s w h =
     }
 
 module _ (g : Grid) (v : View) (x : Bounds) where
-  pub quot-is : quotOf (statsOf g v x) ≡ quotAt (boxSum g v x 0) (boxSum g v x 1) (boxSum g v x 2) (boxSum g v x 3)
-  unfolding quotOf statsOf
+  pub quot-is : quotientOf (statsOf g v x) ≡ quotAt (boxSum g v x 0) (boxSum g v x 1) (boxSum g v x 2) (boxSum g v x 3)
+  unfolding quotientOf statsOf
   quot-is = refl
 
   pub spread-is : oneBin x ≡ false → spreadOf x (statsOf g v x) ≡ spreadAt (boxSum g v x 0) (boxSum g v x 1) (boxSum g v x 2) (boxSum g v x 3) (boxSum g v x 4)
-  unfolding spreadOf quotOf statsOf
+  unfolding spreadOf quotientOf statsOf
   spread-is e = ap (λ (t : Bool). cond t zeroOf (spreadAt (boxSum g v x 0) (boxSum g v x 1) (boxSum g v x 2) (boxSum g v x 3) (boxSum g v x 4))) e
 
   pub spread-one : oneBin x ≡ true → spreadOf x (statsOf g v x) ≡ zeroOf

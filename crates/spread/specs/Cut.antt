@@ -37,7 +37,7 @@ laterWins earlier Nowhere = false
 laterWins Nowhere (At e other less) = true
 laterWins (At d bin score) (At e other less) = lt less score
 
--- of two positions the earlier, unless the later has a smaller score
+-- of two positions the later where it wins, else the earlier
 unfoldable pub better : Position → Position → Position
 better earlier later = cond (laterWins earlier later) later earlier
 

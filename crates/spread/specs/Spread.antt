@@ -25,8 +25,8 @@ abbrev pub qOf : ℕ → ℕ → ℕ → Float
 qOf a b c = add binary64 (add binary64 (squareOf a) (squareOf b)) (squareOf c)
 
 -- Q/n
-unfoldable pub quotOf : Stats → Float
-quotOf s = div binary64 (qOf (s .sum1) (s .sum2) (s .sum3)) (whole (s .weight))
+unfoldable pub quotientOf : Stats → Float
+quotientOf s = div binary64 (qOf (s .sum1) (s .sum2) (s .sum3)) (whole (s .weight))
 
 abbrev pub zeroOf : Float
 zeroOf = fin false 0 (pos 0)
@@ -36,11 +36,11 @@ oneBin x = eqb (x .r1 - x .r0) 1 && (eqb (x .g1 - x .g0) 1 && eqb (x .b1 - x .b0
 
 -- "A box of one bin has spread exactly 0.0. Any other box .. has squares − Q/n"
 unfoldable pub spreadOf : Bounds → Stats → Float
-spreadOf x s = cond (oneBin x) zeroOf (sub binary64 (s .squares) (quotOf s))
+spreadOf x s = cond (oneBin x) zeroOf (sub binary64 (s .squares) (quotientOf s))
 
 -- "Its score is −(Qlow/nlow + Qhigh/nhigh)"
 unfoldable pub scoreOf : Stats → Stats → Float
-scoreOf low high = neg (add binary64 (quotOf low) (quotOf high))
+scoreOf low high = neg (add binary64 (quotientOf low) (quotientOf high))
 
 -- statistics within the limit: no component above 255, so f64 holds each whole number
 pub record Plain (s : Stats) : Type 0 where

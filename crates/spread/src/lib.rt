@@ -17,7 +17,7 @@ ghost use Rattle.table.specs.Cell.{wide};
 ghost use Rattle.table.specs.Sound.{limit, sound};
 ghost use Rattle.sums.specs.Box.{boxCell, minAt, maxAt, lowSide, highSide, Within};
 ghost use Rattle.sums.specs.Moments.{Worked};
-ghost use Rattle.spread.specs.Spread.{whole, quotOf, oneBin, spreadOf, scoreOf, Plain, Ordered};
+ghost use Rattle.spread.specs.Spread.{whole, quotientOf, oneBin, spreadOf, scoreOf, Plain, Ordered};
 ghost use Rattle.spread.specs.Cut.{positionOf, positionAt, laterWins, better as betterOf, bestIn, bestCut};
 ghost use Rattle.spread.specs.Walk.{outerOf, innerOf, startOf, walkOf};
 
@@ -34,7 +34,7 @@ fn in_float(n: u64) -> f64
 // Q/n.
 fn quotient(s: Stats) -> f64
     requires { ⌜ Plain s ⌝ }
-    ensures { λ r. ⌜ r ≡ quotOf s ⌝ }
+    ensures { λ r. ⌜ r ≡ quotientOf s ⌝ }
 {
     let a = in_float(s.sum1);
     let b = in_float(s.sum2);
@@ -123,7 +123,7 @@ fn later_wins(earlier: Position, later: Position) -> bool
     }
 }
 
-// Of two positions the earlier, unless the later has a smaller score.
+// Of two positions the later where it wins, else the earlier.
 pub fn better(earlier: Position, later: Position) -> Position
     ensures { λ r. ⌜ r ≡ betterOf earlier later ⌝ }
 {

@@ -7,12 +7,9 @@ use table::minus;
 use table::plus;
 use table::put_at;
 ghost use mathlib.Core.Path.{_≡_};
-ghost use mathlib.Core.Bool.{true};
 ghost use Prim.Native.Nat.{_+_, _-_, _*_, _^_, _≤_};
-ghost use lib.ListN.{length};
-ghost use Rattle.grid.specs.Grid.{binsOf, placeOf, Inside};
-ghost use Rattle.table.specs.Cell.{wide, wideList, putAt, TableOf};
-ghost use Rattle.table.specs.Sound.{limit, sound};
+ghost use Rattle.grid.specs.Grid.{binsOf, placeOf};
+ghost use Rattle.table.specs.Cell.{wide, wideList, putAt};
 ghost use Rattle.sums.specs.Box.{boxCell, cellStats, statsOf, Within};
 ghost use Rattle.sums.specs.Moments.{momentsOf, momentCell, lineCell, binCell, Lent, Worked, Before, Ready, Corner};
 

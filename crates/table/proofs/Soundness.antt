@@ -12,7 +12,7 @@ use Rattle.grid.specs.declared.Span.{Span}
 use Rattle.grid.specs.Range.{sumFrom, allFrom}
 use Rattle.grid.specs.Size.{spanOf}
 use Rattle.grid.specs.Grid.{Accepted, binsOf, binAt, shiftAt, choose}
-use Rattle.grid.proofs.Range.{sum-same, sum-plus, sum-zero, term-le, and-left, and-right, all-true, all-at, all-same}
+use Rattle.grid.proofs.Range.{sum-same, sum-zero, term-le, and-left, and-right, all-true, all-at, all-same}
 use Rattle.grid.proofs.Size.{in-size, span-byte}
 use Rattle.grid.proofs.Places.{sized-at, bin-at-below}
 use Rattle.table.specs.declared.Cell.{Cell}
@@ -203,10 +203,6 @@ module _ {most : ℕ} {g : Grid} {v : View} (a : Accepted g) (s : Sound most g v
   number-high (suc (suc (suc zero))) l = omega (arith, sums-high 2 (omega arith))
   number-high (suc (suc (suc (suc zero)))) l = squares-high s p h
   number-high (suc (suc (suc (suc (suc j))))) l = absurd (omega arith)
-
-  -- "n = 0" leaves five zeros
-  pub empty-zeros : v p 0 ≡ 0 → (j : ℕ) → j < 5 → v p j ≡ 0
-  empty-zeros e j l = omega (arith, number-high j l)
 
   -- "every total stays below 195,075 · 2^32 < 2^50"
   pub number-below : most ≤ limit → (j : ℕ) → j < 5 → v p j < 2 ^ 50

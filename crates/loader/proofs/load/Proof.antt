@@ -15,7 +15,6 @@ use Rattle.grid.specs.declared.Chosen.the-variants.{Of}
 use Rattle.grid.specs.declared.Grid.{Grid}
 use Rattle.grid.specs.Grid.{gridOf, Accepted}
 use Rattle.grid.proofs.Places.{chose, bins-high}
-use Rattle.table.specs.declared.Weighed.the-variants.{Total, Unsound}
 use Rattle.loader.specs.Load.{Weighted, weightOf, batchOf}
 use Rattle.loader.specs.Step.{partOf, withPart}
 use Rattle.table.specs.Sound.{limit, total, sound}

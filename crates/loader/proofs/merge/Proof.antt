@@ -13,7 +13,6 @@ use Rattle.grid.specs.declared.Chosen.the-variants.{Of}
 use Rattle.grid.specs.declared.Grid.{Grid}
 use Rattle.grid.specs.Grid.{gridOf, Accepted, binsOf}
 use Rattle.grid.proofs.Places.{chose, bins-high}
-use Rattle.table.specs.declared.Weighed.the-variants.{Total, Unsound}
 use Rattle.loader.specs.Merge.{merged}
 use Rattle.table.specs.Sound.{limit, total, sound}
 use Rattle.table.specs.Cell.{TableOf, wide}

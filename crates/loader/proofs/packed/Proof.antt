@@ -1,7 +1,7 @@
 -- `loader::packed` meets its contract: the loop fills the table from the front, one value after the other.
 -- Assumes nothing.
 use mathlib.Core.Path.{_≡_, refl, ap, _∙_}
-use Prim.Native.Nat.{ℕ, _≤_, _+_, _-_, _*_}
+use Prim.Native.Nat.{_≤_, _+_, _-_, _*_}
 use native.Mathlib.Omega.{arith}
 use lib.ListN.{length, getD, length-set}
 use Rattle.grid.proofs.Range.{Filled, filled-more, list-is}

@@ -1,7 +1,7 @@
 -- `mapper::band_number` meets its contract: the refusals in their order.
 -- Assumes nothing.
 use mathlib.Core.Path.{_≡_, sym, _∙_}
-use mathlib.Core.Bool.{true, false, not}
+use mathlib.Core.Bool.{false, not}
 use Prim.Native.Nat.{_+_, _/_}
 use borrow.Author.Tests.{eq-eqb, ne-eqb, le-leb, lt-leb, lt-ltb, le-ltb, ltb-false, not-true, not-false}
 use borrow.Author.Needs.{needs}
@@ -23,7 +23,7 @@ lent k = k .if2 .left ∙ k .before .bins .ensures
 abbrev five : tie.Else5 → tie.Start
 five k = k .before .before .before .before .before .before .before
 
-lengths : (k : tie.Else5) → bandNumber (five k .args .g) (now (five k .args .map)) (five k .args .colours) (five k .args .right) (five k .args .bytes) (five k .args .first) (five k .args .pixels) ≡ refuse (ltb (five k .args .bytes / 3) (five k .args .first + five k .args .pixels)) 5 (refuse (not (allBelow (five k .args .colours) (now (five k .args .map)))) 9 0)
+lengths : (k : tie.Else5) → bandNumber (five k .args .g) (now (five k .args .map)) (five k .args .colours) (five k .args .fits) (five k .args .bytes) (five k .args .first) (five k .args .pixels) ≡ refuse (ltb (five k .args .bytes / 3) (five k .args .first + five k .args .pixels)) 5 (refuse (not (allBelow (five k .args .colours) (now (five k .args .map)))) 9 0)
 unfolding bandNumber refuse
 lengths k =
     simp (
@@ -31,7 +31,7 @@ lengths k =
       eq-eqb _ _ (lent (k .before .before .before)),
       le-leb _ _ (k .before .before .if3 .left),
       le-leb _ _ (k .before .if4 .left),
-      not-false (five k .args .right) (k .if5 .left),
+      not-false (five k .args .fits) (k .if5 .left),
     )
 
 -- the band, once it lies in the frame
@@ -59,7 +59,7 @@ returns-4 c = sym (simp (eq-eqb _ _ (c .before .before .before .before .if1 .lef
 
 returns-5 : tie.Need-returns-5
 unfolding bandNumber refuse
-returns-5 c = sym (simp (eq-eqb _ _ (c .before .before .before .before .before .if1 .left), eq-eqb _ _ (lent (c .before .before .before)), le-leb _ _ (c .before .before .if3 .left), le-leb _ _ (c .before .if4 .left), not-true (c .before .before .before .before .before .before .before .args .right) (c .if5 .taken)))
+returns-5 c = sym (simp (eq-eqb _ _ (c .before .before .before .before .before .if1 .left), eq-eqb _ _ (lent (c .before .before .before)), le-leb _ _ (c .before .before .if3 .left), le-leb _ _ (c .before .if4 .left), not-true (c .before .before .before .before .before .before .before .args .fits) (c .if5 .taken)))
 
 reaches-past-requires : tie.Need-reaches-past-requires
 reaches-past-requires c κs = search needs
@@ -87,7 +87,7 @@ returns-8 c =
       lent = lent (c .before .before .before .before .before .before .before);
       some = c .before .before .before .before .before .before .if3 .left;
       few = c .before .before .before .before .before .if4 .left;
-      is-right = not-false (c .before .before .before .before .before .before .before .before .before .before .before .args .right) (c .before .before .before .before .if5 .left);
+      is-fit = not-false (c .before .before .before .before .before .before .before .before .before .before .before .args .fits) (c .before .before .before .before .if5 .left);
       inside = ltb-false _ _ (tested (c .before .before));
       below = sym (c .before .largest .ensures _ (c .before .before .before .before .before .before .if3 .left)) ∙ lt-ltb _ _ (c .if7 .left);
     }))

@@ -63,7 +63,7 @@ map-band-requires : tie.Need-map-band-requires
 map-band-requires c κs =
     let p = passed (c .before) in
     let s = band-start (c .before) in
-    let one-each = eqb-true (length (now (s .args .indices))) (length (now (s .args .frame)) / 3) (p .is-right) in
+    let one-each = eqb-true (length (now (s .args .indices))) (length (now (s .args .frame)) / 3) (p .is-fit) in
     (record { accepted = accepted (c .before .before .before); lent = p .lent }, omega (arith, one-each, p .threes), omega (arith, one-each, p .inside))
 
 same-length : tie.Need-same-length

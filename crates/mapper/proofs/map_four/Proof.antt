@@ -1,11 +1,11 @@
 -- `mapper::map_four` meets its contract: the four indices are those of the part as it was, and it is written four times.
 -- Assumes nothing.
-use mathlib.Core.Path.{_≡_, _∙_}
-use Prim.Native.Nat.{_+_, _≤_, _<_, _^_}
+use mathlib.Core.Path.{_∙_}
+use Prim.Native.Nat.{_+_, _<_, _^_}
 use native.Mathlib.Omega.{arith}
 use borrow.Author.Needs.{needs}
 use denote.Ref.{now}
-use lib.ListN.{length, set, length-set}
+use lib.ListN.{set, length-set}
 use Rattle.mapper.specs.Band.{indexAt}
 use Rattle.mapper.proofs.Band.{band-four}
 use Rattle.mapper.proofs.map_four.Statement.{statement}

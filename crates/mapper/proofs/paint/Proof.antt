@@ -63,7 +63,7 @@ paint-band-requires : tie.Need-paint-band-requires
 paint-band-requires c κs =
     let p = passed (c .before) in
     let s = band-start (c .before) in
-    let whole = eqb-true (length (now (s .args .palette)) % 3) 0 (p .is-right) in
+    let whole = eqb-true (length (now (s .args .palette)) % 3) 0 (p .is-fit) in
     (record { of-grid = record { accepted = accepted (c .before .before .before); lent = p .lent }; some = omega (arith, p .some); few = omega (arith, whole, p .few); below = p .below }, omega (arith, p .inside, p .threes))
 
 same-length : tie.Need-same-length

@@ -1,6 +1,6 @@
 -- `seluvava::seluvava_cut` meets its contract: without the room nothing is cut, and else the boxes of the record are written.
 -- Assumes nothing.
-use mathlib.Core.Path.{_≡_, sym, _∙_}
+use mathlib.Core.Path.{sym, _∙_}
 use native.Mathlib.Omega.{arith}
 use borrow.Author.Needs.{needs}
 use denote.Ref.{now}
@@ -8,7 +8,7 @@ use lib.ListN.{length}
 use Rattle.cutter.specs.Cut.{Buffers, buffers}
 use Rattle.cutter.proofs.Few.{few, all-places}
 use Rattle.seluvava.specs.Cut.{Lent, lent}
-use Rattle.seluvava.proofs.Calls.{Roomy, roomy, call-refused, call-done}
+use Rattle.seluvava.proofs.Calls.{roomy, call-refused, call-done}
 use Rattle.seluvava.proofs.seluvava_cut.Statement.{statement}
 use Rattle.seluvava.proofs.seluvava_cut.Tie as tie
 

@@ -1,7 +1,6 @@
 -- `spread::position_at` meets its contract: the sums of the two sides are those of their boxes.
 -- Assumes nothing.
 use mathlib.Core.Path.{_≡_}
-use Prim.Native.Nat.{ℕ}
 use native.Mathlib.Nat.{le-of-lt}
 use denote.Ref.{now}
 use Rattle.table.specs.Cell.{View, wide}

@@ -2,7 +2,7 @@
 -- Assumes nothing.
 use native.Mathlib.Omega.{arith}
 use lib.Ieee.{Float, binary64, add, mul, div}
-use Rattle.spread.specs.Spread.{quotOf}
+use Rattle.spread.specs.Spread.{quotientOf}
 use Rattle.spread.proofs.quotient.Statement.{statement}
 use Rattle.spread.proofs.quotient.Tie as tie
 
@@ -19,7 +19,7 @@ in-float-requires-4 : tie.Need-in-float-requires-4
 in-float-requires-4 c κs = omega (arith, c .before .before .before .pre .weight)
 
 returns : tie.Need-returns
-unfolding quotOf
+unfolding quotientOf
 returns c =
     λ t.
     let a : Float = c .before .before .before .in-float .ensures t in

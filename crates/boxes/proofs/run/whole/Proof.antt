@@ -7,7 +7,7 @@ use Rattle.grid.specs.Grid.{Accepted, choose, sizeAt}
 use Rattle.grid.proofs.Places.{one, two, three}
 use Rattle.grid.proofs.Size.{size-low, size-high}
 use Rattle.sums.specs.declared.Bounds.{Bounds}
-use Rattle.sums.specs.Box.{minAt, maxAt, Within}
+use Rattle.sums.specs.Box.{minAt, maxAt}
 use Rattle.boxes.proofs.run.whole.Statement.{statement}
 use Rattle.boxes.proofs.run.whole.Tie as tie
 

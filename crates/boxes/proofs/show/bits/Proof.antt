@@ -1,5 +1,5 @@
 -- `boxes::show::bits` is safe and ends: a float that equals itself is no NaN.
-use mathlib.Core.Bool.{true, false, true≢false, not}
+use mathlib.Core.Bool.{true, true≢false, not}
 use mathlib.Core.Path.{_≡_, sym}
 use borrow.Author.Needs.{needs}
 use lib.Dec.{T}

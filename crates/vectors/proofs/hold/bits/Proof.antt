@@ -1,6 +1,6 @@
 -- `vectors::hold::bits` is safe and ends: a float that equals itself is no NaN.
 -- Assumes nothing.
-use mathlib.Core.Bool.{true, false, true≢false, not}
+use mathlib.Core.Bool.{true, true≢false, not}
 use mathlib.Core.Path.{_≡_, sym}
 use lib.Ieee.{Float, nan, inf, fin, eq, isNan}
 use lib.Dec.{T}
