@@ -1,7 +1,8 @@
 //! Times the proved code and the original's text in one process, on the same frames, and prints the ratios.
 //!
 //! `--quick` takes fewer runs, and `--only TEXT` takes only the rows whose grid or operation has that text. A whole run
-//! of both sides fills a draft, `--draft FILE`, and writes it to `--page FILE`.
+//! of both sides fills a draft, `--draft FILE`, and writes it to `--page FILE`. Where a cell misses its target and the
+//! draft gives no reason, the run fails.
 mod inputs;
 mod measure;
 mod ours;
@@ -15,7 +16,7 @@ use inputs::Input;
 use measure::Effort;
 use report::{Cell, IN_PLACE, ON_A_COPY, Row};
 use side::{Lent, OPERATIONS, Operation, Side, Sizes};
-use std::{env, fs, time::Duration};
+use std::{env, fs, process::ExitCode, time::Duration};
 
 const GRIDS: [Sizes; 4] = [[16, 32, 16], [32, 32, 32], [64, 64, 64], [128, 128, 128]];
 
@@ -44,7 +45,7 @@ fn rows_of(sizes: Sizes, operation: Operation) -> Vec<Row> {
     let moments: &[_] = match operation {
         _ if !cfg!(feature = "original") => &[""],
         Operation::Moments | Operation::Cut(_) => &[ON_A_COPY, IN_PLACE],
-        Operation::Whole => &[IN_PLACE],
+        Operation::Whole { .. } => &[IN_PLACE],
         _ => &[""],
     };
     let row = |&moments| Row {
@@ -68,8 +69,8 @@ fn measure(sizes: Sizes, inputs: &[Input], operations: &[Operation], effort: Eff
             let medians = measure::medians(sides, rows[0].operation, &mut lent, effort);
             for (i, row) in rows.iter_mut().enumerate() {
                 row.cells.push(Cell {
-                    ours: medians[0],
-                    theirs: medians.get(1 + i).copied(),
+                    time: medians.time,
+                    ratio: medians.ratios.get(i).copied(),
                 });
             }
         }
@@ -101,7 +102,7 @@ fn asked() -> Asked {
     asked
 }
 
-fn main() {
+fn main() -> ExitCode {
     let asked = asked();
     assert!(
         !cfg!(debug_assertions),
@@ -128,11 +129,21 @@ fn main() {
     }
     let misses = report::misses(&rows, &inputs);
     misses.iter().for_each(|(_, line)| println!("{line}"));
-    if asked.quick || asked.only.is_some() || !cfg!(feature = "original") {
-        return;
-    }
-    if let (Some(draft), Some(page)) = (asked.draft, asked.page) {
-        let draft = fs::read_to_string(draft).expect("the draft");
+
+    let Some(draft) = asked.draft else {
+        return ExitCode::SUCCESS;
+    };
+    let draft = fs::read_to_string(draft).expect("the draft");
+    let whole = !asked.quick && asked.only.is_none() && cfg!(feature = "original");
+    if let (true, Some(page)) = (whole, asked.page) {
         fs::write(page, page::filled(&draft, &rows, &inputs)).expect("the page");
     }
+    let mut status = ExitCode::SUCCESS;
+    for (operation, line) in &misses {
+        if !page::explains(&draft, *operation) {
+            eprintln!("the draft gives no reason for a miss:\n{line}");
+            status = ExitCode::FAILURE;
+        }
+    }
+    status
 }

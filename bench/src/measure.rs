@@ -1,4 +1,4 @@
-//! Runs the sides in turn, holds their answers to each other, and takes medians.
+//! Runs the sides in turn, holds their answers to each other, and takes medians over the rounds.
 use crate::side::{Answer, Lent, Operation, Side};
 use std::time::{Duration, Instant};
 
@@ -72,26 +72,38 @@ fn round(
     times
 }
 
-/// The median of each side's times, in seconds.
+/// The one in the middle of an odd number of values.
+fn median(values: impl Iterator<Item = f64>) -> f64 {
+    let mut values: Vec<_> = values.collect();
+    values.sort_by(f64::total_cmp);
+    values[values.len() / 2]
+}
+
+/// What the first side took, in seconds, and its time over that of each other side. A ratio is taken within a round,
+/// whose runs are close together, so that a machine whose speed drifts disturbs it little.
+pub struct Medians {
+    pub time: f64,
+    pub ratios: Vec<f64>,
+}
+
 pub fn medians(
     sides: &mut [Box<dyn Side>],
     operation: Operation,
     lent: &mut Lent,
     effort: Effort,
-) -> Vec<f64> {
+) -> Medians {
     let mut answers = [Answer::default(), Answer::default()];
     let mut warm = || round(sides, operation, lent, &mut answers);
     warm();
     let start = Instant::now();
-    let first = warm();
+    warm();
     let runs = effort.runs(start.elapsed());
     let rounds: Vec<_> = (0..runs)
         .map(|_| round(sides, operation, lent, &mut answers))
         .collect();
-    let median = |side: usize| {
-        let mut times: Vec<f64> = rounds.iter().map(|round| round[side]).collect();
-        times.sort_by(f64::total_cmp);
-        times[runs / 2]
-    };
-    (0..first.len()).map(median).collect()
+    let ratio = |side: usize| median(rounds.iter().map(|round| round[0] / round[side]));
+    Medians {
+        time: median(rounds.iter().map(|round| round[0])),
+        ratios: (1..sides.len()).map(ratio).collect(),
+    }
 }

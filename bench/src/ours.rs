@@ -117,6 +117,7 @@ fn merge([b1, b2, b3]: Sizes, table: &mut [u64], second: &[u64]) {
 }
 
 /// What a cut writes.
+#[derive(Default)]
 struct Cut {
     work: Vec<u64>,
     palette: Vec<u8>,
@@ -257,6 +258,14 @@ impl Ours {
             kept,
         }
     }
+
+    /// Drops a table and a cut, then makes others, as a caller does who keeps none. What is dropped is of the run
+    /// before, since what a run has left is compared after it.
+    fn make_anew(&mut self) {
+        let numbers = self.table.len();
+        (self.table, self.cut) = Default::default();
+        (self.table, self.cut) = (vec![0; numbers], Cut::new(self.sizes));
+    }
 }
 
 impl Side for Ours {
@@ -272,10 +281,11 @@ impl Side for Ours {
                 touch(&self.loaded);
             }
             Operation::Map | Operation::Paint => touch(&self.kept.map),
-            Operation::Whole => {
+            Operation::Whole { anew: false } => {
                 self.table.fill(u64::MAX);
                 self.cut.reset();
             }
+            Operation::Whole { anew: true } => {}
         }
     }
 
@@ -291,8 +301,12 @@ impl Side for Ours {
             Operation::Cut(k) => self.cut.run(sizes, k, &self.loaded),
             Operation::Map => self.kept.map(sizes, lent),
             Operation::Paint => self.kept.paint(sizes, lent),
-            Operation::Whole => {
-                self.table.fill(0);
+            Operation::Whole { anew } => {
+                if anew {
+                    self.make_anew();
+                } else {
+                    self.table.fill(0);
+                }
                 load(sizes, &mut self.table, &lent.frame, None);
                 self.cut.run(sizes, MOST, &self.table);
                 self.cut.map(sizes, lent);
@@ -306,7 +320,7 @@ impl Side for Ours {
                 answer.numbers.extend(&self.table);
             }
             Operation::Moments => answer.numbers.extend(&self.cut.work),
-            Operation::Cut(_) | Operation::Whole => {
+            Operation::Cut(_) | Operation::Whole { .. } => {
                 let counts = &self.cut.counts[..self.cut.found];
                 answer.numbers.extend(counts.iter().map(|&n| u64::from(n)));
                 answer.bytes.extend(self.cut.colours());

@@ -2,6 +2,7 @@
 use crate::{
     inputs::Input,
     report::{self, Row},
+    side::Operation,
 };
 use std::{env, fs};
 
@@ -20,15 +21,16 @@ fn machine() -> String {
     )
 }
 
-/// When, on what and with what: the versions are told by `bench/run`.
+/// When, on what and with what: what is not asked of the machine is told by `bench/run`.
 fn run() -> String {
     let told = |name| env::var(name).unwrap_or_else(|_| String::from("unknown"));
     format!(
-        "- Date: {}\n- Processor: {}\n- Rust: {}\n- Kit: {}\n",
+        "- Date: {}\n- Processor: {}\n- Rust: {}\n- Kit: {}\n- Archive: sha256 {}\n",
         told("BENCH_DATE"),
         machine(),
         told("BENCH_RUSTC"),
         told("BENCH_KIT"),
+        told("BENCH_ARCHIVE"),
     )
 }
 
@@ -47,14 +49,17 @@ fn frames(inputs: &[Input]) -> String {
     text
 }
 
-/// The cells that miss, and the operations among them for which the draft gives no reason.
-fn misses(draft: &str, rows: &[Row], inputs: &[Input]) -> String {
+/// Whether the draft gives a reason for an operation, under its name up to a comma or a bracket: one reason may do for
+/// several rows, as for every k.
+pub fn explains(draft: &str, operation: Operation) -> bool {
+    let name = operation.to_string();
+    let end = name.find([',', '(']).unwrap_or(name.len());
+    draft.contains(&format!("**{}**", name[..end].trim_end()))
+}
+
+/// The cells that miss.
+fn misses(rows: &[Row], inputs: &[Input]) -> String {
     let misses = report::misses(rows, inputs);
-    for (operation, _) in &misses {
-        if !draft.contains(&format!("**{operation}**")) {
-            eprintln!("the draft gives no reason for {operation}");
-        }
-    }
     match misses.is_empty() {
         true => String::from("None.\n"),
         false => misses.into_iter().map(|(_, line)| line + "\n").collect(),
@@ -66,7 +71,7 @@ pub fn filled(draft: &str, rows: &[Row], inputs: &[Input]) -> String {
         "{run}" => run(),
         "{frames}" => frames(inputs),
         "{tables}" => report::tables(rows, inputs).trim_end().to_string() + "\n",
-        "{misses}" => misses(draft, rows, inputs),
+        "{misses}" => misses(rows, inputs),
         other => format!("{other}\n"),
     };
     draft.lines().map(line).collect()

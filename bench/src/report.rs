@@ -5,10 +5,10 @@ use crate::{
 };
 use std::fmt::Write as _;
 
-/// The medians of one operation at one grid on one input, in seconds.
+/// One operation at one grid on one input: our time in seconds, and its ratio to the Rust's.
 pub struct Cell {
-    pub ours: f64,
-    pub theirs: Option<f64>,
+    pub time: f64,
+    pub ratio: Option<f64>,
 }
 
 pub struct Row {
@@ -20,10 +20,9 @@ pub struct Row {
 }
 
 impl Cell {
-    /// The ratio of our time to the Rust's, in hundredths, which is how it is printed and held to its target.
-    fn ratio(&self) -> Option<f64> {
-        let ratio = self.ours / self.theirs?;
-        Some((100.0 * ratio).round() / 100.0)
+    /// The ratio in hundredths, which is how it is printed and held to its target.
+    fn rounded(&self) -> Option<f64> {
+        self.ratio.map(|ratio| (100.0 * ratio).round() / 100.0)
     }
 }
 
@@ -34,7 +33,7 @@ impl Row {
 
     /// What the ratios should be at most, for each input.
     fn targets(&self) -> Option<[f64; 3]> {
-        let alone = self.cells.iter().any(|cell| cell.theirs.is_none());
+        let alone = self.cells.iter().any(|cell| cell.ratio.is_none());
         if alone || ![[16, 32, 16], [32, 32, 32]].contains(&self.sizes) {
             return None;
         }
@@ -44,14 +43,14 @@ impl Row {
             (Operation::Cut(256), ON_A_COPY) => Some([1.0; 3]),
             (Operation::Cut(256), IN_PLACE) => Some([1.1; 3]),
             (Operation::Map | Operation::Paint, _) => Some([1.0, 1.0, 0.65]),
-            (Operation::Whole, _) => Some([1.1, 0.9, 0.55]),
+            (Operation::Whole { .. }, _) => Some([1.1, 0.9, 0.55]),
             _ => None,
         }
     }
 
     /// Whether a cell misses its target.
     fn misses(&self, input: usize) -> bool {
-        match (self.targets(), self.cells[input].ratio()) {
+        match (self.targets(), self.cells[input].rounded()) {
             (Some(targets), Some(ratio)) => ratio > targets[input],
             _ => false,
         }
@@ -60,8 +59,8 @@ impl Row {
     fn line(&self) -> String {
         let mut line = format!("| {} |", self.name());
         for (i, cell) in self.cells.iter().enumerate() {
-            let time = milliseconds(cell.ours);
-            match cell.ratio() {
+            let time = milliseconds(cell.time);
+            match cell.rounded() {
                 None => write!(line, " {time} |"),
                 Some(ratio) if self.misses(i) => write!(line, " **{ratio:.2} ✗** {time} |"),
                 Some(ratio) => write!(line, " {ratio:.2} {time} |"),
@@ -111,7 +110,7 @@ pub fn misses(rows: &[Row], inputs: &[Input]) -> Vec<(Operation, String)> {
     let mut lines = Vec::new();
     for row in rows {
         for (i, input) in inputs.iter().enumerate().filter(|&(i, _)| row.misses(i)) {
-            let ratio = row.cells[i].ratio().expect("a ratio misses");
+            let ratio = row.cells[i].rounded().expect("a ratio misses");
             let most = row.targets().expect("a target is missed")[i];
             let (name, grid) = (row.name(), grid(row.sizes));
             let line = format!(

@@ -13,10 +13,13 @@ pub enum Operation {
     Cut(usize),
     Map,
     Paint,
-    Whole,
+    /// From pixels to indices. Our side makes its tables anew in the run, or was lent them.
+    Whole {
+        anew: bool,
+    },
 }
 
-pub const OPERATIONS: [Operation; 9] = [
+pub const OPERATIONS: [Operation; 10] = [
     Operation::Load,
     Operation::LoadWeighted,
     Operation::Merge,
@@ -25,7 +28,8 @@ pub const OPERATIONS: [Operation; 9] = [
     Operation::Cut(256),
     Operation::Map,
     Operation::Paint,
-    Operation::Whole,
+    Operation::Whole { anew: false },
+    Operation::Whole { anew: true },
 ];
 
 /// The most colours of a palette: what is mapped and painted with.
@@ -41,7 +45,12 @@ impl fmt::Display for Operation {
             Operation::Cut(k) => write!(f, "cut, k = {k}"),
             Operation::Map => f.write_str("map"),
             Operation::Paint => f.write_str("paint"),
-            Operation::Whole => f.write_str("pixels to indices"),
+            Operation::Whole { anew: false } => {
+                f.write_str("pixels to indices, our table lent and cleared")
+            }
+            Operation::Whole { anew: true } => {
+                f.write_str("pixels to indices, our tables made anew")
+            }
         }
     }
 }
@@ -72,7 +81,7 @@ impl Lent {
                 touch(&self.frame);
                 touch(&self.weights);
             }
-            Operation::Map | Operation::Whole => {
+            Operation::Map | Operation::Whole { .. } => {
                 touch(&self.frame);
                 self.indices.fill(0xa5);
             }
@@ -84,7 +93,7 @@ impl Lent {
     /// Adds what a run left in what it was lent.
     pub fn answer(&self, operation: Operation, answer: &mut Answer) {
         match operation {
-            Operation::Map | Operation::Whole => answer.bytes.extend(&self.indices),
+            Operation::Map | Operation::Whole { .. } => answer.bytes.extend(&self.indices),
             Operation::Paint => answer.bytes.extend(self.painted.as_flattened()),
             _ => {}
         }

@@ -112,7 +112,7 @@ impl<const B1: usize, const B2: usize, const B3: usize> Side for Theirs<B1, B2, 
             }
             Operation::Moments | Operation::Cut(_) => self.load_again(),
             Operation::Map | Operation::Paint => touch(self.kept.map()),
-            Operation::Whole => {}
+            Operation::Whole { .. } => {}
         }
     }
 
@@ -130,7 +130,7 @@ impl<const B1: usize, const B2: usize, const B3: usize> Side for Theirs<B1, B2, 
             }
             Operation::Map => map(&self.kept, lent),
             Operation::Paint => self.kept.map_slice_in_place(&mut lent.painted),
-            Operation::Whole => {
+            Operation::Whole { .. } => {
                 let run = run::<B1, B2, B3>(&lent.frame);
                 let (colours, counts) = run.color_map_and_counts(most(MOST));
                 map(&colours, lent);
@@ -144,7 +144,7 @@ impl<const B1: usize, const B2: usize, const B3: usize> Side for Theirs<B1, B2, 
             Operation::Load | Operation::LoadWeighted | Operation::Merge | Operation::Moments => {
                 self.numbers(answer);
             }
-            Operation::Cut(_) | Operation::Whole => {
+            Operation::Cut(_) | Operation::Whole { .. } => {
                 let (colours, counts) = self.cut.as_ref().expect("a cut");
                 answer.numbers.extend(counts.iter().map(|&n| u64::from(n)));
                 answer.bytes.extend(colours.palette().as_flattened());
