@@ -1,12 +1,13 @@
 /*
- * Seluvava: a colour quantizer by Wu's method of 1992, with every call proved to do what stands here.
+ * Seluvava: a colour quantizer by Wu's method of 1992. Every call is proved to do what stands here, but for how much
+ * stack it takes, which is measured.
  *
  * load counts colours into a table, merge adds a second table into a first, cut makes of a table a palette of at
  * most 256 colours and a map to it, and map and paint take the pixels of a frame to that palette.
  *
  * GRID. Each call is told three sizes, one for each component of a colour, each from 2, 4, 8, 16, 32, 64, 128.
- * The bin of component c at size b is c * b / 256, rounded down. Bin (r, g, b) stands at place (r * b2 + g) * b3 + b.
- * The choice of the Rust crate quantette for RGB is 16, 32, 16.
+ * The bin of component c at size s is c * s / 256, rounded down. With sizes b1, b2, b3, bin (r, g, b) stands at place
+ * (r * b2 + g) * b3 + b. The choice of the Rust crate quantette for RGB is 16, 32, 16.
  *
  * TABLE. Five numbers per bin, from 5 * place on: weight n, three component sums, the sum of squared components.
  * An empty table is all zeros. A table is sound if, in each bin, every component sum lies between n * low and
@@ -16,11 +17,14 @@
  *
  * LENT BUFFERS. A buffer is a pointer and, right after it, its length in elements (not in bytes). A caller sees to
  * three things, and no call can test them: a pointer is aligned for its type and has that many elements behind it;
- * no two buffers that are lent to one call overlap (so no table is merged into itself); and nobody else writes to a
- * buffer, or reads one that is not const, before the call returns. A buffer of length 0 is never looked at, so its
- * pointer may be NULL; 0 is a length like any other, accepted or refused as each call says.
- * Buffers that are const are only read, and any number of calls may read them at once. No call keeps anything,
- * allocates, waits or fails in any other way than by its number. A stack of 64 KiB is enough for each.
+ * no buffer that is not const overlaps another one lent to the same call (so no table is merged into itself); and
+ * nobody else writes to a buffer, or reads one that is not const, before the call returns. A buffer of length 0 is
+ * never looked at, so its pointer may be NULL; 0 is a length like any other, accepted or refused as each call says.
+ * Buffers that are const are only read: they may overlap each other, and any number of calls may read them at once.
+ *
+ * NEEDS. No call keeps anything, allocates, waits or fails in any other way than by its number. A stack of 64 KiB is
+ * enough for each, as tests/stack.c measures. Of a C library the archive takes memcpy and memset and nothing else; a
+ * program without one brings these two.
  *
  * NUMBERS. What load, merge, map and paint answer, and a cut in `number`:
  *

@@ -24,7 +24,8 @@ fn main() {
         }
         Err(reason) => println!(
             "cargo::error={reason}. Run ./build in the project's root, with the Rattle kit's `rt` on the path, \
-             or let {VARIABLE} name the directory of a {ARCHIVE} that was built elsewhere"
+             or let {VARIABLE} name the directory of a {ARCHIVE} that was built elsewhere; a relative one is taken \
+             from the crate's directory"
         ),
     }
 }
@@ -33,32 +34,42 @@ fn main() {
 fn archive() -> Result<PathBuf, String> {
     let archive = match env::var_os(VARIABLE) {
         Some(directory) => PathBuf::from(directory).join(ARCHIVE),
-        None => {
-            // The script is run in the crate's directory.
-            let root = Path::new("..");
-            let own = root.join("target/staticlib").join(ARCHIVE);
-            if !own.exists() {
-                build(root)?;
-            }
-            own
-        }
+        // The script is run in the crate's directory.
+        None => of_project(Path::new(".."))?,
     };
     let found = archive.canonicalize();
     found.map_err(|e| format!("{} is not at hand: {e}", archive.display()))
 }
 
-/// Proves the code and writes the archive. From nothing that takes some minutes.
-fn build(root: &Path) -> Result<(), String> {
+/// The project's own archive, as its code now is: `rt` knows what has changed, proves that and writes the archive. From
+/// nothing it takes some minutes. Where there is no `rt`, an archive that is there already has to do.
+fn of_project(root: &Path) -> Result<PathBuf, String> {
+    for source in ["crates", "crates.txt"] {
+        println!("cargo::rerun-if-changed={}", root.join(source).display());
+    }
+    let archive = root.join("target/staticlib").join(ARCHIVE);
     let command = "rt staticlib seluvava";
     let mut rt = Command::new("rt");
     rt.args(["staticlib", "seluvava"]).current_dir(root);
-    let ran = rt
-        .output()
-        .map_err(|e| format!("{ARCHIVE} is not built, and `{command}` cannot be run: {e}"))?;
-    if ran.status.success() {
-        return Ok(());
+    match rt.output() {
+        Ok(ran) if ran.status.success() => Ok(archive),
+        Ok(ran) => {
+            // Cargo shows nothing else that a script prints.
+            let said = [ran.stdout, ran.stderr].concat();
+            for line in String::from_utf8_lossy(&said).lines() {
+                println!("cargo::error={line}");
+            }
+            Err(format!("`{command}` failed: {}", ran.status))
+        }
+        Err(e) if archive.exists() => {
+            println!(
+                "cargo::warning=`{command}` cannot be run: {e}. {ARCHIVE} is taken as it is, and may be older than \
+                 the code"
+            );
+            Ok(archive)
+        }
+        Err(e) => Err(format!(
+            "{ARCHIVE} is not built, and `{command}` cannot be run: {e}"
+        )),
     }
-    eprint!("{}", String::from_utf8_lossy(&ran.stdout));
-    eprint!("{}", String::from_utf8_lossy(&ran.stderr));
-    Err(format!("`{command}` failed: {}", ran.status))
 }

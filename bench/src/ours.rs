@@ -1,84 +1,12 @@
 //! Our side: the calls of the archive, on tables that stay from run to run.
+#[path = "../../rust/src/calls.rs"]
+mod calls;
+
 use crate::side::{Answer, Lent, MOST, Operation, Side, Sizes, touch};
-
-#[repr(C)]
-struct CutAnswer {
-    number: u8,
-    boxes: usize,
-}
-
-unsafe extern "C" {
-    fn seluvava_bins(b1: usize, b2: usize, b3: usize) -> usize;
-    fn seluvava_numbers(b1: usize, b2: usize, b3: usize) -> usize;
-    fn seluvava_load(
-        b1: usize,
-        b2: usize,
-        b3: usize,
-        table: *mut u64,
-        table_len: usize,
-        colours: *const u8,
-        colours_len: usize,
-        weighted: bool,
-        weights: *const u32,
-        weights_len: usize,
-    ) -> u8;
-    fn seluvava_merge(
-        b1: usize,
-        b2: usize,
-        b3: usize,
-        table: *mut u64,
-        table_len: usize,
-        second: *const u64,
-        second_len: usize,
-    ) -> u8;
-    fn seluvava_cut(
-        b1: usize,
-        b2: usize,
-        b3: usize,
-        k: usize,
-        table: *const u64,
-        table_len: usize,
-        work: *mut u64,
-        work_len: usize,
-        palette: *mut u8,
-        palette_len: usize,
-        counts: *mut u32,
-        counts_len: usize,
-        map: *mut u8,
-        map_len: usize,
-        boxes: *mut u8,
-        boxes_len: usize,
-        spreads: *mut f64,
-        spreads_len: usize,
-    ) -> CutAnswer;
-    fn seluvava_map(
-        b1: usize,
-        b2: usize,
-        b3: usize,
-        map: *const u8,
-        map_len: usize,
-        colours: usize,
-        frame: *const u8,
-        frame_len: usize,
-        indices: *mut u8,
-        indices_len: usize,
-        first: usize,
-        pixels: usize,
-    ) -> u8;
-    fn seluvava_paint(
-        b1: usize,
-        b2: usize,
-        b3: usize,
-        map: *const u8,
-        map_len: usize,
-        palette: *const u8,
-        palette_len: usize,
-        frame: *mut u8,
-        frame_len: usize,
-        first: usize,
-        pixels: usize,
-    ) -> u8;
-}
+use calls::{
+    seluvava_bins, seluvava_cut, seluvava_load, seluvava_map, seluvava_merge, seluvava_numbers,
+    seluvava_paint,
+};
 
 /// Adds a frame to a table, with weights where any are given.
 fn load([b1, b2, b3]: Sizes, table: &mut [u64], frame: &[[u8; 3]], weights: Option<&[u32]>) {

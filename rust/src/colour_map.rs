@@ -1,5 +1,5 @@
 use crate::{Grid, Refused, sys};
-use std::ops::Range;
+use std::{fmt, ops::Range};
 
 /// The most colours that a palette has.
 pub(crate) const MOST_COLOURS: usize = 256;
@@ -22,11 +22,21 @@ pub(crate) const MOST_COLOURS: usize = 256;
 /// assert_eq!(frame, [[11, 0, 0], [11, 0, 0], [200, 255, 255]]);
 /// # Ok::<(), seluvava::Refused>(())
 /// ```
-#[derive(Debug, Clone, PartialEq, Eq)]
+#[derive(Clone, PartialEq, Eq)]
 pub struct ColourMap {
     grid: Grid,
     entries: Vec<u8>,
     palette: Vec<[u8; 3]>,
+}
+
+/// The entries may be two million: grid and number of colours are printed in their place.
+impl fmt::Debug for ColourMap {
+    fn fmt(&self, f: &mut fmt::Formatter<'_>) -> fmt::Result {
+        f.debug_struct("ColourMap")
+            .field("grid", &self.grid.sizes())
+            .field("colours", &self.palette.len())
+            .finish_non_exhaustive()
+    }
 }
 
 impl ColourMap {

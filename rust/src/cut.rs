@@ -1,11 +1,21 @@
 use crate::{ColourMap, Grid, Refused, Table, colour_map::MOST_COLOURS, sys};
+use std::fmt;
 
 /// Room for a cut to work in, kept from one cut to the next.
 ///
 /// It serves tables of any grid, and keeps the room of the largest.
-#[derive(Debug, Default)]
+#[derive(Default)]
 pub struct WorkTable {
     numbers: Vec<u64>,
+}
+
+/// The numbers may be ten million: only how many there are is printed.
+impl fmt::Debug for WorkTable {
+    fn fmt(&self, f: &mut fmt::Formatter<'_>) -> fmt::Result {
+        f.debug_struct("WorkTable")
+            .field("numbers", &self.numbers.len())
+            .finish()
+    }
 }
 
 impl WorkTable {
@@ -31,7 +41,7 @@ pub struct ColourBox {
     /// The first bin after the box, of red, green and blue.
     pub max: [u8; 3],
     /// The squared distances of the colours from their mean, added up, as computed in `f64`; the box with the largest
-    /// is cut next. It is infinite where k is 1, and 0 for a box of one bin or with no place to cut it.
+    /// is cut next. It is 0 for a box of one bin, or one that the cut tried to divide and could not; infinity at k = 1.
     pub spread: f64,
 }
 
@@ -48,11 +58,21 @@ impl ColourBox {
 /// What a cut makes of a table: boxes that cover the grid, with a colour and a count for each.
 ///
 /// Palette, counts and boxes have the same order and the same length, which is at least 1 and at most k.
-#[derive(Debug, Clone, PartialEq)]
+#[derive(Clone, PartialEq)]
 pub struct Cut {
     counts: Vec<u32>,
     boxes: Vec<ColourBox>,
     colour_map: ColourMap,
+}
+
+/// The parts may be long: grid and number of boxes are printed in their place.
+impl fmt::Debug for Cut {
+    fn fmt(&self, f: &mut fmt::Formatter<'_>) -> fmt::Result {
+        f.debug_struct("Cut")
+            .field("grid", &self.colour_map.grid().sizes())
+            .field("boxes", &self.boxes.len())
+            .finish_non_exhaustive()
+    }
 }
 
 impl Cut {
@@ -85,6 +105,24 @@ impl Cut {
     pub fn into_colour_map(self) -> ColourMap {
         self.colour_map
     }
+
+    /// The colour map, the counts and the boxes, without a copy.
+    ///
+    /// ```
+    /// use seluvava::{Grid, Table};
+    ///
+    /// let mut table = Table::new(Grid::rgb());
+    /// table.load(&[[0, 0, 0], [255, 255, 255], [255, 255, 255]])?;
+    /// let (map, counts, boxes) = table.cut(16)?.into_parts();
+    /// assert_eq!(map.into_palette(), [[255, 255, 255], [0, 0, 0]]);
+    /// assert_eq!(counts, [2, 1]);
+    /// assert_eq!(boxes[0].max, [16, 32, 16]);
+    /// # Ok::<(), seluvava::Refused>(())
+    /// ```
+    #[must_use]
+    pub fn into_parts(self) -> (ColourMap, Vec<u32>, Vec<ColourBox>) {
+        (self.colour_map, self.counts, self.boxes)
+    }
 }
 
 impl Table {
@@ -94,7 +132,7 @@ impl Table {
     ///
     /// # Errors
     ///
-    /// [`Refused::PaletteSize`] where k is outside 1..256, [`Refused::Unsound`], [`Refused::Empty`] where nothing
+    /// [`Refused::PaletteSize`] where k is outside 1 to 256, [`Refused::Unsound`], [`Refused::Empty`] where nothing
     /// was loaded.
     ///
     /// ```

@@ -18,7 +18,7 @@ use std::{error::Error, fmt};
 pub enum Refused {
     /// 1: a grid size is none of 2, 4, 8, 16, 32, 64, 128.
     GridSize = 1,
-    /// 2: the number of colours that a cut is to have at most is outside 1..256.
+    /// 2: the number of colours that a cut is to have at most is outside 1 to 256.
     PaletteSize = 2,
     /// 3: the colour bytes are not a multiple of three.
     StrayBytes = 3,
@@ -88,7 +88,7 @@ impl fmt::Display for Refused {
     fn fmt(&self, f: &mut fmt::Formatter<'_>) -> fmt::Result {
         let reason = match self {
             Refused::GridSize => "a grid size is none of 2, 4, 8, 16, 32, 64, 128",
-            Refused::PaletteSize => "the number of colours asked for is outside 1..256",
+            Refused::PaletteSize => "the number of colours asked for is outside 1 to 256",
             Refused::StrayBytes => "the colour bytes are not a multiple of three",
             Refused::Weights => "weights are given, and not one per colour",
             Refused::Length => "a length or a grid is wrong, or a band reaches past the frame",

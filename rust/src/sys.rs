@@ -1,105 +1,31 @@
 //! The calls of the archive, each behind a function on slices. No other module has `unsafe`.
 //!
-//! `include/seluvava.h` says what a call needs: that each pointer is good for the length after it, and that what is
-//! lent does not overlap. A slice gives the first. A call writes only what it is lent by `&mut`, and no other
-//! reference points there, which gives the second. An empty slice's pointer is not read.
+//! `include/seluvava.h` asks three things of a caller, and slices give each of them:
+//!
+//! - A pointer is aligned for its type and has that many elements behind it: it goes with the length of its slice. An
+//!   empty slice's pointer is not looked at.
+//! - No buffer that is not const overlaps another one lent to the same call: it is lent by `&mut`, and no other
+//!   reference points there. Const ones are lent by `&`; they may overlap each other.
+//! - Nobody else writes to a buffer, or reads one that is not const, before the call returns: so long lasts the borrow.
+#[path = "calls.rs"]
+mod calls;
+
 use crate::{Grid, Refused};
-
-/// What a cut answers.
-#[repr(C)]
-struct CutAnswer {
-    number: u8,
-    boxes: usize,
-}
-
-// SAFETY: these are the calls that `include/seluvava.h` declares. The two safe ones are lent nothing.
-unsafe extern "C" {
-    safe fn seluvava_bins(b1: usize, b2: usize, b3: usize) -> usize;
-
-    safe fn seluvava_numbers(b1: usize, b2: usize, b3: usize) -> usize;
-
-    fn seluvava_load(
-        b1: usize,
-        b2: usize,
-        b3: usize,
-        table: *mut u64,
-        table_len: usize,
-        colours: *const u8,
-        colours_len: usize,
-        weighted: bool,
-        weights: *const u32,
-        weights_len: usize,
-    ) -> u8;
-
-    fn seluvava_merge(
-        b1: usize,
-        b2: usize,
-        b3: usize,
-        table: *mut u64,
-        table_len: usize,
-        second: *const u64,
-        second_len: usize,
-    ) -> u8;
-
-    fn seluvava_cut(
-        b1: usize,
-        b2: usize,
-        b3: usize,
-        k: usize,
-        table: *const u64,
-        table_len: usize,
-        work: *mut u64,
-        work_len: usize,
-        palette: *mut u8,
-        palette_len: usize,
-        counts: *mut u32,
-        counts_len: usize,
-        map: *mut u8,
-        map_len: usize,
-        boxes: *mut u8,
-        boxes_len: usize,
-        spreads: *mut f64,
-        spreads_len: usize,
-    ) -> CutAnswer;
-
-    fn seluvava_map(
-        b1: usize,
-        b2: usize,
-        b3: usize,
-        map: *const u8,
-        map_len: usize,
-        colours: usize,
-        frame: *const u8,
-        frame_len: usize,
-        indices: *mut u8,
-        indices_len: usize,
-        first: usize,
-        pixels: usize,
-    ) -> u8;
-
-    fn seluvava_paint(
-        b1: usize,
-        b2: usize,
-        b3: usize,
-        map: *const u8,
-        map_len: usize,
-        palette: *const u8,
-        palette_len: usize,
-        frame: *mut u8,
-        frame_len: usize,
-        first: usize,
-        pixels: usize,
-    ) -> u8;
-}
+use calls::{
+    seluvava_bins, seluvava_cut, seluvava_load, seluvava_map, seluvava_merge, seluvava_numbers,
+    seluvava_paint,
+};
 
 /// The bins of a grid, or 0 where it is refused.
 pub fn bins([b1, b2, b3]: [usize; 3]) -> usize {
-    seluvava_bins(b1, b2, b3)
+    // SAFETY: nothing is lent.
+    unsafe { seluvava_bins(b1, b2, b3) }
 }
 
 /// The numbers of a table, or 0 where its grid is refused.
 pub fn numbers([b1, b2, b3]: [usize; 3]) -> usize {
-    seluvava_numbers(b1, b2, b3)
+    // SAFETY: nothing is lent.
+    unsafe { seluvava_numbers(b1, b2, b3) }
 }
 
 /// Adds a batch of colours to a table, with weights where they are given.

@@ -1,4 +1,5 @@
 use crate::{Grid, Refused, sys};
+use std::fmt;
 
 /// The colours that were counted, by the bins of a grid.
 ///
@@ -21,10 +22,20 @@ use crate::{Grid, Refused, sys};
 /// assert_eq!(table.total(), 5);
 /// # Ok::<(), seluvava::Refused>(())
 /// ```
-#[derive(Debug, Clone, PartialEq, Eq)]
+#[derive(Clone, PartialEq, Eq)]
 pub struct Table {
     grid: Grid,
     numbers: Vec<u64>,
+}
+
+/// The numbers may be ten million: grid and total are printed in their place.
+impl fmt::Debug for Table {
+    fn fmt(&self, f: &mut fmt::Formatter<'_>) -> fmt::Result {
+        f.debug_struct("Table")
+            .field("grid", &self.grid.sizes())
+            .field("total", &self.total())
+            .finish_non_exhaustive()
+    }
 }
 
 impl Table {

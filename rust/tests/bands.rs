@@ -59,3 +59,16 @@ fn paint() -> Result<(), Refused> {
     assert_eq!(map.palette(), map.clone().into_palette());
     Ok(())
 }
+
+#[test]
+fn what_is_only_read_may_overlap() -> Result<(), Refused> {
+    let (_, map) = frame_and_map()?;
+    let pixels = map.entries().len() / 3;
+    let frame = &map.entries()[..3 * pixels];
+    let apart = frame.to_vec();
+    let (mut indices, mut expected) = (vec![255; pixels], vec![255; pixels]);
+    map.map_bytes(frame, &mut indices, 0..pixels)?;
+    map.map_bytes(&apart, &mut expected, 0..pixels)?;
+    assert_eq!(indices, expected);
+    Ok(())
+}

@@ -1,4 +1,4 @@
-//! P1 to P10, the worked cases of the port's rules, as one table.
+//! P1 to P10, the worked cases of the port's rules, as one table, and a box with spread that cannot be cut.
 use seluvava::{Cut, Grid, Refused, Table};
 
 /// Colours to load, with weights or without, and the number that the load answers.
@@ -83,6 +83,19 @@ fn entries(runs: &[(u8, usize)]) -> Vec<u8> {
 fn cases() -> Vec<Case> {
     let black_and_white = || vec![weighted(&[[0, 0, 0], [255, 255, 255]], &[1, 3], 0)];
     let reds = || vec![plain(&[[0, 0, 0], [64, 0, 0], [255, 0, 0]])];
+    // Of the dark colours, both in one bin, the spread is 1 - 1/2.
+    let two_dark_and_white = || vec![plain(&[[0, 0, 0], [1, 0, 0], [255, 255, 255]])];
+    let dark_box_of_spread = |spread| {
+        Ok(Answer {
+            palette: vec![[0, 0, 0], [255, 255, 255]],
+            counts: vec![2, 1],
+            boxes: vec![
+                ([[0, 1], [0, 2], [0, 2]], spread),
+                ([[1, 2], [0, 2], [0, 2]], 0.0),
+            ],
+            map: entries(&[(0, 4), (1, 4)]),
+        })
+    };
     let refused = |name, sizes, loads, k, number| Case {
         name,
         sizes,
@@ -220,6 +233,20 @@ fn cases() -> Vec<Case> {
                 boxes: vec![([[0, 2], [0, 2], [0, 2]], f64::INFINITY)],
                 map: entries(&[(0, 8)]),
             }),
+        },
+        Case {
+            name: "a box that cannot be cut, before the loop tries",
+            sizes: [2, 2, 2],
+            loads: two_dark_and_white(),
+            k: 2,
+            expected: dark_box_of_spread(0.5),
+        },
+        Case {
+            name: "a box that cannot be cut, after the loop tried",
+            sizes: [2, 2, 2],
+            loads: two_dark_and_white(),
+            k: 3,
+            expected: dark_box_of_spread(0.0),
         },
         refused("P10, total 0", [2, 2, 2], vec![], 2, 8),
         refused("P10, k = 0", [2, 2, 2], black_and_white(), 0, 2),

@@ -1,95 +1,16 @@
 //! The port: the exported calls of the static library.
+#[path = "../../../../rust/src/calls.rs"]
+mod calls;
+
+use calls::{
+    seluvava_bins, seluvava_cut, seluvava_load, seluvava_map, seluvava_merge, seluvava_numbers,
+    seluvava_paint,
+};
 use oracle::port::{Band, Grid, Lent, Port};
 use std::ptr;
 
 // Named here so that a new archive is linked anew.
 const _: &[u8] = include_bytes!(env!("SELUVAVA_ARCHIVE"));
-
-/// What `seluvava_cut` answers.
-#[repr(C)]
-struct CutAnswer {
-    number: u8,
-    boxes: usize,
-}
-
-unsafe extern "C" {
-    fn seluvava_bins(b1: usize, b2: usize, b3: usize) -> usize;
-
-    fn seluvava_numbers(b1: usize, b2: usize, b3: usize) -> usize;
-
-    fn seluvava_load(
-        b1: usize,
-        b2: usize,
-        b3: usize,
-        table: *mut u64,
-        table_length: usize,
-        colours: *const u8,
-        colours_length: usize,
-        weighted: bool,
-        weights: *const u32,
-        weights_length: usize,
-    ) -> u8;
-
-    fn seluvava_merge(
-        b1: usize,
-        b2: usize,
-        b3: usize,
-        table: *mut u64,
-        table_length: usize,
-        second: *const u64,
-        second_length: usize,
-    ) -> u8;
-
-    fn seluvava_cut(
-        b1: usize,
-        b2: usize,
-        b3: usize,
-        k: usize,
-        table: *const u64,
-        table_length: usize,
-        work: *mut u64,
-        work_length: usize,
-        palette: *mut u8,
-        palette_length: usize,
-        counts: *mut u32,
-        counts_length: usize,
-        map: *mut u8,
-        map_length: usize,
-        boxes: *mut u8,
-        boxes_length: usize,
-        spreads: *mut f64,
-        spreads_length: usize,
-    ) -> CutAnswer;
-
-    fn seluvava_map(
-        b1: usize,
-        b2: usize,
-        b3: usize,
-        map: *const u8,
-        map_length: usize,
-        colours: usize,
-        frame: *const u8,
-        frame_length: usize,
-        indices: *mut u8,
-        indices_length: usize,
-        first: usize,
-        pixels: usize,
-    ) -> u8;
-
-    fn seluvava_paint(
-        b1: usize,
-        b2: usize,
-        b3: usize,
-        map: *const u8,
-        map_length: usize,
-        palette: *const u8,
-        palette_length: usize,
-        frame: *mut u8,
-        frame_length: usize,
-        first: usize,
-        pixels: usize,
-    ) -> u8;
-}
 
 /// Where a list starts. An empty one is handed on as a caller in C may have it: as NULL.
 fn start<T>(list: &[T]) -> *const T {

@@ -1,0 +1,89 @@
+//! The calls that `include/seluvava.h` declares, for Rust, and nothing of the crate: the judge in `oracle/` and the
+//! benchmark in `bench/` take this file too.
+
+/// What a cut answers.
+#[repr(C)]
+pub struct CutAnswer {
+    pub number: u8,
+    pub boxes: usize,
+}
+
+// SAFETY: types and order are those of the header.
+unsafe extern "C" {
+    pub fn seluvava_bins(b1: usize, b2: usize, b3: usize) -> usize;
+
+    pub fn seluvava_numbers(b1: usize, b2: usize, b3: usize) -> usize;
+
+    pub fn seluvava_load(
+        b1: usize,
+        b2: usize,
+        b3: usize,
+        table: *mut u64,
+        table_len: usize,
+        colours: *const u8,
+        colours_len: usize,
+        weighted: bool,
+        weights: *const u32,
+        weights_len: usize,
+    ) -> u8;
+
+    pub fn seluvava_merge(
+        b1: usize,
+        b2: usize,
+        b3: usize,
+        table: *mut u64,
+        table_len: usize,
+        second: *const u64,
+        second_len: usize,
+    ) -> u8;
+
+    pub fn seluvava_cut(
+        b1: usize,
+        b2: usize,
+        b3: usize,
+        k: usize,
+        table: *const u64,
+        table_len: usize,
+        work: *mut u64,
+        work_len: usize,
+        palette: *mut u8,
+        palette_len: usize,
+        counts: *mut u32,
+        counts_len: usize,
+        map: *mut u8,
+        map_len: usize,
+        boxes: *mut u8,
+        boxes_len: usize,
+        spreads: *mut f64,
+        spreads_len: usize,
+    ) -> CutAnswer;
+
+    pub fn seluvava_map(
+        b1: usize,
+        b2: usize,
+        b3: usize,
+        map: *const u8,
+        map_len: usize,
+        colours: usize,
+        frame: *const u8,
+        frame_len: usize,
+        indices: *mut u8,
+        indices_len: usize,
+        first: usize,
+        pixels: usize,
+    ) -> u8;
+
+    pub fn seluvava_paint(
+        b1: usize,
+        b2: usize,
+        b3: usize,
+        map: *const u8,
+        map_len: usize,
+        palette: *const u8,
+        palette_len: usize,
+        frame: *mut u8,
+        frame_len: usize,
+        first: usize,
+        pixels: usize,
+    ) -> u8;
+}
