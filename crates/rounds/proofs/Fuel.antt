@@ -1,22 +1,22 @@
 -- How many rounds a loop has at most: 2·k − 2, and more rounds change nothing.
 -- Assumes nothing.
-use mathlib.Core.Path.{_≡_, refl, sym, ap, subst, _∙_}
+use mathlib.Core.Path.{_≡_, refl, sym, ap, _∙_}
 use mathlib.Core.Bool.{Bool, true, false, cond, true≢false}
 use Prim.Native.Nat.{ℕ, zero, suc, _+_, _-_, _*_, _≤_, _<_}
 use native.Mathlib.Nat.{le-trans, lt-of-not-le}
 use native.Mathlib.Decide.{decLe}
 use native.Mathlib.Omega.{arith}
-use borrow.Author.Tests.{ltb-true, ltb-false, le-ltb, lt-ltb}
+use borrow.Author.Tests.{ltb-true, le-ltb, lt-ltb}
 use lib.Dec.{ltb}
-use lib.ListN.{length, take, set, replicate, length-set, length-replicate}
-use lib.Ieee.{Float, inf, lt, eq}
+use lib.ListN.{length, take}
+use lib.Ieee.{lt, eq}
 use Rattle.grid.specs.declared.Grid.{Grid}
 use Rattle.table.specs.Cell.{View}
 use Rattle.sums.specs.declared.Bounds.{Bounds}
 use Rattle.sums.specs.Box.{lowSide, highSide}
 use Rattle.heap.specs.Heap.{Item, Room, item, putIn, takeOut, sumItems}
 use Rattle.heap.proofs.Keeps.{put-in-long, put-in-sum, take-out-sum}
-use Rattle.rounds.specs.Loop.{Heap, noBox, noItem, itself, spent, wholeOf, startRoom, start, goesOn, roundRoom, roundUsed, round, rounds, heapOf}
+use Rattle.rounds.specs.Loop.{Heap, noItem, itself, spent, startRoom, start, goesOn, roundRoom, roundUsed, round, rounds, heapOf}
 use Rattle.rounds.proofs.Turning.{round-cases}
 use Rattle.rounds.proofs.Filled.{InUse, left-long, two-more, start-in-use, in-use-round}
 

@@ -6,7 +6,7 @@ use mathlib.Core.List.{List}
 use Prim.Native.Nat.{ℕ, _+_, _*_, _/_, _%_, _≤_, _<_}
 use native.Mathlib.Nat.{le-of-lt}
 use native.Mathlib.Omega.{arith}
-use lib.ListN.{length, getD, set, replicate, length-map}
+use lib.ListN.{getD, set, replicate}
 use lib.Ieee.{Float, nan, inf}
 use Rattle.grid.specs.declared.Grid.{Grid}
 use Rattle.grid.specs.Grid.{choose, sizeAt}
@@ -16,7 +16,7 @@ use Rattle.sums.specs.declared.Bounds.{Bounds}
 use Rattle.sums.specs.Box.{Within}
 use Rattle.sums.proofs.Corners.{sides}
 use Rattle.spread.specs.Spread.{zeroOf, Ordered}
-use Rattle.heap.specs.Heap.{Item, Room, item, putIn, takeOut, viewItem, viewRoom}
+use Rattle.heap.specs.Heap.{item, putIn, takeOut, viewItem, viewRoom}
 use Rattle.heap.specs.Lent.{Lent, roomOf, spreadsOf, boxesOf, noItem as noPacked}
 use Rattle.heap.proofs.Lent.{alike, room-item, room-is, room-long, lent-of}
 use Rattle.heap.proofs.Keeps.{put-in-long, take-out-long}
@@ -83,10 +83,6 @@ unfolding boxOf
 nothing-there = refl
 
 module _ {spreads : List Float} {boxes : List ℕ} (lent : Lent spreads boxes) where
-  pub room-in-long : length (roomIn spreads boxes) ≡ 256
-  unfolding roomIn
-  room-in-long = length-map (roomOf spreads boxes) (viewItem boxOf) ∙ room-long lent
-
   pub room-in-item : (p : ℕ) → item noItem (roomIn spreads boxes) p ≡ record { spread = getD spreads p nan; box = boxOf (getD boxes p 0) }
   unfolding roomIn
   room-in-item p =

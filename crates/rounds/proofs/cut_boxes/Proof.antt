@@ -1,6 +1,6 @@
 -- `rounds::cut_boxes` meets its contract: the arrays hold the start, the loop's heap, and then the record's places.
 -- Assumes nothing.
-use mathlib.Core.Path.{_≡_, refl, ap, _∙_}
+use mathlib.Core.Path.{refl, ap, _∙_}
 use borrow.Author.Needs.{needs}
 use native.Mathlib.Nat.{le-trans}
 use denote.Ref.{now}

@@ -1,17 +1,16 @@
 -- `rounds::run` meets its contract: what is still to come of the loop's rounds gives the heap at the end.
 -- Assumes nothing.
 use mathlib.Core.Path.{_≡_, sym, ap, _∙_}
-use mathlib.Core.Bool.{true, false}
-use Prim.Native.Nat.{ℕ, suc, _+_, _*_, _≤_, _<_}
+use mathlib.Core.Bool.{true}
 use native.Mathlib.Omega.{arith}
 use borrow.Author.Needs.{needs}
 use borrow.Author.Tests.{not-true, not-false}
 use denote.Ref.{now}
 use Rattle.table.specs.Cell.{wide}
-use Rattle.heap.specs.Heap.{Item, Room, item}
+use Rattle.heap.specs.Heap.{Item, item}
 use Rattle.heap.specs.Lent.{Lent}
 use Rattle.sums.specs.declared.Bounds.{Bounds}
-use Rattle.rounds.specs.Loop.{Heap, noItem, start, goesOn, rounds, heapOf, roomIn}
+use Rattle.rounds.specs.Loop.{noItem, goesOn, roomIn}
 use Rattle.rounds.proofs.Packing.{room-in-item}
 use Rattle.rounds.proofs.Filled.{Each, Fit, fit-kept, each-round, start-fit}
 use Rattle.rounds.proofs.Fuel.{need, need-less, ToCome, come-start, come-full, come-stop, come-round}
