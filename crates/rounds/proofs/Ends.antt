@@ -24,7 +24,7 @@ use Rattle.floats.proofs.Compare.{not-less-trans, finite-number}
 use Rattle.heap.proofs.Order.{put-in-order, take-out-order, top-greatest}
 use Rattle.rounds.specs.Loop.{Heap, noItem, itself, spent, startRoom, start, goesOn, roundRoom, roundUsed, round, rounds, heapOf}
 use Rattle.rounds.proofs.Turning.{room-stops, used-stops, round-cases}
-use Rattle.rounds.proofs.Filled.{InUse, Each, Kept, Fit, fit-kept, left-long, put-back, two-more, each-put, others, start-in-use, start-item, start-fit}
+use Rattle.rounds.proofs.Filled.{InUse, Each, Kept, Fit, fit-kept, left-long, put-back, two-more, each-put, others, atStart, start-each, start-fit}
 use Rattle.rounds.proofs.Fuel.{need, need-none, need-less, rounds-full, rounds-on, rounds-stop, start-need}
 
 -- ---- no spread is a NaN
@@ -166,17 +166,13 @@ isInf (inf s) = true
 isInf (fin s m e) = false
 
 -- the start, and so the end
-pub start-ordered : {g : Grid} {v : View} → Accepted g → 0 < total g v → Ordered g v (startRoom g) 1
+pub start-sane : {g : Grid} {v : View} → Accepted g → 0 < total g v → Sane g v (atStart g)
 unfolding isInf
-start-ordered {g} {v} a l =
-    record {
-      sane = record { in-use = start-in-use g; each = λ p m. record { fit = start-fit a l .each p m; number = infinity p (omega arith) } };
-      order = record { under = λ p m k. absurd (omega arith) };
-    }
-  where
-    infinity : (p : ℕ) → p ≡ 0 → item noItem (startRoom g) p .spread ≢ nan
-    infinity p e = rw (e, start-item g) (λ q. true≢false (ap isInf q))
+start-sane a l = record { fit = start-fit a l; number = λ q. true≢false (ap isInf q) }
 
-pub heap-end : {g : Grid} {v : View} → Sound limit g v → Accepted g → 0 < total g v → (k : ℕ) → 1 ≤ k → k ≤ 256 → Ended k (heapOf g v k .room) (heapOf g v k .used)
+start-ordered : {g : Grid} {v : View} → Accepted g → 0 < total g v → Ordered g v (startRoom g) 1
+start-ordered {g} a l = record { sane = start-each g (start-sane a l); order = record { under = λ p m k. absurd (omega arith) } }
+
+pub heap-end : {g : Grid} {v : View} → Sound limit g v → Accepted g → 0 < total g v → (k : ℕ) → k ≤ 256 → Ended k (heapOf g v k .room) (heapOf g v k .used)
 unfolding heapOf start
-heap-end {g} {v} s a l k least most = rounds-end s k most (2 * k) (start g) (start-ordered a l) (omega (arith, start-need g k least))
+heap-end {g} s a l k most = rounds-end s k most (2 * k) (start g) (start-ordered a l) (omega (arith, start-need g k))

@@ -139,13 +139,13 @@ start-hot : (g : Grid) → sumItems hot (take 1 (startRoom g)) ≡ 1
 unfolding startRoom sumItems hot goesOn lt eq
 start-hot g = refl
 
-pub start-need : (g : Grid) (k : ℕ) → 1 ≤ k → need k (startRoom g) 1 ≤ 2 * k - 2
-start-need g k l = need-high k (startRoom g) 1 (2 * k - 2) (λ m. omega (arith, start-hot g))
+pub start-need : (g : Grid) (k : ℕ) → need k (startRoom g) 1 ≤ 2 * k - 2
+start-need g k = need-high k (startRoom g) 1 (2 * k - 2) (λ m. omega (arith, start-hot g))
 
 -- "fuel of 2k − 2 or more changes nothing"
-pub enough : (g : Grid) (v : View) (k f : ℕ) → 1 ≤ k → k ≤ 256 → 2 * k - 2 ≤ f → rounds f g v k (start g) ≡ heapOf g v k
+pub enough : (g : Grid) (v : View) (k f : ℕ) → k ≤ 256 → 2 * k - 2 ≤ f → rounds f g v k (start g) ≡ heapOf g v k
 unfolding start heapOf
-enough g v k f l m h = stable g v k m f (2 * k) (start g) (start-in-use g) (le-trans (start-need g k l) h) (omega (arith, start-need g k l))
+enough g v k f m h = stable g v k m f (2 * k) (start g) (start-in-use g) (le-trans (start-need g k) h) (omega (arith, start-need g k))
 
 -- ---- what is still to come, from a room with n places in use: it gives the heap at the end
 pub record ToCome (g : Grid) (v : View) (k : ℕ) (h : Room Bounds) (n : ℕ) : Type 0 where
@@ -163,13 +163,13 @@ at-end : {g : Grid} {v : View} {k : ℕ} {h : Heap} → h ≡ heapOf g v k → A
 at-end e = record { room = ap (λ (h : Heap). h .room) e; used = ap (λ (h : Heap). h .used) e }
 
 module _ {g : Grid} {v : View} {k : ℕ} where
-  pub come-start : 1 ≤ k → {h : Room Bounds} → h ≡ startRoom g → ToCome g v k h 1
+  pub come-start : {h : Room Bounds} → h ≡ startRoom g → ToCome g v k h 1
   unfolding heapOf start
-  come-start l e =
+  come-start e =
       record {
         so-far = 0;
         left = 2 * k;
-        covers = rw e (omega (arith, start-need g k l));
+        covers = rw e (omega (arith, start-need g k));
         gives = λ i. rounds (2 * k) g v k (record { room = e i; used = 1; rounds = 0 });
       }
 
