@@ -109,7 +109,7 @@ pub of-grid-kept : (g : Grid) (v : View) → Kept g v (OfGrid g)
 unfolding itself
 of-grid-kept g v = record { spent-too = λ x h q. h; sides-too = λ x h q. (low-box v h q, high-box v h q) }
 
--- ---- "no box is empty"
+-- ---- no box is empty
 pub record Fit (g : Grid) (v : View) (x : Item Bounds) : Type 0 where
   pub within : Within g (x .box)
   pub some : boxSum g v (x .box) 0 ≡ 0 → ⊥

@@ -142,7 +142,7 @@ start-hot g = refl
 pub start-need : (g : Grid) (k : ℕ) → need k (startRoom g) 1 ≤ 2 * k - 2
 start-need g k = need-high k (startRoom g) 1 (2 * k - 2) (λ m. omega (arith, start-hot g))
 
--- "fuel of 2k − 2 or more changes nothing"
+-- 2·k − 2 rounds are enough
 pub enough : (g : Grid) (v : View) (k f : ℕ) → k ≤ 256 → 2 * k - 2 ≤ f → rounds f g v k (start g) ≡ heapOf g v k
 unfolding start heapOf
 enough g v k f m h = stable g v k m f (2 * k) (start g) (start-in-use g) (le-trans (start-need g k) h) (omega (arith, start-need g k))

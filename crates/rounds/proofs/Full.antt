@@ -93,7 +93,7 @@ pub occupied-whole : (g : Grid) (v : View) → occupiedIn g v (wholeOf g) ≡ su
 unfolding occupiedIn
 occupied-whole g v = whole-sum g (marks v) 0
 
--- ---- "as many boxes as the smaller of k and the occupied bins"
+-- ---- as many boxes as the smaller of k and the occupied bins
 pub full : {g : Grid} {v : View} → Sound limit g v → Accepted g → 0 < total g v → SpreadsAbove g v → (k : ℕ) → 1 ≤ k → k ≤ 256
     → heapOf g v k .used ≡ min k (occupiedIn g v (wholeOf g))
 full {g} {v} s a l spreads k least most =
