@@ -2,8 +2,6 @@ pub mod Cases
 pub mod Steps
 pub mod Lent
 pub mod Keeps
-pub mod Calls
 pub mod View
-pub mod Unread
 pub mod Order
 pub mod Worked

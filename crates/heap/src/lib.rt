@@ -59,7 +59,6 @@ fn climb(spreads: &mut [f64; 256], boxes: &mut [u64; 256], at: usize, spread: f6
 fn child(spreads: &[f64; 256], p: usize) -> usize
     requires { ⌜ 2 * p + 2 < 256 ⌝ }
     ensures { λ r. ⌜ r ≡ cond (le (getD (now (spreads .entry)) (2 * p + 1) nan) (getD (now (spreads .entry)) (2 * p + 2) nan)) (2 * p + 2) (2 * p + 1) ⌝ }
-    ensures { λ r. ⌜ (2 * p + 1 ≤ r) × (r ≤ 2 * p + 2) ⌝ }
 {
     let left = 2 * p + 1;
     let right = 2 * p + 2;

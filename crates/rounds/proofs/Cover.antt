@@ -1,20 +1,17 @@
 -- Whatever adds up over the two sides of every cut adds up over the boxes of the loop: their weights are the total, and each bin lies in exactly one of them.
 -- Assumes nothing.
-use mathlib.Core.Path.{_≡_, refl, sym, ap, subst, _∙_}
-use mathlib.Core.Bool.{Bool, true, false, cond, _&&_}
+use mathlib.Core.Path.{_≡_, refl, ap, subst, _∙_}
+use mathlib.Core.Bool.{Bool, true, false, cond}
 use Prim.Native.Nat.{ℕ, zero, suc, _+_, _-_, _*_, _≤_, _<_}
 use native.Mathlib.Nat.{add-zero, le-of-lt}
 use native.Mathlib.Omega.{arith}
 use borrow.Author.Tests.{ltb-true}
 use lib.Dec.{ltb}
 use lib.ListN.{length, take}
-use lib.Ieee.{Float}
 use Rattle.grid.specs.declared.Grid.{Grid}
 use Rattle.table.specs.Cell.{View}
 use Rattle.sums.specs.declared.Bounds.{Bounds}
 use Rattle.sums.specs.Box.{minAt, maxAt, lowSide, highSide}
-use Rattle.spread.specs.declared.Position.the-variants.{At}
-use Rattle.spread.specs.Cut.{bestCut}
 use Rattle.spread.proofs.Best.{answered}
 use Rattle.heap.specs.Heap.{Item, Room, item, putIn, takeOut, sumItems}
 use Rattle.heap.proofs.Keeps.{put-in-long, put-in-sum, take-out-sum}

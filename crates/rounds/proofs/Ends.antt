@@ -1,17 +1,15 @@
 -- How the loop ends: with k boxes, or with none that is to be cut. Until then the heap is in order, and no spread is a NaN.
 -- Assumes nothing.
 use mathlib.Core.Path.{_≡_, refl, sym, ap, subst, _∙_}
-use mathlib.Core.Logic.{_≢_, _⊎_, inl, inr}
+use mathlib.Core.Logic.{_≢_}
 use mathlib.Core.Bool.{Bool, true, false, cond, true≢false}
 use Prim.Native.Nat.{ℕ, zero, suc, _+_, _-_, _*_, _≤_, _<_}
-use native.Mathlib.Nat.{le-trans, lt-of-not-le}
+use native.Mathlib.Nat.{lt-of-not-le}
 use native.Mathlib.Decide.{decLe}
 use native.Mathlib.Omega.{arith}
 use borrow.Author.Tests.{eq-eqb}
-use lib.Dec.{T, ltb}
 use lib.ListN.{length}
 use lib.Ieee.{Float, nan, inf, fin, up, down, lt, eq}
-use lib.Ieee.Scale.{finite}
 use Rattle.grid.specs.declared.Grid.{Grid}
 use Rattle.grid.specs.Grid.{Accepted}
 use Rattle.table.specs.Cell.{View}
@@ -19,17 +17,14 @@ use Rattle.table.specs.Sound.{limit, total}
 use Rattle.table.proofs.Soundness.{Sound}
 use Rattle.sums.specs.declared.Bounds.{Bounds}
 use Rattle.sums.specs.Box.{boxSum, statsOf, lowSide, highSide, Within}
-use Rattle.spread.specs.declared.Position.the-variants.{At, Nowhere}
 use Rattle.spread.specs.Spread.{zeroOf, spreadOf}
-use Rattle.spread.specs.Cut.{bestCut}
 use Rattle.spread.proofs.Finite.{spread-finite}
 use Rattle.heap.specs.Heap.{Item, Room, item, putIn, takeOut, InOrder, NoNaN}
 use Rattle.floats.proofs.Compare.{not-less-trans, finite-number}
 use Rattle.heap.proofs.Order.{put-in-order, take-out-order, top-greatest}
-use Rattle.heap.proofs.Keeps.{put-in-long, take-out-long}
 use Rattle.rounds.specs.Loop.{Heap, noItem, itself, spent, startRoom, start, goesOn, roundRoom, roundUsed, round, rounds, heapOf}
 use Rattle.rounds.proofs.Turning.{room-stops, used-stops, round-cases}
-use Rattle.rounds.proofs.Filled.{InUse, Each, Kept, Fit, fit-kept, left-long, put-back, two-more, each-put, others, each-round, in-use-round, start-in-use, start-item, start-fit}
+use Rattle.rounds.proofs.Filled.{InUse, Each, Kept, Fit, fit-kept, left-long, put-back, two-more, each-put, others, atStart, start-each, start-fit}
 use Rattle.rounds.proofs.Fuel.{need, need-none, need-less, rounds-full, rounds-on, rounds-stop, start-need}
 
 -- ---- no spread is a NaN
@@ -171,17 +166,13 @@ isInf (inf s) = true
 isInf (fin s m e) = false
 
 -- the start, and so the end
-pub start-ordered : {g : Grid} {v : View} → Accepted g → 0 < total g v → Ordered g v (startRoom g) 1
+pub start-sane : {g : Grid} {v : View} → Accepted g → 0 < total g v → Sane g v (atStart g)
 unfolding isInf
-start-ordered {g} {v} a l =
-    record {
-      sane = record { in-use = start-in-use g; each = λ p m. record { fit = start-fit a l .each p m; number = infinity p (omega arith) } };
-      order = record { under = λ p m k. absurd (omega arith) };
-    }
-  where
-    infinity : (p : ℕ) → p ≡ 0 → item noItem (startRoom g) p .spread ≢ nan
-    infinity p e = rw (e, start-item g) (λ q. true≢false (ap isInf q))
+start-sane a l = record { fit = start-fit a l; number = λ q. true≢false (ap isInf q) }
 
-pub heap-end : {g : Grid} {v : View} → Sound limit g v → Accepted g → 0 < total g v → (k : ℕ) → 1 ≤ k → k ≤ 256 → Ended k (heapOf g v k .room) (heapOf g v k .used)
+start-ordered : {g : Grid} {v : View} → Accepted g → 0 < total g v → Ordered g v (startRoom g) 1
+start-ordered {g} a l = record { sane = start-each g (start-sane a l); order = record { under = λ p m k. absurd (omega arith) } }
+
+pub heap-end : {g : Grid} {v : View} → Sound limit g v → Accepted g → 0 < total g v → (k : ℕ) → k ≤ 256 → Ended k (heapOf g v k .room) (heapOf g v k .used)
 unfolding heapOf start
-heap-end {g} {v} s a l k least most = rounds-end s k most (2 * k) (start g) (start-ordered a l) (omega (arith, start-need g k least))
+heap-end {g} s a l k most = rounds-end s k most (2 * k) (start g) (start-ordered a l) (omega (arith, start-need g k))

@@ -101,7 +101,15 @@ each-rounds {g} {v} {P} kept k (suc f) most h e =
     go true q false after = next (ltb-true (h .used) k q)
     go true q true after = after (next (ltb-true (h .used) k q))
 
--- ---- "no box is empty"
+-- ---- every box in use is one of the grid
+abbrev pub OfGrid : Grid → Item Bounds → Type 0
+OfGrid g x = Within g (x .box)
+
+pub of-grid-kept : (g : Grid) (v : View) → Kept g v (OfGrid g)
+unfolding itself
+of-grid-kept g v = record { spent-too = λ x h q. h; sides-too = λ x h q. (low-box v h q, high-box v h q) }
+
+-- ---- no box is empty
 pub record Fit (g : Grid) (v : View) (x : Item Bounds) : Type 0 where
   pub within : Within g (x .box)
   pub some : boxSum g v (x .box) 0 ≡ 0 → ⊥
@@ -119,41 +127,39 @@ fit-kept g v =
     }
 
 -- ---- the start
+-- the whole grid at infinity
+abbrev pub atStart : Grid → Item Bounds
+atStart g = record { spread = inf false; box = wholeOf g }
+
 pub start-in-use : (g : Grid) → InUse (startRoom g) 1
 unfolding startRoom
 start-in-use g =
     record {
-      long = length-set (replicate 256 (spent noBox)) 0 (record { spread = inf false; box = wholeOf g }) ∙ length-replicate 256 (spent noBox);
+      long = length-set (replicate 256 (spent noBox)) 0 (atStart g) ∙ length-replicate 256 (spent noBox);
       some = omega arith;
       most = omega arith;
     }
 
-pub start-item : (g : Grid) → item noItem (startRoom g) 0 ≡ record { spread = inf false; box = wholeOf g }
+-- it is the only box in use
+pub start-each : {P : Item Bounds → Type 0} (g : Grid) → P (atStart g) → Each P (startRoom g) 1
 unfolding startRoom
-start-item g = refl
-
--- the whole grid at the start: its weight is the total
-pub start-fit : {g : Grid} {v : View} → Accepted g → 0 < total g v → Each (Fit g v) (startRoom g) 1
-start-fit {g} {v} a l =
-    record {
-      in-use = start-in-use g;
-      each = λ p m. first p (omega arith);
-    }
+start-each {P} g has = record { in-use = start-in-use g; each = λ p m. first p (omega arith) }
   where
-    weight : boxSum g v (wholeOf g) 0 ≡ 0 → ⊥
-    weight e = omega (arith, total-is g v, whole-sum g v 0)
+    first : (p : ℕ) → p ≡ 0 → P (item noItem (startRoom g) p)
+    first p e = rw e has
 
-    first : (p : ℕ) → p ≡ 0 → Fit g v (item noItem (startRoom g) p)
-    first p e = rw (e, start-item g) (record { within = whole-within a; some = weight })
+-- its weight is the total
+pub start-fit : {g : Grid} {v : View} → Accepted g → 0 < total g v → Fit g v (atStart g)
+start-fit {g} {v} a l = record { within = whole-within a; some = λ e. omega (arith, total-is g v, whole-sum g v 0) }
 
 -- ---- the heap at the end
 pub heap-fit : {g : Grid} {v : View} → Accepted g → 0 < total g v → (k : ℕ) → k ≤ 256 → Each (Fit g v) (heapOf g v k .room) (heapOf g v k .used)
 unfolding heapOf start
-heap-fit {g} {v} a l k most = each-rounds (fit-kept g v) k (2 * k) most (start g) (start-fit a l)
+heap-fit {g} {v} a l k most = each-rounds (fit-kept g v) k (2 * k) most (start g) (start-each g (start-fit a l))
 
 pub heap-in-use : (g : Grid) (v : View) (k : ℕ) → k ≤ 256 → InUse (heapOf g v k .room) (heapOf g v k .used)
 unfolding heapOf start
-heap-in-use g v k most = each-rounds (any-kept g v) k (2 * k) most (start g) (record { in-use = start-in-use g; each = λ p m. tt }) .in-use
+heap-in-use g v k most = each-rounds (any-kept g v) k (2 * k) most (start g) (start-each g tt) .in-use
 
 -- no more than k boxes
 round-most : (g : Grid) (v : View) (h : Room Bounds) (n : ℕ) → 0 < n → roundUsed g v h n ≤ n + 1

@@ -1,22 +1,22 @@
 -- How many rounds a loop has at most: 2·k − 2, and more rounds change nothing.
 -- Assumes nothing.
-use mathlib.Core.Path.{_≡_, refl, sym, ap, subst, _∙_}
+use mathlib.Core.Path.{_≡_, refl, sym, ap, _∙_}
 use mathlib.Core.Bool.{Bool, true, false, cond, true≢false}
 use Prim.Native.Nat.{ℕ, zero, suc, _+_, _-_, _*_, _≤_, _<_}
 use native.Mathlib.Nat.{le-trans, lt-of-not-le}
 use native.Mathlib.Decide.{decLe}
 use native.Mathlib.Omega.{arith}
-use borrow.Author.Tests.{ltb-true, ltb-false, le-ltb, lt-ltb}
+use borrow.Author.Tests.{ltb-true, le-ltb, lt-ltb}
 use lib.Dec.{ltb}
-use lib.ListN.{length, take, set, replicate, length-set, length-replicate}
-use lib.Ieee.{Float, inf, lt, eq}
+use lib.ListN.{length, take}
+use lib.Ieee.{lt, eq}
 use Rattle.grid.specs.declared.Grid.{Grid}
 use Rattle.table.specs.Cell.{View}
 use Rattle.sums.specs.declared.Bounds.{Bounds}
 use Rattle.sums.specs.Box.{lowSide, highSide}
 use Rattle.heap.specs.Heap.{Item, Room, item, putIn, takeOut, sumItems}
 use Rattle.heap.proofs.Keeps.{put-in-long, put-in-sum, take-out-sum}
-use Rattle.rounds.specs.Loop.{Heap, noBox, noItem, itself, spent, wholeOf, startRoom, start, goesOn, roundRoom, roundUsed, round, rounds, heapOf}
+use Rattle.rounds.specs.Loop.{Heap, noItem, itself, spent, startRoom, start, goesOn, roundRoom, roundUsed, round, rounds, heapOf}
 use Rattle.rounds.proofs.Turning.{round-cases}
 use Rattle.rounds.proofs.Filled.{InUse, left-long, two-more, start-in-use, in-use-round}
 
@@ -139,13 +139,13 @@ start-hot : (g : Grid) → sumItems hot (take 1 (startRoom g)) ≡ 1
 unfolding startRoom sumItems hot goesOn lt eq
 start-hot g = refl
 
-pub start-need : (g : Grid) (k : ℕ) → 1 ≤ k → need k (startRoom g) 1 ≤ 2 * k - 2
-start-need g k l = need-high k (startRoom g) 1 (2 * k - 2) (λ m. omega (arith, start-hot g))
+pub start-need : (g : Grid) (k : ℕ) → need k (startRoom g) 1 ≤ 2 * k - 2
+start-need g k = need-high k (startRoom g) 1 (2 * k - 2) (λ m. omega (arith, start-hot g))
 
--- "fuel of 2k − 2 or more changes nothing"
-pub enough : (g : Grid) (v : View) (k f : ℕ) → 1 ≤ k → k ≤ 256 → 2 * k - 2 ≤ f → rounds f g v k (start g) ≡ heapOf g v k
+-- 2·k − 2 rounds are enough
+pub enough : (g : Grid) (v : View) (k f : ℕ) → k ≤ 256 → 2 * k - 2 ≤ f → rounds f g v k (start g) ≡ heapOf g v k
 unfolding start heapOf
-enough g v k f l m h = stable g v k m f (2 * k) (start g) (start-in-use g) (le-trans (start-need g k l) h) (omega (arith, start-need g k l))
+enough g v k f m h = stable g v k m f (2 * k) (start g) (start-in-use g) (le-trans (start-need g k) h) (omega (arith, start-need g k))
 
 -- ---- what is still to come, from a room with n places in use: it gives the heap at the end
 pub record ToCome (g : Grid) (v : View) (k : ℕ) (h : Room Bounds) (n : ℕ) : Type 0 where
@@ -163,13 +163,13 @@ at-end : {g : Grid} {v : View} {k : ℕ} {h : Heap} → h ≡ heapOf g v k → A
 at-end e = record { room = ap (λ (h : Heap). h .room) e; used = ap (λ (h : Heap). h .used) e }
 
 module _ {g : Grid} {v : View} {k : ℕ} where
-  pub come-start : 1 ≤ k → {h : Room Bounds} → h ≡ startRoom g → ToCome g v k h 1
+  pub come-start : {h : Room Bounds} → h ≡ startRoom g → ToCome g v k h 1
   unfolding heapOf start
-  come-start l e =
+  come-start e =
       record {
         so-far = 0;
         left = 2 * k;
-        covers = rw e (omega (arith, start-need g k l));
+        covers = rw e (omega (arith, start-need g k));
         gives = λ i. rounds (2 * k) g v k (record { room = e i; used = 1; rounds = 0 });
       }
 

@@ -22,11 +22,11 @@ use Rattle.spread.specs.Spread.{spreadOf, SpreadsAbove}
 use Rattle.spread.specs.Cut.{bestCut}
 use Rattle.spread.proofs.Best.{two-occupied}
 use Rattle.heap.specs.Heap.{Item, Room, item, sumItems}
-use Rattle.rounds.specs.Loop.{noItem, itself, wholeOf, startRoom, start, goesOn, heapOf}
+use Rattle.rounds.specs.Loop.{noItem, itself, wholeOf, start, goesOn, heapOf}
 use Rattle.rounds.proofs.Grids.{whole-sum}
-use Rattle.rounds.proofs.Filled.{Each, Kept, Fit, each-rounds, start-item, heap-fit, heap-most}
+use Rattle.rounds.proofs.Filled.{Each, Kept, Fit, atStart, each-rounds, start-each, heap-fit, heap-most}
 use Rattle.rounds.proofs.Cover.{Additive, over, over-heap}
-use Rattle.rounds.proofs.Ends.{Sane, sane-kept, of-cold, start-ordered, Cold, Ended, full as reached, cold, heap-end}
+use Rattle.rounds.proofs.Ends.{Sane, sane-kept, of-cold, start-sane, Cold, Ended, full as reached, cold, heap-end}
 
 -- ---- sums over the boxes in use, whose terms are 1 at least, or at most
 module _ (f : Bounds → ℕ) where
@@ -76,18 +76,13 @@ module _ {g : Grid} {v : View} (s : Sound limit g v) (spreads : SpreadsAbove g v
 
   module _ (a : Accepted g) (l : 0 < total g v) where
     -- the start, at infinity, is to be cut
-    start-honest : Each (Honest g v) (startRoom g) 1
+    start-honest : Honest g v (atStart g)
     unfolding goesOn lt eq
-    start-honest =
-        let o = start-ordered a l .sane in
-        record { in-use = o .in-use; each = λ p m. record { sane = o .each p m; single = λ c t. infinity p (omega arith) c } }
-      where
-        infinity : (p : ℕ) → p ≡ 0 → Cold (item noItem (startRoom g) p) → ⊥
-        infinity p e c = true≢false (rw (e, start-item g) at c)
+    start-honest = record { sane = start-sane a l; single = λ c t. true≢false c }
 
     heap-honest : (k : ℕ) → k ≤ 256 → Each (Honest g v) (heapOf g v k .room) (heapOf g v k .used)
     unfolding heapOf start
-    heap-honest k most = each-rounds honest-kept k (2 * k) most (start g) start-honest
+    heap-honest k most = each-rounds honest-kept k (2 * k) most (start g) (start-each g start-honest)
 
 -- ---- the occupied bins of the boxes are those of the grid
 occupied-adds : (g : Grid) (v : View) → Additive (occupiedIn g v)
@@ -98,11 +93,11 @@ pub occupied-whole : (g : Grid) (v : View) → occupiedIn g v (wholeOf g) ≡ su
 unfolding occupiedIn
 occupied-whole g v = whole-sum g (marks v) 0
 
--- ---- "as many boxes as the smaller of k and the occupied bins"
+-- ---- as many boxes as the smaller of k and the occupied bins
 pub full : {g : Grid} {v : View} → Sound limit g v → Accepted g → 0 < total g v → SpreadsAbove g v → (k : ℕ) → 1 ≤ k → k ≤ 256
     → heapOf g v k .used ≡ min k (occupiedIn g v (wholeOf g))
 full {g} {v} s a l spreads k least most =
-    go (heap-end s a l k least most)
+    go (heap-end s a l k most)
   where
     fit : Each (Fit g v) (heapOf g v k .room) (heapOf g v k .used)
     fit = heap-fit a l k most

@@ -1,7 +1,7 @@
 -- The places of the record, filled from the front.
 -- Assumes nothing.
-use mathlib.Core.Path.{_≡_, refl, ap, _∙_}
-use mathlib.Core.Bool.{Bool, cond}
+use mathlib.Core.Path.{_≡_, _∙_}
+use mathlib.Core.Bool.{cond}
 use mathlib.Core.List.{List}
 use Prim.Native.Nat.{ℕ, _+_, _≤_, _<_}
 use native.Mathlib.Nat.{lt-of-not-le}
@@ -13,7 +13,7 @@ use lib.ListN.{length, getD, set, replicate, length-set, length-replicate, getD-
 use lib.Seq.{getD-set-same, getD-set-other}
 use Rattle.grid.proofs.Range.{list-is}
 use Rattle.sums.specs.declared.Bounds.{Bounds}
-use Rattle.heap.specs.Heap.{Item, Room, item}
+use Rattle.heap.specs.Heap.{Room, item}
 use Rattle.rounds.specs.declared.BoxSpread.{BoxSpread}
 use Rattle.rounds.specs.Loop.{noBox, noItem, spent, boxSpread, placesOf}
 

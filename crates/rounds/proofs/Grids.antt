@@ -1,7 +1,7 @@
 -- The whole grid as a box.
 -- Assumes nothing.
 use mathlib.Core.Path.{_≡_, _∙_}
-use Prim.Native.Nat.{ℕ, zero, suc, _-_, _≤_, _<_}
+use Prim.Native.Nat.{ℕ, zero, suc, _≤_, _<_}
 use native.Mathlib.Nat.{le-refl, lt-of-lt-of-le, sub-zero}
 use lib.Dec.{lit<}
 use Rattle.grid.specs.declared.Grid.{Grid}

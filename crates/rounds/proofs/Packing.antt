@@ -6,7 +6,7 @@ use mathlib.Core.List.{List}
 use Prim.Native.Nat.{ℕ, _+_, _*_, _/_, _%_, _≤_, _<_}
 use native.Mathlib.Nat.{le-of-lt}
 use native.Mathlib.Omega.{arith}
-use lib.ListN.{length, getD, set, replicate, length-map}
+use lib.ListN.{getD, set, replicate}
 use lib.Ieee.{Float, nan, inf}
 use Rattle.grid.specs.declared.Grid.{Grid}
 use Rattle.grid.specs.Grid.{choose, sizeAt}
@@ -16,7 +16,7 @@ use Rattle.sums.specs.declared.Bounds.{Bounds}
 use Rattle.sums.specs.Box.{Within}
 use Rattle.sums.proofs.Corners.{sides}
 use Rattle.spread.specs.Spread.{zeroOf, Ordered}
-use Rattle.heap.specs.Heap.{Item, Room, item, putIn, takeOut, viewItem, viewRoom}
+use Rattle.heap.specs.Heap.{item, putIn, takeOut, viewItem, viewRoom}
 use Rattle.heap.specs.Lent.{Lent, roomOf, spreadsOf, boxesOf, noItem as noPacked}
 use Rattle.heap.proofs.Lent.{alike, room-item, room-is, room-long, lent-of}
 use Rattle.heap.proofs.Keeps.{put-in-long, take-out-long}
@@ -83,10 +83,6 @@ unfolding boxOf
 nothing-there = refl
 
 module _ {spreads : List Float} {boxes : List ℕ} (lent : Lent spreads boxes) where
-  pub room-in-long : length (roomIn spreads boxes) ≡ 256
-  unfolding roomIn
-  room-in-long = length-map (roomOf spreads boxes) (viewItem boxOf) ∙ room-long lent
-
   pub room-in-item : (p : ℕ) → item noItem (roomIn spreads boxes) p ≡ record { spread = getD spreads p nan; box = boxOf (getD boxes p 0) }
   unfolding roomIn
   room-in-item p =
@@ -94,35 +90,32 @@ module _ {spreads : List Float} {boxes : List ℕ} (lent : Lent spreads boxes) w
       ∙ item-view boxOf noPacked (roomOf spreads boxes) p
       ∙ ap (viewItem boxOf) (room-item spreads boxes p (alike lent))
 
-  module _ {spreads' : List Float} {boxes' : List ℕ} where
-    module _ (n : ℕ) (s : Float) (x : Bounds) (b : Bytes x) (m : ℕ) (q : m ≡ packOf x)
-        (e : spreads' ≡ spreadsOf (putIn noPacked (roomOf spreads boxes) n (record { spread = s; box = m })))
-        (f : boxes' ≡ boxesOf (putIn noPacked (roomOf spreads boxes) n (record { spread = s; box = m }))) where
-      pub room-put : roomIn spreads' boxes' ≡ putIn noItem (roomIn spreads boxes) n (record { spread = s; box = x })
-      unfolding roomIn
-      room-put =
-          ap (viewRoom boxOf) (room-is (putIn noPacked (roomOf spreads boxes) n (record { spread = s; box = m })) e f)
-          ∙ sym (put-in-view boxOf noPacked (roomOf spreads boxes) n (record { spread = s; box = m }))
-          ∙ (λ i. putIn (nothing-there i) (viewRoom boxOf (roomOf spreads boxes)) n (record { spread = s; box = (ap boxOf q ∙ box-pack x b) i }))
+  -- after a call
+  module _ {spreads' : List Float} {boxes' : List ℕ} (n : ℕ) where
+    pub after-put : (s : Float) (x : Bounds) → Bytes x → (m : ℕ) → m ≡ packOf x → n < 256
+        → spreads' ≡ spreadsOf (putIn noPacked (roomOf spreads boxes) n (record { spread = s; box = m }))
+        → boxes' ≡ boxesOf (putIn noPacked (roomOf spreads boxes) n (record { spread = s; box = m }))
+        → (roomIn spreads' boxes' ≡ putIn noItem (roomIn spreads boxes) n (record { spread = s; box = x })) × Lent spreads' boxes'
+    unfolding roomIn
+    after-put s x b m q l e f =
+        let long = room-long lent in (
+          ap (viewRoom boxOf) (room-is _ e f)
+              ∙ sym (put-in-view boxOf noPacked (roomOf spreads boxes) n (record { spread = s; box = m }))
+              ∙ (λ i. putIn (nothing-there i) (viewRoom boxOf (roomOf spreads boxes)) n (record { spread = s; box = (ap boxOf q ∙ box-pack x b) i })),
+          lent-of _ e f (put-in-long noPacked (roomOf spreads boxes) n (record { spread = s; box = m }) (omega arith) ∙ long),
+        )
 
-      pub lent-put : n < 256 → Lent spreads' boxes'
-      lent-put h =
-          lent-of (putIn noPacked (roomOf spreads boxes) n (record { spread = s; box = m })) e f
-          (put-in-long noPacked (roomOf spreads boxes) n (record { spread = s; box = m }) (omega (arith, room-long lent)) ∙ room-long lent)
-
-    module _ (n : ℕ)
-        (e : spreads' ≡ spreadsOf (takeOut noPacked (roomOf spreads boxes) n)) (f : boxes' ≡ boxesOf (takeOut noPacked (roomOf spreads boxes) n)) where
-      pub room-taken : roomIn spreads' boxes' ≡ takeOut noItem (roomIn spreads boxes) n
-      unfolding roomIn
-      room-taken =
-          ap (viewRoom boxOf) (room-is (takeOut noPacked (roomOf spreads boxes) n) e f)
-          ∙ sym (take-out-view boxOf noPacked (roomOf spreads boxes) n)
-          ∙ (λ i. takeOut (nothing-there i) (viewRoom boxOf (roomOf spreads boxes)) n)
-
-      pub lent-taken : 0 < n → n ≤ 256 → Lent spreads' boxes'
-      lent-taken some most =
-          lent-of (takeOut noPacked (roomOf spreads boxes) n) e f
-          (take-out-long noPacked (roomOf spreads boxes) n some (omega (arith, room-long lent)) ∙ room-long lent)
+    pub after-take : 0 < n → n ≤ 256
+        → spreads' ≡ spreadsOf (takeOut noPacked (roomOf spreads boxes) n) → boxes' ≡ boxesOf (takeOut noPacked (roomOf spreads boxes) n)
+        → (roomIn spreads' boxes' ≡ takeOut noItem (roomIn spreads boxes) n) × Lent spreads' boxes'
+    unfolding roomIn
+    after-take some most e f =
+        let long = room-long lent in (
+          ap (viewRoom boxOf) (room-is _ e f)
+              ∙ sym (take-out-view boxOf noPacked (roomOf spreads boxes) n)
+              ∙ (λ i. takeOut (nothing-there i) (viewRoom boxOf (roomOf spreads boxes)) n),
+          lent-of _ e f (take-out-long noPacked (roomOf spreads boxes) n some (omega arith) ∙ long),
+        )
 
 -- ---- the arrays at the start
 pub room-start : (g : Grid) {spread : Float} {packed : ℕ} → spread ≡ inf false → packed ≡ packOf (wholeOf g) → Bytes (wholeOf g)

@@ -1,18 +1,15 @@
 -- The loop of a cut (document 01, "The loop"). Definitions only.
-use mathlib.Core.Path.{_≡_}
-use mathlib.Core.Bool.{Bool, true, false, cond}
+use mathlib.Core.Bool.{Bool, false, cond}
 use mathlib.Core.List.{List}
-use Prim.Native.Nat.{ℕ, zero, suc, _+_, _-_, _*_, _≤_, _<_}
+use Prim.Native.Nat.{ℕ, zero, suc, _+_, _-_, _*_}
 use lib.Dec.{ltb}
 use lib.ListN.{set, replicate}
 use lib.Ieee.{Float, nan, inf, lt, eq}
 use Rattle.grid.specs.declared.Grid.{Grid}
 use Rattle.grid.specs.Range.{listFrom}
-use Rattle.table.specs.Cell.{View, wide}
-use Rattle.table.specs.Sound.{total}
+use Rattle.table.specs.Cell.{View}
 use Rattle.sums.specs.declared.Bounds.{Bounds}
 use Rattle.sums.specs.Box.{statsOf, lowSide, highSide}
-use Rattle.sums.specs.Moments.{Worked}
 use Rattle.spread.specs.declared.Position.{Position}
 use Rattle.spread.specs.declared.Position.the-variants.{At, Nowhere}
 use Rattle.spread.specs.Spread.{zeroOf, spreadOf}
@@ -119,10 +116,3 @@ boxesOf g v k = record { found = heapOf g v k .used; places = placesOf (heapOf g
 -- the boxes of two lent arrays
 unfoldable pub roomIn : List Float → List ℕ → Room Bounds
 roomIn spreads boxes = viewRoom boxOf (roomOf spreads boxes)
-
--- a sound table that is not empty, with the moments in the work table, and a number of boxes that there is room for
-pub record Cuttable (g : Grid) (t w : List ℕ) (k : ℕ) : Type 0 where
-  pub worked : Worked g t w
-  pub some : 0 < total g (wide t)
-  pub least : 1 ≤ k
-  pub most : k ≤ 256

@@ -19,7 +19,7 @@ ghost use Rattle.spread.specs.Cut.{bestCut};
 ghost use Rattle.heap.specs.Heap.{item, putIn, takeOut};
 ghost use Rattle.heap.specs.Lent.{Lent};
 ghost use Rattle.rounds.specs.Pack.{packOf, boxOf, Bytes};
-ghost use Rattle.rounds.specs.Loop.{noItem, itself, wholeOf, startRoom, roomAfter, usedAfter, goesOn, roundRoom, roundUsed, heapOf, boxSpread, placesOf, boxesOf, roomIn, Cuttable};
+ghost use Rattle.rounds.specs.Loop.{noItem, itself, wholeOf, startRoom, roomAfter, usedAfter, goesOn, roundRoom, roundUsed, heapOf, boxSpread, placesOf, boxesOf, roomIn};
 
 // A box with its spread (`CubeVar`).
 pub struct BoxSpread {
@@ -182,7 +182,7 @@ fn run(
     spreads: &mut [f64; 256],
     boxes: &mut [u64; 256],
 ) -> usize
-    requires { ⌜ Cuttable g (now table) (now work) k ⌝ }
+    requires { ⌜ Worked g (now table) (now work) × (k ≤ 256) ⌝ }
     requires { ⌜ Lent (now spreads) (now boxes) × (roomIn (now spreads) (now boxes) ≡ startRoom g) ⌝ }
     ensures { λ r. ⌜ r ≡ heapOf g (wide (now (table .entry))) k .used ⌝ }
     ensures { λ r. ⌜ roomIn (now (spreads .exit)) (now (boxes .exit)) ≡ heapOf g (wide (now (table .entry))) k .room ⌝ }
@@ -245,9 +245,9 @@ fn whole(g: Grid) -> Bounds
     }
 }
 
-// The boxes that a table is cut into, at most k (`cubes_heap`).
+// The boxes that a table is cut into, at most k, or one where k is 0 (`cubes_heap`).
 pub fn cut_boxes(table: &[u64], work: &[u64], g: Grid, k: usize) -> Boxes
-    requires { ⌜ Cuttable g (now table) (now work) k ⌝ }
+    requires { ⌜ Worked g (now table) (now work) × (k ≤ 256) ⌝ }
     ensures { λ r. ⌜ r ≡ boxesOf g (wide (now (table .entry))) k ⌝ }
 {
     let mut spreads = [0.0; 256];

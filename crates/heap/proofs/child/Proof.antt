@@ -1,6 +1,5 @@
 -- `heap::child` meets its contract: the right child if left ≤ right, else the left.
 -- Assumes nothing.
-use native.Mathlib.Omega.{arith}
 use borrow.Author.Needs.{needs}
 use Rattle.heap.proofs.child.Statement.{statement}
 use Rattle.heap.proofs.child.Tie as tie
@@ -30,10 +29,10 @@ element-copy-out-if1-2 : tie.Need-element-copy-out-if1-2
 element-copy-out-if1-2 c = search needs
 
 returns : tie.Need-returns
-returns c = (rw (c .if1 .taken), omega arith)
+returns c = rw (c .if1 .taken)
 
 returns-2 : tie.Need-returns-2
-returns-2 c = (rw (c .if1 .left), omega arith)
+returns-2 c = rw (c .if1 .left)
 
 pub child-spec : {M : Type 1} → statement M
 child-spec =

@@ -1,12 +1,12 @@
 -- `heap::sink` meets its contract: where the hole ends, and the room then, are the same wherever the hole stands on its way.
 -- Assumes nothing.
-use mathlib.Core.Path.{_≡_, refl, sym, ap, _∙_}
-use Prim.Native.Nat.{ℕ, _-_, _<_}
+use mathlib.Core.Path.{_≡_, refl, sym, ap, subst, _∙_}
+use Prim.Native.Nat.{ℕ, _+_, _-_, _*_, _≤_, _<_}
 use native.Mathlib.Omega.{arith}
 use lib.ListN.{set}
-use Rattle.heap.specs.Heap.{Room, Holed, item, sink}
+use Rattle.heap.specs.Heap.{Room, Holed, item, child, sink}
 use Rattle.heap.specs.Lent.{Lent, noItem, roomOf}
-use Rattle.heap.proofs.Steps.{sink-on, sink-left, sink-ends}
+use Rattle.heap.proofs.Steps.{child-is, sink-on, sink-left, sink-ends}
 use Rattle.heap.proofs.Lent.{lent-set, copied, arrays-are, child-at}
 use Rattle.heap.proofs.sink.Statement.{statement}
 use Rattle.heap.proofs.sink.Tie as tie
@@ -30,11 +30,22 @@ add-loop c = omega arith
 child-requires : tie.Need-child-requires Inv-loop μ-loop
 child-requires c κs = omega arith
 
+-- the child that was chosen is the one that moves up
+chosen : (k : tie.After-child Inv-loop μ-loop) → child noItem (roomOf (k .before .before .before .loop .spreads) (k .before .before .before .loop .boxes)) (k .before .before .before .loop .hole) ≡ k .child .result
+chosen k = child-at (k .before .before .before .loop .inv .1) _ ∙ sym (k .child .ensures)
+
+-- it is one of the two children of the hole
+below : (k : tie.After-child Inv-loop μ-loop) → (k .before .before .before .loop .hole < k .child .result) × (k .child .result ≤ 2 * k .before .before .before .loop .hole + 2)
+below k =
+    let l = k .before .before .before .loop in
+    subst (λ (c : ℕ). (l .hole < c) × (c ≤ 2 * l .hole + 2)) (chosen k)
+    (child-is noItem (roomOf (l .spreads) (l .boxes)) (l .hole) (λ (c : ℕ). (l .hole < c) × (c ≤ 2 * l .hole + 2)) (omega arith, omega arith) (omega arith, omega arith))
+
 copy-to-requires : tie.Need-copy-to-requires Inv-loop μ-loop
-copy-to-requires c κs = (omega arith, omega arith)
+copy-to-requires c κs = (omega (arith, below (c .before .before)), omega arith)
 
 loop-less : tie.Need-loop-less Inv-loop μ-loop
-loop-less c = omega arith
+loop-less c = omega (arith, below (c .before .before .before))
 
 loop-again : tie.Need-loop-again Inv-loop μ-loop
 loop-again c =
@@ -42,8 +53,8 @@ loop-again c =
     let lent = l .inv .1 in
     let n = c .before .before .before .before .before .before .before .args .len in
     let e = c .copy-to .ensures in
-    let is = child-at lent (l .hole) ∙ sym (c .before .before .before .child .ensures .0) in (
-      omega arith,
+    let is = chosen (c .before .before .before) in (
+      omega (arith, below (c .before .before .before)),
       lent-set lent (l .hole) _ _ (e .0) (e .1),
       l .inv .2
           ∙ sink-on noItem _ n (l .hole) (omega arith)

@@ -1,8 +1,7 @@
 -- `rounds::cut_boxes` meets its contract: the arrays hold the start, the loop's heap, and then the record's places.
 -- Assumes nothing.
-use mathlib.Core.Path.{_≡_, refl, ap, _∙_}
+use mathlib.Core.Path.{refl, ap, _∙_}
 use borrow.Author.Needs.{needs}
-use native.Mathlib.Nat.{le-trans}
 use denote.Ref.{now}
 use lib.Ieee.{ofBits, div}
 use Rattle.table.specs.Cell.{wide}
@@ -10,7 +9,7 @@ use Rattle.rounds.specs.Pack.{packOf}
 use Rattle.rounds.specs.Loop.{placesOf, boxesOf}
 use Rattle.rounds.proofs.Packing.{within-bytes, room-start}
 use Rattle.rounds.proofs.Grids.{whole-within}
-use Rattle.rounds.proofs.Filled.{heap-most}
+use Rattle.rounds.proofs.Filled.{heap-in-use}
 use Rattle.rounds.proofs.cut_boxes.Statement.{statement}
 use Rattle.rounds.proofs.cut_boxes.Tie as tie
 
@@ -18,10 +17,10 @@ array-write-spreads : tie.Need-array-write-spreads
 array-write-spreads c = search needs
 
 whole-requires : tie.Need-whole-requires
-whole-requires c κs = c .before .before .pre .worked .table .accepted
+whole-requires c κs = c .before .before .pre .0 .table .accepted
 
 packed-requires : tie.Need-packed-requires
-packed-requires c κs = rw (c .whole .ensures) (within-bytes (whole-within (c .before .before .before .pre .worked .table .accepted)))
+packed-requires c κs = rw (c .whole .ensures) (within-bytes (whole-within (c .before .before .before .pre .0 .table .accepted)))
 
 array-write-boxes : tie.Need-array-write-boxes
 array-write-boxes c = search needs
@@ -33,14 +32,14 @@ run-requires c κs =
       s .pre,
       (
         record { spreads-long = refl; boxes-long = refl },
-        room-start (s .args .g) refl (c .before .before .packed .ensures ∙ ap packOf (c .before .before .before .whole .ensures)) (within-bytes (whole-within (s .pre .worked .table .accepted))),
+        room-start (s .args .g) refl (c .before .before .packed .ensures ∙ ap packOf (c .before .before .before .whole .ensures)) (within-bytes (whole-within (s .pre .0 .table .accepted))),
       ),
     )
 
 gathered-requires : tie.Need-gathered-requires
 gathered-requires c κs =
     let s = c .before .before .before .before .before .before .before .before .before in
-    (c .before .before .run .ensures .1 .1, rw (c .before .before .run .ensures .0) (le-trans (heap-most (s .args .g) (wide (now (s .args .table))) (s .args .k) (s .pre .least) (s .pre .most)) (s .pre .most)))
+    (c .before .before .run .ensures .1 .1, rw (c .before .before .run .ensures .0) (heap-in-use (s .args .g) (wide (now (s .args .table))) (s .args .k) (s .pre .1) .most))
 
 returns : tie.Need-returns
 unfolding boxesOf

@@ -10,9 +10,8 @@ use lib.Ieee.{nan}
 use lib.ListN.{getD}
 use Rattle.table.specs.Cell.{View, wide}
 use Rattle.sums.specs.declared.Bounds.{Bounds}
-use Rattle.sums.specs.Box.{Within}
 use Rattle.spread.specs.Cut.{bestCut}
-use Rattle.heap.specs.Heap.{Item, Room, item, putIn, takeOut}
+use Rattle.heap.specs.Heap.{Item, Room, item, putIn}
 use Rattle.rounds.specs.Loop.{noItem, roomAfter, usedAfter, goesOn, roomIn}
 use Rattle.rounds.proofs.Packing.{within-bytes, room-in-item}
 use Rattle.rounds.proofs.Turning.{room-on, used-on, room-stops, used-stops}

@@ -1,19 +1,19 @@
 -- `rounds::run` meets its contract: what is still to come of the loop's rounds gives the heap at the end.
 -- Assumes nothing.
 use mathlib.Core.Path.{_≡_, sym, ap, _∙_}
-use mathlib.Core.Bool.{true, false}
-use Prim.Native.Nat.{ℕ, suc, _+_, _*_, _≤_, _<_}
+use mathlib.Core.Bool.{true}
 use native.Mathlib.Omega.{arith}
 use borrow.Author.Needs.{needs}
 use borrow.Author.Tests.{not-true, not-false}
 use denote.Ref.{now}
 use Rattle.table.specs.Cell.{wide}
-use Rattle.heap.specs.Heap.{Item, Room, item}
+use Rattle.heap.specs.Heap.{Item, item}
 use Rattle.heap.specs.Lent.{Lent}
 use Rattle.sums.specs.declared.Bounds.{Bounds}
-use Rattle.rounds.specs.Loop.{Heap, noItem, start, goesOn, rounds, heapOf, roomIn}
+use Rattle.rounds.specs.Loop.{noItem, goesOn, roomIn}
 use Rattle.rounds.proofs.Packing.{room-in-item}
-use Rattle.rounds.proofs.Filled.{Each, Fit, fit-kept, each-round, start-fit}
+use Rattle.rounds.proofs.Grids.{whole-within}
+use Rattle.rounds.proofs.Filled.{Each, OfGrid, of-grid-kept, each-round, start-each}
 use Rattle.rounds.proofs.Fuel.{need, need-less, ToCome, come-start, come-full, come-stop, come-round}
 use Rattle.rounds.proofs.run.Statement.{statement}
 use Rattle.rounds.proofs.run.Tie as tie
@@ -21,7 +21,7 @@ use Rattle.rounds.proofs.run.Tie as tie
 abbrev Inv-loop : tie.InvT-loop
 Inv-loop table work g k spreads₀ boxes₀ len₀ spreads boxes len =
     Lent spreads boxes
-    × Each (Fit g (wide table)) (roomIn spreads boxes) len
+    × Each (OfGrid g) (roomIn spreads boxes) len
     × ToCome g (wide table) k (roomIn spreads boxes) len
 
 abbrev μ-loop : tie.MeasureT-loop
@@ -30,7 +30,7 @@ abbrev μ-loop : tie.MeasureT-loop
 loop-holds : tie.Need-loop-holds Inv-loop μ-loop
 loop-holds c =
     let s = c .before .before in
-    (s .pre .1 .0, rw (s .pre .1 .1) (start-fit (s .pre .0 .worked .table .accepted) (s .pre .0 .some)), come-start (s .pre .0 .least) (s .pre .1 .1))
+    (s .pre .1 .0, rw (s .pre .1 .1) (start-each (s .args .g) (whole-within (s .pre .0 .0 .table .accepted))), come-start (s .pre .1 .1))
 
 element-copy-out-goes-on : tie.Need-element-copy-out-goes-on Inv-loop μ-loop
 element-copy-out-goes-on c = search needs
@@ -42,8 +42,8 @@ round-requires : tie.Need-round-requires Inv-loop μ-loop
 round-requires c κs =
     let s = c .before .before .before .before .before .before .before .before in
     let l = c .before .before .before .before .before .loop in (
-      s .pre .0 .worked,
-      (l .inv .0, l .inv .1 .in-use .some, omega (arith, c .before .before .before .before .loop-test .taken, s .pre .0 .most), l .inv .1 .each 0 (l .inv .1 .in-use .some) .within),
+      s .pre .0 .0,
+      (l .inv .0, l .inv .1 .in-use .some, omega (arith, c .before .before .before .before .loop-test .taken, s .pre .0 .1), l .inv .1 .each 0 (l .inv .1 .in-use .some)),
     )
 
 -- whether the round at hand is the last
@@ -63,7 +63,7 @@ loop-less c =
     let l = c .before .before .before .before .before .before .before .loop in
     let e = c .before .round .ensures in
     rw (e .0, e .1 .0)
-    (need-less (s .args .g) (wide (now (s .args .table))) (s .args .k) (s .pre .0 .most) (roomIn (l .spreads) (l .boxes)) (l .len) (l .inv .1 .in-use) (c .before .before .before .before .before .before .loop-test .taken)
+    (need-less (s .args .g) (wide (now (s .args .table))) (s .args .k) (s .pre .0 .1) (roomIn (l .spreads) (l .boxes)) (l .len) (l .inv .1 .in-use) (c .before .before .before .before .before .before .loop-test .taken)
     (spread-read (c .before .before .before .before) ∙ not-false _ (c .if1 .left)))
 
 loop-again : tie.Need-loop-again Inv-loop μ-loop
@@ -73,8 +73,8 @@ loop-again c =
     let e = c .before .round .ensures in
     let on : goesOn (item noItem (roomIn (l .spreads) (l .boxes)) 0 .spread) ≡ true = spread-read (c .before .before .before .before) ∙ not-false _ (c .if1 .left) in (
       e .1 .1,
-      rw (e .0, e .1 .0) (each-round (fit-kept (s .args .g) (wide (now (s .args .table)))) (l .inv .1) (omega (arith, c .before .before .before .before .before .before .loop-test .taken, s .pre .0 .most))),
-      rw (e .0, e .1 .0) (come-round (l .inv .2) (c .before .before .before .before .before .before .loop-test .taken) (s .pre .0 .most) (l .inv .1 .in-use) on),
+      rw (e .0, e .1 .0) (each-round (of-grid-kept (s .args .g) (wide (now (s .args .table)))) (l .inv .1) (omega (arith, c .before .before .before .before .before .before .loop-test .taken, s .pre .0 .1))),
+      rw (e .0, e .1 .0) (come-round (l .inv .2) (c .before .before .before .before .before .before .loop-test .taken) (s .pre .0 .1) (l .inv .1 .in-use) on),
     )
 
 returns-2 : tie.Need-returns-2 Inv-loop μ-loop
