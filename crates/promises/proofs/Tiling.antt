@@ -29,10 +29,10 @@ use Rattle.rounds.specs.declared.Boxes.{Boxes}
 use Rattle.rounds.specs.Loop.{noBox, boxesOf}
 use Rattle.rounds.proofs.Filled.{heap-most}
 use Rattle.cutter.specs.declared.CutRecord.{CutRecord}
-use Rattle.cutter.specs.Palette.{countOf, countsOf, paletteLater, countsLater, frontOf}
+use Rattle.cutter.specs.Palette.{countOf, paletteLater, countsLater, frontOf}
 use Rattle.cutter.specs.Map.{holds}
 use Rattle.cutter.specs.Cut.{Buffers, lengthsOf, cutNumber, doneRecord, cutRecord, listOf, boxList, laterOn, cutLater, CanCut, Found}
-use Rattle.cutter.proofs.Colours.{front-filled, palette-at, counts-at, counts-front}
+use Rattle.cutter.proofs.Colours.{front-filled, palette-at, counts-at}
 use Rattle.cutter.proofs.Listed.{list-length}
 use Rattle.cutter.proofs.Maps.{map-below, box-of-index}
 use Rattle.cutter.proofs.Tiling.{counts-total, holds-colour, sum-of-held}
@@ -54,8 +54,8 @@ module _ {g : Grid} {k : ℕ} {t : List ℕ} (b : Buffers) (a : Accepted g) (c :
   counts-all : sumFrom 0 (found .found) (λ i. getD (countsLater g (wide t) (listOf found) (b .counts)) i 0) ≡ total g (wide t)
   unfolding boxesOf
   counts-all =
-      sum-same 0 (found .found) _ _ (λ i l h. counts-front g (wide t) (listOf found) (b .counts) i (in-list (omega arith)))
-      ∙ ap (λ (xs : List Bounds). sumFrom 0 (found .found) (λ i. getD (countsOf g (wide t) xs) i 0)) (list-found g (wide t) k (c .most))
+      sum-same 0 (found .found) _ _ (λ i l h. counts-at g (wide t) (listOf found) (b .counts) i noBox (in-list (omega arith)))
+      ∙ ap (λ (xs : List Bounds). sumFrom 0 (found .found) (λ i. countOf g (wide t) (getD xs i noBox))) (list-found g (wide t) k (c .most))
       ∙ counts-total g (wide t) k (c .most)
 
   fits : 3 * length (listOf found) ≤ length (b .palette)

@@ -12,8 +12,7 @@ use Rattle.sums.specs.Box.{Within}
 use Rattle.rounds.specs.Loop.{noBox}
 use Rattle.cutter.specs.Map.{fillOf, fillFrom}
 use Rattle.cutter.specs.Cut.{listOf}
-use Rattle.cutter.proofs.Maps.{length-filled, filled-none}
-use Rattle.cutter.proofs.Turns.{filled-next}
+use Rattle.cutter.proofs.Maps.{length-filled, filled-none, filled-next}
 use Rattle.cutter.proofs.Listed.{list-length, list-item, take-listed}
 use Rattle.cutter.proofs.fill_boxes.Statement.{statement}
 use Rattle.cutter.proofs.fill_boxes.Tie as tie
@@ -63,7 +62,7 @@ loop-again c =
     let t : l .place < s .args .b .found = omega (arith, c .before .before .before .before .before .before .loop-test .taken) in
     let at : l .place < length (listOf (s .args .b)) = omega (arith, list-length f) in (
       omega arith,
-      filled-next (listOf (s .args .b)) (l .place) noBox at (s .args .g) (now (s .args .map)) (l .inv .1)
+      filled-next (s .args .g) (listOf (s .args .b)) (l .place) noBox at (now (s .args .map)) (l .inv .1)
           (c .before .before .fill-box .ensures ∙ ap (λ (x : Bounds). fillOf (s .args .g) x (l .place) (l .map)) (list-item f (l .place) t (c .before .before .before .before .bounds-of .ensures))),
     )
 
