@@ -68,7 +68,6 @@ module _ (g : Grid) (v : View) (k : ℕ) (most : k ≤ 256) where
     unfolding boxesOf
     all-found some =
         record {
-          few = few;
-          long = places-long;
-          occupied = λ i l. rw list-found (all-occupied g v k most a some i l);
+          placed = record { few = few; long = places-long; within = λ i l. rw list-found (all-occupied g v k most a some i l .within) };
+          some = λ i l. rw list-found (all-occupied g v k most a some i l .some);
         }

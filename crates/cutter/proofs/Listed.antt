@@ -8,18 +8,17 @@ use lib.ListN.{length, getD, take, length-map, List·getD-map}
 use lib.Seq.{take-all, length-take-le, getD-take}
 use lib.Ieee.{nan}
 use Rattle.grid.specs.declared.Grid.{Grid}
-use Rattle.table.specs.Cell.{View}
 use Rattle.sums.specs.declared.Bounds.{Bounds}
 use Rattle.rounds.specs.declared.BoxSpread.{BoxSpread}
 use Rattle.rounds.specs.declared.Boxes.{Boxes}
 use Rattle.rounds.specs.Loop.{noBox}
-use Rattle.cutter.specs.Cut.{boundsOf, listOf, Found}
+use Rattle.cutter.specs.Cut.{boundsOf, listOf, Placed}
 
 -- what the places read past their end
 abbrev pub pastPlaces : BoxSpread
 pastPlaces = record { r0 = 0; r1 = 0; g0 = 0; g1 = 0; b0 = 0; b1 = 0; spread = nan }
 
-module _ {g : Grid} {v : View} {b : Boxes} (f : Found g v b) where
+module _ {g : Grid} {b : Boxes} (f : Placed g b) where
   pub list-length : length (listOf b) ≡ b .found
   unfolding listOf
   list-length = length-map (take (b .found) (b .places)) boundsOf ∙ length-take-le (b .found) (b .places) (omega (arith, f .few, f .long))

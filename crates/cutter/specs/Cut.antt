@@ -11,12 +11,13 @@ use Rattle.grid.specs.Grid.{gridOf, onGrid, numberOn, binsOf}
 use Rattle.table.specs.Cell.{View, wide, wideList}
 use Rattle.table.specs.Sound.{limit, total, sound}
 use Rattle.sums.specs.declared.Bounds.{Bounds}
+use Rattle.sums.specs.Box.{boxSum, Within}
 use Rattle.sums.specs.Moments.{momentsOf}
 use Rattle.rounds.specs.declared.BoxSpread.{BoxSpread}
 use Rattle.rounds.specs.declared.Boxes.{Boxes}
 use Rattle.rounds.specs.Loop.{noBox, spent, boxSpread, boxesOf}
 use Rattle.cutter.specs.declared.CutRecord.{CutRecord}
-use Rattle.cutter.specs.Palette.{paletteLater, countsLater, Occupied}
+use Rattle.cutter.specs.Palette.{paletteLater, countsLater}
 use Rattle.cutter.specs.Map.{mapOf}
 
 -- what is lent to be written, and its lengths
@@ -108,8 +109,13 @@ pub record CanCut (g : Grid) (k : ℕ) (t : List ℕ) (l : Lengths) : Type 0 whe
   pub is-sound : sound limit g (wide t) ≡ true
   pub some : 0 < total g (wide t)
 
--- boxes of the grid, each with some weight, in a record of 256 places
-pub record Found (g : Grid) (v : View) (b : Boxes) : Type 0 where
+-- boxes of the grid, in a record of 256 places
+pub record Placed (g : Grid) (b : Boxes) : Type 0 where
   pub few : b .found ≤ 256
   pub long : length (b .places) ≡ 256
-  pub occupied : (i : ℕ) → i < b .found → Occupied g v (getD (listOf b) i noBox)
+  pub within : (i : ℕ) → i < b .found → Within g (getD (listOf b) i noBox)
+
+-- and each with some weight
+pub record Found (g : Grid) (v : View) (b : Boxes) : Type 0 where
+  pub placed : Placed g b
+  pub some : (i : ℕ) → i < b .found → 0 < boxSum g v (getD (listOf b) i noBox) 0

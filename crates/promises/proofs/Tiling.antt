@@ -49,7 +49,7 @@ module _ {g : Grid} {k : ℕ} {t : List ℕ} (b : Buffers) (a : Accepted g) (c :
   are-found = all-found g (wide t) k (c .most) a (c .some)
 
   in-list : {i : ℕ} → i < found .found → i < length (listOf found)
-  in-list h = omega (arith, list-length are-found)
+  in-list h = omega (arith, list-length (are-found .placed))
 
   counts-all : sumFrom 0 (found .found) (λ i. getD (countsLater g (wide t) (listOf found) (b .counts)) i 0) ≡ total g (wide t)
   unfolding boxesOf
@@ -60,7 +60,7 @@ module _ {g : Grid} {k : ℕ} {t : List ℕ} (b : Buffers) (a : Accepted g) (c :
 
   fits : 3 * length (listOf found) ≤ length (b .palette)
   unfolding boxesOf
-  fits = omega (arith, list-length are-found, heap-most g (wide t) k (c .least) (c .most), c .palette)
+  fits = omega (arith, list-length (are-found .placed), heap-most g (wide t) k (c .least) (c .most), c .palette)
 
   done-tiling : Tiling g t (doneRecord found) (laterOn g k t b)
   unfolding boxesIn boxIn doneRecord laterOn boxList countOf
@@ -68,16 +68,16 @@ module _ {g : Grid} {k : ℕ} {t : List ℕ} (b : Buffers) (a : Accepted g) (c :
       let xs = listOf found in
       let tiles = list-tiles g (wide t) k (c .most) a in
       record {
-        listed = list-length are-found;
+        listed = list-length (are-found .placed);
         tiles = tiles;
-        within = λ i h. are-found .occupied i h .within;
-        count = λ i h. counts-at g (wide t) xs (b .counts) i noBox (in-list h) ∙ sum-of-held (are-found .occupied i h .within) (wide t) 0;
-        some = λ i h. omega (arith, counts-at g (wide t) xs (b .counts) i noBox (in-list h), are-found .occupied i h .some);
+        within = are-found .placed .within;
+        count = λ i h. counts-at g (wide t) xs (b .counts) i noBox (in-list h) ∙ sum-of-held (are-found .placed .within i h) (wide t) 0;
+        some = λ i h. omega (arith, counts-at g (wide t) xs (b .counts) i noBox (in-list h), are-found .some i h);
         all = counts-all;
         index = λ i p h l. box-of-index g xs tiles i noBox p (in-list h) l;
-        below = λ p l. omega (arith, map-below g xs tiles p l, list-length are-found);
+        below = λ p l. omega (arith, map-below g xs tiles p l, list-length (are-found .placed));
         colour = λ i h. palette-at g (wide t) xs (b .palette) i noBox (in-list h);
-        front = ap (frontOf (paletteLater g (wide t) xs (b .palette))) (sym (list-length are-found)) ∙ front-filled g (wide t) xs (b .palette) fits;
+        front = ap (frontOf (paletteLater g (wide t) xs (b .palette))) (sym (list-length (are-found .placed))) ∙ front-filled g (wide t) xs (b .palette) fits;
       }
 
 -- ---- the boxes of a loaded table

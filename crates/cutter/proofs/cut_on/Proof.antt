@@ -45,7 +45,7 @@ put-results-requires c κs =
     )
 
 fill-boxes-requires : tie.Need-fill-boxes-requires
-fill-boxes-requires c κs = let s = c .before .before .before .before .before .before .before .before .before .before .before .before .before .before .before .before .before .before .before .before in (the-boxes s (c .before .before .before .before .before .before .before .before .before .cut-boxes .ensures), s .pre .1 .map)
+fill-boxes-requires c κs = let s = c .before .before .before .before .before .before .before .before .before .before .before .before .before .before .before .before .before .before .before .before in (the-boxes s (c .before .before .before .before .before .before .before .before .before .cut-boxes .ensures) .placed, s .pre .1 .map)
 
 done-requires : tie.Need-done-requires
 done-requires c κs = search needs

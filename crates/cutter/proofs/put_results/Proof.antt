@@ -37,29 +37,29 @@ module _ (s : tie.Start Inv-loop μ-loop) where
   boxes = listOf (s .args .b)
 
   palette-fits : 3 * length boxes ≤ length (now (s .args .palette))
-  palette-fits = omega (arith, list-length (s .pre .0 .1), s .pre .1 .0)
+  palette-fits = omega (arith, list-length (s .pre .0 .1 .placed), s .pre .1 .0)
 
   counts-fits : 1 * length boxes ≤ length (now (s .args .counts))
-  counts-fits = omega (arith, list-length (s .pre .0 .1), s .pre .1 .1)
+  counts-fits = omega (arith, list-length (s .pre .0 .1 .placed), s .pre .1 .1)
 
   module _ (i : ℕ) (h : i ≤ s .args .b .found) where
     palette-long : length (paletteLater (s .args .g) (view s) (take i boxes) (now (s .args .palette))) ≡ length (now (s .args .palette))
     unfolding paletteLater
-    palette-long = length-filled-part 3 _ (three (s .args .g) (view s)) boxes i (omega (arith, list-length (s .pre .0 .1))) (now (s .args .palette)) palette-fits
+    palette-long = length-filled-part 3 _ (three (s .args .g) (view s)) boxes i (omega (arith, list-length (s .pre .0 .1 .placed))) (now (s .args .palette)) palette-fits
 
     counts-long : length (countsLater (s .args .g) (view s) (take i boxes) (now (s .args .counts))) ≡ length (now (s .args .counts))
     unfolding countsLater
-    counts-long = length-filled-part 1 _ (one (s .args .g) (view s)) boxes i (omega (arith, list-length (s .pre .0 .1))) (now (s .args .counts)) counts-fits
+    counts-long = length-filled-part 1 _ (one (s .args .g) (view s)) boxes i (omega (arith, list-length (s .pre .0 .1 .placed))) (now (s .args .counts)) counts-fits
 
 loop-holds : tie.Need-loop-holds Inv-loop μ-loop
 unfolding paletteLater countsLater
 loop-holds c = (omega arith, sym (filled-none 3 _ (three _ _) _), sym (filled-none 1 _ (one _ _) _))
 
 mul-bounds-of : tie.Need-mul-bounds-of Inv-loop μ-loop
-mul-bounds-of c = omega (arith, c .loop-test .taken, c .before .before .before .before .before .before .before .pre .0 .1 .few)
+mul-bounds-of c = omega (arith, c .loop-test .taken, c .before .before .before .before .before .before .before .pre .0 .1 .placed .few)
 
 array-copy-out-bounds-of : tie.Need-array-copy-out-bounds-of Inv-loop μ-loop
-array-copy-out-bounds-of c = omega (arith, c .loop-test .taken, c .before .before .before .before .before .before .before .pre .0 .1 .few)
+array-copy-out-bounds-of c = omega (arith, c .loop-test .taken, c .before .before .before .before .before .before .before .pre .0 .1 .placed .few)
 
 bounds-of-requires : tie.Need-bounds-of-requires Inv-loop μ-loop
 bounds-of-requires c κs = search needs
@@ -70,7 +70,7 @@ put-result-requires c κs =
     let l = c .before .before .before .before .before .loop in
     let f = s .pre .0 .1 in
     let t : l .i < s .args .b .found = omega (arith, c .before .before .before .before .loop-test .taken) in (
-      (s .pre .0 .0, subst (Occupied (s .args .g) (view s)) (sym (list-item f (l .i) t (c .before .before .bounds-of .ensures))) (f .occupied (l .i) t)),
+      (s .pre .0 .0, subst (Occupied (s .args .g) (view s)) (sym (list-item (f .placed) (l .i) t (c .before .before .bounds-of .ensures))) (record { within = f .placed .within (l .i) t; some = f .some (l .i) t })),
       (
         omega (arith, ap length (l .inv .1), palette-long s (l .i) (le-of-lt t), s .pre .1 .0),
         omega (arith, ap length (l .inv .2), counts-long s (l .i) (le-of-lt t), s .pre .1 .1),
@@ -78,7 +78,7 @@ put-result-requires c κs =
     )
 
 add-i : tie.Need-add-i Inv-loop μ-loop
-add-i c = omega (arith, c .before .before .before .before .before .before .before .before .before .loop-test .taken, c .before .before .before .before .before .before .before .before .before .before .before .before .before .before .before .before .pre .0 .1 .few)
+add-i c = omega (arith, c .before .before .before .before .before .before .before .before .before .loop-test .taken, c .before .before .before .before .before .before .before .before .before .before .before .before .before .before .before .before .pre .0 .1 .placed .few)
 
 loop-less : tie.Need-loop-less Inv-loop μ-loop
 loop-less c = omega (arith, c .before .before .before .before .before .before .before .before .before .loop-test .taken)
@@ -90,8 +90,8 @@ loop-again c =
     let l = c .before .before .before .before .before .before .before .before .before .before .loop in
     let f = s .pre .0 .1 in
     let t : l .i < s .args .b .found = omega (arith, c .before .before .before .before .before .before .before .before .before .loop-test .taken) in
-    let at : l .i < length (boxes s) = omega (arith, list-length f) in
-    let same = list-item f (l .i) t (c .before .before .before .before .before .before .before .bounds-of .ensures) in
+    let at : l .i < length (boxes s) = omega (arith, list-length (f .placed)) in
+    let same = list-item (f .placed) (l .i) t (c .before .before .before .before .before .before .before .bounds-of .ensures) in
     let e = c .before .before .before .before .put-result .ensures in (
       omega arith,
       filled-next 3 _ (three (s .args .g) (view s)) (boxes s) (l .i) noBox 0 at (now (s .args .palette)) (palette-fits s) (l .inv .1)
@@ -116,7 +116,7 @@ returns : tie.Need-returns Inv-loop μ-loop
 returns c =
     let s = c .before .before .before .before .before .before .before in
     let l = c .before .loop in
-    let all = take-listed (s .pre .0 .1) {i = l .i} (omega (arith, l .inv .0, c .loop-test .left)) in (
+    let all = take-listed (s .pre .0 .1 .placed) {i = l .i} (omega (arith, l .inv .0, c .loop-test .left)) in (
       l .inv .1 ∙ ap (λ (xs : List Bounds). paletteLater (s .args .g) (view s) xs (now (s .args .palette))) all,
       l .inv .2 ∙ ap (λ (xs : List Bounds). countsLater (s .args .g) (view s) xs (now (s .args .counts))) all,
     )
