@@ -46,7 +46,7 @@ module _ (g : Grid) (v : View) (k : ℕ) (most : k ≤ 256) where
   unfolding placesOf
   places-long = length-list 0 256 _
 
-  pub list-found : listOf (boxesOf g v k) ≡ boxesFound g v k
+  pub list-found : listOf (boxesOf g v k .found) (boxesOf g v k .places) ≡ boxesFound g v k
   unfolding listOf boxesOf boundsOf
   list-found =
       ext-getD noBox (map boundsOf (take used (placesOf room used))) (boxesFound g v k) (long ∙ sym (boxes-long g v k most))
@@ -61,7 +61,7 @@ module _ (g : Grid) (v : View) (k : ℕ) (most : k ≤ 256) where
       long = length-map (take used (placesOf room used)) boundsOf ∙ length-take-le used (placesOf room used) (omega (arith, places-long, few))
 
   module _ (a : Accepted g) where
-    pub list-tiles : Tiles g (listOf (boxesOf g v k))
+    pub list-tiles : Tiles g (listOf (boxesOf g v k .found) (boxesOf g v k .places))
     list-tiles = subst (Tiles g) (sym list-found) (tiles g v k most a)
 
     pub all-found : 0 < total g v → Found g v (boxesOf g v k)

@@ -19,15 +19,18 @@ abbrev pub pastPlaces : BoxSpread
 pastPlaces = record { r0 = 0; r1 = 0; g0 = 0; g1 = 0; b0 = 0; b1 = 0; spread = nan }
 
 module _ {g : Grid} {b : Boxes} (f : Placed g b) where
-  pub list-length : length (listOf b) ≡ b .found
+  abbrev boxes : List Bounds
+  boxes = listOf (b .found) (b .places)
+
+  pub list-length : length boxes ≡ b .found
   unfolding listOf
   list-length = length-map (take (b .found) (b .places)) boundsOf ∙ length-take-le (b .found) (b .places) (omega (arith, f .few, f .long))
 
   -- box i is the one at place i
-  pub list-item : (i : ℕ) → i < b .found → {x : Bounds} → x ≡ boundsOf (getD (b .places) i pastPlaces) → x ≡ getD (listOf b) i noBox
+  pub list-item : (i : ℕ) → i < b .found → {x : Bounds} → x ≡ boundsOf (getD (b .places) i pastPlaces) → x ≡ getD boxes i noBox
   unfolding listOf boundsOf
   list-item i l e = e ∙ sym (List·getD-map boundsOf (take (b .found) (b .places)) i pastPlaces ∙ ap boundsOf (getD-take (b .found) (b .places) i pastPlaces l))
 
   -- all of them
-  pub take-listed : {i : ℕ} → i ≡ b .found → take i (listOf b) ≡ listOf b
-  take-listed {i} e = take-all i (listOf b) (omega (arith, list-length))
+  pub take-listed : {i : ℕ} → i ≡ b .found → take i boxes ≡ boxes
+  take-listed {i} e = take-all i boxes (omega (arith, list-length))

@@ -156,8 +156,8 @@ fn put_results(
 )
     requires { ⌜ Worked g (now table) (now work) × Found g (wide (now table)) b ⌝ }
     requires { ⌜ (3 * b .found ≤ length (now palette)) × (b .found ≤ length (now counts)) ⌝ }
-    ensures { λ r. ⌜ now (palette .exit) ≡ paletteLater g (wide (now (table .entry))) (listOf b) (now (palette .entry)) ⌝ }
-    ensures { λ r. ⌜ now (counts .exit) ≡ countsLater g (wide (now (table .entry))) (listOf b) (now (counts .entry)) ⌝ }
+    ensures { λ r. ⌜ now (palette .exit) ≡ paletteLater g (wide (now (table .entry))) (listOf (b .found) (b .places)) (now (palette .entry)) ⌝ }
+    ensures { λ r. ⌜ now (counts .exit) ≡ countsLater g (wide (now (table .entry))) (listOf (b .found) (b .places)) (now (counts .entry)) ⌝ }
 {
     let places = b.places;
     let n = b.found;
@@ -172,7 +172,7 @@ fn put_results(
 // Writes the index of each box at its bins.
 fn fill_boxes(g: Grid, b: Boxes, map: &mut [u8])
     requires { ⌜ Placed g b × (length (now map) ≡ binsOf g) ⌝ }
-    ensures { λ r. ⌜ now (map .exit) ≡ fillFrom g 0 (listOf b) (now (map .entry)) ⌝ }
+    ensures { λ r. ⌜ now (map .exit) ≡ fillFrom g 0 (listOf (b .found) (b .places)) (now (map .entry)) ⌝ }
 {
     let places = b.places;
     let n = b.found;

@@ -67,12 +67,12 @@ unfolding laterOn boxList
 returns c =
     let s = c .before .before .before .before .before .before .before .before .before .before .before .before .before .before .before .before .before .before .before .before .before .before .before .before in
     let e = c .before .before .before .before .before .before .before .before .before .before .before .before .before .cut-boxes .ensures in
-    let palette = c .before .before .before .before .before .before .before .before .before .put-results .ensures .0 ∙ ap (λ (b : Boxes). paletteLater (s .args .g) (view s) (listOf b) (now (s .args .palette))) e in
-    let counts = c .before .before .before .before .before .before .before .before .before .put-results .ensures .1 ∙ ap (λ (b : Boxes). countsLater (s .args .g) (view s) (listOf b) (now (s .args .counts))) e in
+    let palette = c .before .before .before .before .before .before .before .before .before .put-results .ensures .0 ∙ ap (λ (b : Boxes). paletteLater (s .args .g) (view s) (listOf (b .found) (b .places)) (now (s .args .palette))) e in
+    let counts = c .before .before .before .before .before .before .before .before .before .put-results .ensures .1 ∙ ap (λ (b : Boxes). countsLater (s .args .g) (view s) (listOf (b .found) (b .places)) (now (s .args .counts))) e in
     let map =
     c .before .before .before .fill-boxes .ensures
-    ∙ ap (λ (b : Boxes). fillFrom (s .args .g) 0 (listOf b) (now (s .args .map))) e
-    ∙ filled-map (s .args .g) (listOf (boxesOf (s .args .g) (view s) (s .args .k))) (list-tiles (s .args .g) (view s) (s .args .k) (s .pre .1 .most) (s .pre .0)) (now (s .args .map)) (s .pre .1 .map) in (
+    ∙ ap (λ (b : Boxes). fillFrom (s .args .g) 0 (listOf (b .found) (b .places)) (now (s .args .map))) e
+    ∙ filled-map (s .args .g) _ (list-tiles (s .args .g) (view s) (s .args .k) (s .pre .1 .most) (s .pre .0)) (now (s .args .map)) (s .pre .1 .map) in (
       c .done .ensures ∙ ap doneRecord e,
       λ i. buffers (c .before .before .before .before .before .before .before .before .before .before .before .before .before .before .before .before .before .moments .ensures i) (palette i) (counts i) (map i),
     )

@@ -18,7 +18,7 @@ use Rattle.cutter.proofs.fill_boxes.Statement.{statement}
 use Rattle.cutter.proofs.fill_boxes.Tie as tie
 
 abbrev Inv-loop : tie.InvT-loop
-Inv-loop g map₀ places n at₀ map at = (at ≤ n) × (map ≡ fillFrom g 0 (take at (listOf (record { found = n; places = places }))) map₀)
+Inv-loop g map₀ places n at₀ map at = (at ≤ n) × (map ≡ fillFrom g 0 (take at (listOf n places)) map₀)
 
 abbrev μ-loop : tie.MeasureT-loop
 μ-loop g map₀ places n at₀ map at = n - at
@@ -45,7 +45,7 @@ fill-box-requires c κs =
     let f = s .pre .0 in
     let t : l .at < s .args .b .found = omega (arith, c .before .before .before .loop-test .taken) in (
       subst (Within (s .args .g)) (sym (list-item f (l .at) t (c .before .bounds-of .ensures))) (f .within (l .at) t),
-      ap length (l .inv .1) ∙ length-filled (s .args .g) 0 (take (l .at) (listOf (s .args .b))) (now (s .args .map)) ∙ s .pre .1,
+      ap length (l .inv .1) ∙ length-filled (s .args .g) 0 (take (l .at) (listOf (s .args .b .found) (s .args .b .places))) (now (s .args .map)) ∙ s .pre .1,
     )
 
 add-at : tie.Need-add-at Inv-loop μ-loop
@@ -60,9 +60,9 @@ loop-again c =
     let l = c .before .before .before .before .before .before .before .loop in
     let f = s .pre .0 in
     let t : l .at < s .args .b .found = omega (arith, c .before .before .before .before .before .before .loop-test .taken) in
-    let here : l .at < length (listOf (s .args .b)) = omega (arith, list-length f) in (
+    let here : l .at < length (listOf (s .args .b .found) (s .args .b .places)) = omega (arith, list-length f) in (
       omega arith,
-      filled-next (s .args .g) (listOf (s .args .b)) (l .at) noBox here (now (s .args .map)) (l .inv .1)
+      filled-next (s .args .g) (listOf (s .args .b .found) (s .args .b .places)) (l .at) noBox here (now (s .args .map)) (l .inv .1)
           (c .before .before .fill-box .ensures ∙ ap (λ (x : Bounds). fillOf (s .args .g) x (l .at) (l .map)) (list-item f (l .at) t (c .before .before .before .before .bounds-of .ensures))),
     )
 

@@ -22,7 +22,7 @@ use Rattle.cutter.proofs.put_results.Tie as tie
 
 abbrev Inv-loop : tie.InvT-loop
 Inv-loop table work g palette₀ counts₀ places n i₀ palette counts i =
-    let boxes = take i (listOf (record { found = n; places = places })) in
+    let boxes = take i (listOf n places) in
     (i ≤ n) × (palette ≡ paletteLater g (wide table) boxes palette₀) × (counts ≡ countsLater g (wide table) boxes counts₀)
 
 abbrev μ-loop : tie.MeasureT-loop
@@ -34,7 +34,7 @@ view s = wide (now (s .args .table))
 -- all boxes have room, and so have the first i
 module _ (s : tie.Start Inv-loop μ-loop) where
   abbrev boxes : List Bounds
-  boxes = listOf (s .args .b)
+  boxes = listOf (s .args .b .found) (s .args .b .places)
 
   palette-fits : 3 * length boxes ≤ length (now (s .args .palette))
   palette-fits = omega (arith, list-length (s .pre .0 .1 .placed), s .pre .1 .0)
