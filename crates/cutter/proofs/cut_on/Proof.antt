@@ -1,15 +1,14 @@
 -- `cutter::cut_on` meets its contract: the moments, the boxes of the loop, and what they give.
 -- Assumes nothing.
 use mathlib.Core.Path.{_≡_, sym, ap, subst, _∙_}
-use mathlib.Core.List.{List}
-use Prim.Native.Nat.{ℕ, _*_, _≤_}
+use Prim.Native.Nat.{_≤_}
 use native.Mathlib.Nat.{le-trans}
 use native.Mathlib.Omega.{arith}
 use borrow.Author.Needs.{needs}
 use denote.Ref.{now}
 use Rattle.table.specs.Cell.{View, wide}
 use Rattle.rounds.specs.declared.Boxes.{Boxes}
-use Rattle.rounds.specs.Loop.{heapOf, boxesOf}
+use Rattle.rounds.specs.Loop.{boxesOf}
 use Rattle.rounds.proofs.Filled.{heap-most}
 use Rattle.cutter.specs.Palette.{paletteLater, countsLater}
 use Rattle.cutter.specs.Map.{fillFrom}
