@@ -88,7 +88,7 @@ module _ (g : Grid) (v : View) (k : ℕ) (most : k ≤ 256) where
   pub box-at : (i : ℕ) → i < used → getD (boxesFound g v k) i noBox ≡ item noItem room i .box
   box-at i h = List·getD-map (λ (x : Item Bounds). x .box) (take used room) i noItem ∙ ap (λ (x : Item Bounds). x .box) (getD-take used room i noItem h)
 
-  -- "each bin of the grid lies in exactly one box"
+  -- each bin of the grid lies in exactly one box
   pub tiles : Accepted g → Tiles g (boxesFound g v k)
   unfolding over
   tiles a =
@@ -99,13 +99,13 @@ module _ (g : Grid) (v : View) (k : ℕ) (most : k ≤ 256) where
             ∙ rw (whole-holds a (wholeOf g) (whole-low g) (whole-high g) p h) refl;
       }
 
-  -- "no box is empty"
+  -- no box is empty
   pub all-occupied : Accepted g → 0 < total g v → (i : ℕ) → i < used → Occupied g v (getD (boxesFound g v k) i noBox)
   all-occupied a some i h =
       let fit = heap-fit a some k most .each i h in
       rw (box-at i h) (record { within = fit .within; some = pos-of-ne-zero (fit .some) })
 
-  -- "counts add up to the total"
+  -- the counts add up to the total
   pub counts-total : sumFrom 0 used (λ i. countOf g v (getD (boxesFound g v k) i noBox)) ≡ total g v
   unfolding over
   counts-total =
