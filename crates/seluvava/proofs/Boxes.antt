@@ -11,7 +11,7 @@ use Rattle.rounds.specs.declared.BoxSpread.{BoxSpread}
 use Rattle.cutter.specs.declared.CutRecord.{CutRecord}
 use Rattle.cutter.specs.Fronts.{filled, putFrom}
 use Rattle.cutter.proofs.Listed.{pastPlaces}
-use Rattle.cutter.proofs.Fronts.{put-one, filled-next, length-filled}
+use Rattle.cutter.proofs.Fronts.{put-one, filled-next, length-filled-part}
 use Rattle.seluvava.specs.Cut.{boxBytes, spreadOf, told, withBoxAt}
 
 -- the six bytes of a box are six stores
@@ -57,7 +57,7 @@ module _ (r : CutRecord) (long : length (r .places) ≡ 256) (few : r .boxes ≤
         (f ∙ put-one before i (x .spread) ∙ ap (λ (y : BoxSpread). putFrom before (1 * i) (spreadOf y)) (sym item))
 
   pub boxes-long : (i : ℕ) → i ≤ r .boxes → (old : List ℕ) → 6 * r .boxes ≤ length old → length (filled 6 boxBytes (take i (told r)) old) ≡ length old
-  boxes-long i l old h = length-filled 6 boxBytes six (take i (told r)) old (omega (arith, length-take-le i (told r) (omega (arith, told-length))))
+  boxes-long i l old h = length-filled-part 6 boxBytes six (told r) i (omega (arith, told-length)) old (omega (arith, told-length))
 
   pub spreads-long : (i : ℕ) → i ≤ r .boxes → (old : List Float) → r .boxes ≤ length old → length (filled 1 spreadOf (take i (told r)) old) ≡ length old
-  spreads-long i l old h = length-filled 1 spreadOf one (take i (told r)) old (omega (arith, length-take-le i (told r) (omega (arith, told-length))))
+  spreads-long i l old h = length-filled-part 1 spreadOf one (told r) i (omega (arith, told-length)) old (omega (arith, told-length))
