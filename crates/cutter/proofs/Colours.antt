@@ -1,14 +1,12 @@
--- Palette and counts: the mean of a component, and one box after the other.
+-- Palette and counts: the mean of a component, the statistics of a box, and what stands where after all boxes.
 -- Assumes nothing.
 use mathlib.Core.Path.{_≡_, refl, sym, ap, _∙_}
-use mathlib.Core.List.{List, [], _∷_, _++_, append-assoc}
-use Prim.Native.Nat.{ℕ, zero, suc, _+_, _*_, _/_, _≤_, _<_}
-use native.Mathlib.Nat.{zero-add, suc-add, div-mul-le-self, lt-div-mul-add, div-lt-iff-lt-mul, add-mul, one-mul}
-use native.Mathlib.Numerals.{add-one}
+use mathlib.Core.List.{List}
+use Prim.Native.Nat.{ℕ, _+_, _*_, _/_, _≤_, _<_}
+use native.Mathlib.Nat.{add-zero, div-mul-le-self, lt-div-mul-add, div-lt-iff-lt-mul, add-mul, one-mul}
 use native.Mathlib.Omega.{arith}
 use borrow.Author.Tests.{le-ltb}
-use lib.ListN.{length, getD, take, drop, set, length-append, length-drop, length-map}
-use lib.Seq.{drop-cons, take-at, set-at, getD-append-add, getD-drop}
+use lib.ListN.{length, getD, set}
 use Rattle.grid.specs.declared.Grid.{Grid}
 use Rattle.grid.specs.declared.Rgb.{Rgb}
 use Rattle.grid.specs.Grid.{colourAt}
@@ -19,7 +17,9 @@ use Rattle.sums.specs.declared.Bounds.{Bounds}
 use Rattle.sums.specs.declared.Stats.{Stats}
 use Rattle.sums.specs.Box.{statsOf}
 use Rattle.sums.proofs.Laws.{box-sums-high, box-weight-high}
-use Rattle.cutter.specs.Palette.{meanOf, colourOf, countOf, bytesOf, coloursOf, countsOf, paletteLater, countsLater, frontOf, statsColour, withColourAt, Coloured, Occupied}
+use Rattle.cutter.specs.Fronts.{filled, putFrom}
+use Rattle.cutter.specs.Palette.{meanOf, colourOf, countOf, bytesOf, itsColour, itsCount, coloursOf, paletteLater, countsLater, frontOf, statsColour, withColourAt, Coloured, Occupied}
+use Rattle.cutter.proofs.Fronts.{length-filled, filled-at, filled-past, filled-front}
 
 -- ---- the mean
 -- colour·n ≤ sum < (colour + 1)·n
@@ -61,171 +61,57 @@ module _ {g : Grid} {v : View} (sound : Sound limit g v) {x : Bounds} (o : Occup
   unfolding statsOf
   stats-fits = rw e (box-weight-high sound (o .within))
 
--- ---- lists
-set-past : (xs ys : List ℕ) (k a : ℕ) → set (xs ++ ys) (length xs + k) a ≡ xs ++ set ys k a
-set-past [] ys k a = ap (λ (n : ℕ). set ys n a) (zero-add k)
-set-past (x ∷ xs) ys k a =
-    ap (λ (n : ℕ). set (x ∷ (xs ++ ys)) n a) (suc-add (length xs) k) ∙ ap (λ (l : List ℕ). x ∷ l) (set-past xs ys k a)
-
--- the three bytes of place n, and those after them
-three-bytes : (old : List ℕ) (n : ℕ) → 3 * n + 3 ≤ length old → drop (3 * n) old ≡ getD old (3 * n) 0 ∷ getD old (suc (3 * n)) 0 ∷ getD old (suc (suc (3 * n))) 0 ∷ drop (3 * (n + 1)) old
-three-bytes old n h =
-    drop-cons old (3 * n) 0 (omega arith)
-    ∙ ap (λ (l : List ℕ). getD old (3 * n) 0 ∷ l)
-    (drop-cons old (suc (3 * n)) 0 (omega arith)
-    ∙ ap (λ (l : List ℕ). getD old (suc (3 * n)) 0 ∷ l)
-    (drop-cons old (suc (suc (3 * n))) 0 (omega arith)
-    ∙ ap (λ (k : ℕ). getD old (suc (suc (3 * n))) 0 ∷ drop k old) (after n)))
+-- the three bytes of a colour are three stores
+pub three-bytes : (old : List ℕ) (i : ℕ) (c : Rgb) → withColourAt old i c ≡ set (set (set old (3 * i) (c .c1)) (3 * i + 1) (c .c2)) (3 * i + 2) (c .c3)
+unfolding withColourAt putFrom bytesOf
+three-bytes old i c = ap (λ (n : ℕ). set (set (set old (3 * i) (c .c1)) (3 * i + 1) (c .c2)) n (c .c3)) (last (3 * i))
   where
-    after : (n : ℕ) → suc (suc (suc (3 * n))) ≡ 3 * (n + 1)
-    after n = omega arith
+    last : (n : ℕ) → n + 1 + 1 ≡ n + 2
+    last n = omega arith
 
--- a colour in the place of three bytes
-three-set : (front : List ℕ) (i a b d : ℕ) (after : List ℕ) (c : Rgb) → length front ≡ 3 * i → withColourAt (front ++ (a ∷ b ∷ d ∷ after)) i c ≡ front ++ (bytesOf c ++ after)
-unfolding withColourAt bytesOf
-three-set front i a b d after c e =
-    rw (← e)
-    (ap (λ (l : List ℕ). set (set l (length front + 1) (c .c2)) (length front + 2) (c .c3)) (set-at front a (b ∷ d ∷ after) (c .c1) (length front) refl)
-    ∙ ap (λ (l : List ℕ). set l (length front + 2) (c .c3)) (set-past front (c .c1 ∷ b ∷ d ∷ after) 1 (c .c2))
-    ∙ set-past front (c .c1 ∷ c .c2 ∷ d ∷ after) 2 (c .c3))
-
+-- ---- all boxes
 module _ (g : Grid) (v : View) where
-  pub length-colours : (xs : List Bounds) → length (coloursOf g v xs) ≡ 3 * length xs
-  unfolding coloursOf bytesOf
-  length-colours [] = refl
-  length-colours (x ∷ xs) = omega (arith, length-colours xs)
+  pub three : (x : Bounds) → length (itsColour g v x) ≡ 3
+  unfolding itsColour bytesOf
+  three x = refl
 
-  pub length-counts : (xs : List Bounds) → length (countsOf g v xs) ≡ length xs
-  unfolding countsOf
-  length-counts xs = length-map xs (countOf g v)
-
-  colours-of-more : (xs : List Bounds) (x : Bounds) → coloursOf g v (xs ++ (x ∷ [])) ≡ coloursOf g v xs ++ bytesOf (colourOf g v x)
-  unfolding coloursOf bytesOf
-  colours-of-more [] x = refl
-  colours-of-more (y ∷ xs) x = ap (λ (l : List ℕ). bytesOf (colourOf g v y) ++ l) (colours-of-more xs x)
-
-  counts-of-more : (xs : List Bounds) (x : Bounds) → countsOf g v (xs ++ (x ∷ [])) ≡ countsOf g v xs ++ (countOf g v x ∷ [])
-  unfolding countsOf
-  counts-of-more [] x = refl
-  counts-of-more (y ∷ xs) x = ap (λ (l : List ℕ). countOf g v y ∷ l) (counts-of-more xs x)
-
-  -- ---- one box more
-  pub palette-none : (old : List ℕ) → paletteLater g v [] old ≡ old
-  unfolding paletteLater coloursOf
-  palette-none old = refl
-
-  pub palette-more : (xs : List Bounds) (x : Bounds) (old : List ℕ) → 3 * length xs + 3 ≤ length old → paletteLater g v (xs ++ (x ∷ [])) old ≡ withColourAt (paletteLater g v xs old) (length xs) (colourOf g v x)
-  unfolding paletteLater
-  palette-more xs x old h =
-      (λ k. colours-of-more xs x k ++ drop (3 * length-append xs (x ∷ []) k) old)
-      ∙ append-assoc (coloursOf g v xs) (bytesOf (colourOf g v x)) (drop (3 * (length xs + 1)) old)
-      ∙ sym (three-set (coloursOf g v xs) (length xs) _ _ _ (drop (3 * (length xs + 1)) old) (colourOf g v x) (length-colours xs))
-      ∙ ap (λ (l : List ℕ). withColourAt (coloursOf g v xs ++ l) (length xs) (colourOf g v x)) (sym (three-bytes old (length xs) h))
-
-  pub length-palette : (xs : List Bounds) (old : List ℕ) → 3 * length xs ≤ length old → length (paletteLater g v xs old) ≡ length old
-  unfolding paletteLater
-  length-palette xs old h = simp (length-append, length-drop, length-colours) (omega arith)
-
-  pub counts-none : (old : List ℕ) → countsLater g v [] old ≡ old
-  unfolding countsLater countsOf
-  counts-none old = refl
-
-  pub counts-more : (xs : List Bounds) (x : Bounds) (old : List ℕ) → length xs < length old → countsLater g v (xs ++ (x ∷ [])) old ≡ set (countsLater g v xs old) (length xs) (countOf g v x)
-  unfolding countsLater
-  counts-more xs x old h =
-      (λ k. counts-of-more xs x k ++ drop (length-append xs (x ∷ []) k) old)
-      ∙ append-assoc (countsOf g v xs) (countOf g v x ∷ []) (drop (length xs + 1) old)
-      ∙ ap (λ (n : ℕ). countsOf g v xs ++ (countOf g v x ∷ drop n old)) (add-one (length xs))
-      ∙ sym (set-at (countsOf g v xs) (getD old (length xs) 0) (drop (suc (length xs)) old) (countOf g v x) (length xs) (length-counts xs))
-      ∙ ap (λ (l : List ℕ). set (countsOf g v xs ++ l) (length xs) (countOf g v x)) (sym (drop-cons old (length xs) 0 h))
-
-  pub length-counts-later : (xs : List Bounds) (old : List ℕ) → length xs ≤ length old → length (countsLater g v xs old) ≡ length old
-  unfolding countsLater
-  length-counts-later xs old h = simp (length-append, length-drop, length-counts) (omega arith)
-
-  taken : (xs : List Bounds) (old : List ℕ) → take (3 * length xs) (paletteLater g v xs old) ≡ coloursOf g v xs
-  unfolding paletteLater
-  taken xs old = take-at (coloursOf g v xs) (drop (3 * length xs) old) (3 * length xs) (length-colours xs)
+  pub one : (x : Bounds) → length (itsCount g v x) ≡ 1
+  unfolding itsCount
+  one x = refl
 
   -- the filled front is the colours of the boxes
   pub front-filled : (xs : List Bounds) (old : List ℕ) → 3 * length xs ≤ length old → frontOf (paletteLater g v xs old) (length xs) ≡ coloursOf g v xs
-  unfolding frontOf
+  unfolding frontOf paletteLater coloursOf
   front-filled xs old h =
-      rw (le-ltb (length (paletteLater g v xs old)) (3 * length xs) (omega (arith, length-palette xs old h)))
-      (taken xs old)
-
-  -- ---- what stands where
-  colour-first : (c : Rgb) (rest : List ℕ) → colourAt (bytesOf c ++ rest) 0 ≡ c
-  unfolding colourAt bytesOf
-  colour-first c rest = refl
-
-  colour-next : (c : Rgb) (rest : List ℕ) (i : ℕ) → colourAt (bytesOf c ++ rest) (suc i) ≡ colourAt rest i
-  unfolding colourAt bytesOf
-  colour-next c rest i =
-      λ k.
-      record {
-        c1 = getD (c .c1 ∷ c .c2 ∷ c .c3 ∷ rest) (three i k) 0;
-        c2 = getD (c .c1 ∷ c .c2 ∷ c .c3 ∷ rest) (four i k) 0;
-        c3 = getD (c .c1 ∷ c .c2 ∷ c .c3 ∷ rest) (five i k) 0;
-      }
-    where
-      three : (i : ℕ) → 3 * suc i ≡ suc (suc (suc (3 * i)))
-      three i = omega arith
-
-      four : (i : ℕ) → 3 * suc i + 1 ≡ suc (suc (suc (3 * i + 1)))
-      four i = omega arith
-
-      five : (i : ℕ) → 3 * suc i + 2 ≡ suc (suc (suc (3 * i + 2)))
-      five i = omega arith
-
-  colour-in : (xs : List Bounds) (rest : List ℕ) (i : ℕ) (none : Bounds) → i < length xs → colourAt (coloursOf g v xs ++ rest) i ≡ colourOf g v (getD xs i none)
-  unfolding coloursOf
-  colour-in [] rest i none h = absurd (omega arith)
-  colour-in (x ∷ xs) rest zero none h =
-      ap (λ (l : List ℕ). colourAt l 0) (append-assoc (bytesOf (colourOf g v x)) (coloursOf g v xs) rest)
-      ∙ colour-first (colourOf g v x) (coloursOf g v xs ++ rest)
-  colour-in (x ∷ xs) rest (suc i) none h =
-      ap (λ (l : List ℕ). colourAt l (suc i)) (append-assoc (bytesOf (colourOf g v x)) (coloursOf g v xs) rest)
-      ∙ colour-next (colourOf g v x) (coloursOf g v xs ++ rest) i
-      ∙ colour-in xs rest i none (omega arith)
+      rw (le-ltb (length (filled 3 (itsColour g v) xs old)) (3 * length xs) (omega (arith, length-filled 3 (itsColour g v) three xs old h)))
+      (filled-front 3 (itsColour g v) three xs old)
 
   -- colour i of the palette is that of box i
   pub palette-at : (xs : List Bounds) (old : List ℕ) (i : ℕ) (none : Bounds) → i < length xs → colourAt (paletteLater g v xs old) i ≡ colourOf g v (getD xs i none)
-  unfolding paletteLater
-  palette-at xs old i none h = colour-in xs (drop (3 * length xs) old) i none h
+  unfolding colourAt paletteLater itsColour bytesOf
+  palette-at xs old i none h =
+      let palette = filled 3 (itsColour g v) xs old in
+      let at : (j : ℕ) → j < 3 → getD palette (3 * i + j) 0 ≡ getD (itsColour g v (getD xs i none)) j 0 =
+      λ j l. filled-at 3 (itsColour g v) three xs old i j none 0 h l in
+      λ k.
+      record {
+        c1 = (ap (λ (n : ℕ). getD palette n 0) (sym (add-zero (3 * i))) ∙ at 0 (omega arith)) k;
+        c2 = at 1 (omega arith) k;
+        c3 = at 2 (omega arith) k;
+      }
+
+  -- count i is that of box i
+  pub counts-at : (xs : List Bounds) (old : List ℕ) (i : ℕ) (none : Bounds) → i < length xs → getD (countsLater g v xs old) i 0 ≡ countOf g v (getD xs i none)
+  unfolding countsLater itsCount
+  counts-at xs old i none h =
+      ap (λ (n : ℕ). getD (filled 1 (itsCount g v) xs old) n 0) (sym (add-zero (1 * i) ∙ one-mul i))
+      ∙ filled-at 1 (itsCount g v) one xs old i 0 none 0 h (omega arith)
 
   -- "Places past the filled front of palette and counts stay"
   pub palette-past : (xs : List Bounds) (old : List ℕ) (k : ℕ) → getD (paletteLater g v xs old) (3 * length xs + k) 0 ≡ getD old (3 * length xs + k) 0
   unfolding paletteLater
-  palette-past xs old k =
-      ap (λ (n : ℕ). getD (coloursOf g v xs ++ drop (3 * length xs) old) (n + k) 0) (sym (length-colours xs))
-      ∙ getD-append-add (coloursOf g v xs) (drop (3 * length xs) old) k 0
-      ∙ getD-drop (3 * length xs) old k 0
-
-  count-in : (xs : List Bounds) (rest : List ℕ) (i : ℕ) (none : Bounds) → i < length xs → getD (countsOf g v xs ++ rest) i 0 ≡ countOf g v (getD xs i none)
-  unfolding countsOf
-  count-in [] rest i none h = absurd (omega arith)
-  count-in (x ∷ xs) rest zero none h = refl
-  count-in (x ∷ xs) rest (suc i) none h = count-in xs rest i none (omega arith)
-
-  -- count i is that of box i
-  pub counts-at : (xs : List Bounds) (old : List ℕ) (i : ℕ) (none : Bounds) → i < length xs → getD (countsLater g v xs old) i 0 ≡ countOf g v (getD xs i none)
-  unfolding countsLater
-  counts-at xs old i none h = count-in xs (drop (length xs) old) i none h
-
-  front-in : (xs : List Bounds) (rest : List ℕ) (i : ℕ) → i < length xs → getD (countsOf g v xs ++ rest) i 0 ≡ getD (countsOf g v xs) i 0
-  unfolding countsOf
-  front-in [] rest i h = absurd (omega arith)
-  front-in (x ∷ xs) rest zero h = refl
-  front-in (x ∷ xs) rest (suc i) h = front-in xs rest i (omega arith)
-
-  pub counts-front : (xs : List Bounds) (old : List ℕ) (i : ℕ) → i < length xs → getD (countsLater g v xs old) i 0 ≡ getD (countsOf g v xs) i 0
-  unfolding countsLater
-  counts-front xs old i h = front-in xs (drop (length xs) old) i h
+  palette-past xs old k = filled-past 3 (itsColour g v) three xs old k 0
 
   pub counts-past : (xs : List Bounds) (old : List ℕ) (k : ℕ) → getD (countsLater g v xs old) (length xs + k) 0 ≡ getD old (length xs + k) 0
   unfolding countsLater
-  counts-past xs old k =
-      ap (λ (n : ℕ). getD (countsOf g v xs ++ drop (length xs) old) (n + k) 0) (sym (length-counts xs))
-      ∙ getD-append-add (countsOf g v xs) (drop (length xs) old) k 0
-      ∙ getD-drop (length xs) old k 0
+  counts-past xs old k = rw (← (one-mul (length xs))) (filled-past 1 (itsCount g v) one xs old k 0)

@@ -2,9 +2,9 @@
 -- Assumes nothing.
 use mathlib.Core.Path.{_≡_, refl, sym, ap, subst, _∙_}
 use mathlib.Core.Bool.{cond}
-use mathlib.Core.List.{List, map}
-use Prim.Native.Nat.{ℕ, _+_, _*_, _≤_, _<_}
-use native.Mathlib.Nat.{zero-add, le-trans, lt-of-lt-of-le}
+use mathlib.Core.List.{map}
+use Prim.Native.Nat.{ℕ, _≤_, _<_}
+use native.Mathlib.Nat.{zero-add, lt-of-lt-of-le}
 use native.Mathlib.Omega.{arith}
 use borrow.Author.Tests.{lt-ltb}
 use lib.Dec.{ltb}
@@ -46,7 +46,7 @@ module _ (g : Grid) (v : View) (k : ℕ) (most : k ≤ 256) where
   unfolding placesOf
   places-long = length-list 0 256 _
 
-  pub list-found : listOf (boxesOf g v k) ≡ boxesFound g v k
+  pub list-found : listOf (boxesOf g v k .found) (boxesOf g v k .places) ≡ boxesFound g v k
   unfolding listOf boxesOf boundsOf
   list-found =
       ext-getD noBox (map boundsOf (take used (placesOf room used))) (boxesFound g v k) (long ∙ sym (boxes-long g v k most))
@@ -61,14 +61,13 @@ module _ (g : Grid) (v : View) (k : ℕ) (most : k ≤ 256) where
       long = length-map (take used (placesOf room used)) boundsOf ∙ length-take-le used (placesOf room used) (omega (arith, places-long, few))
 
   module _ (a : Accepted g) where
-    pub list-tiles : Tiles g (listOf (boxesOf g v k))
+    pub list-tiles : Tiles g (listOf (boxesOf g v k .found) (boxesOf g v k .places))
     list-tiles = subst (Tiles g) (sym list-found) (tiles g v k most a)
 
     pub all-found : 0 < total g v → Found g v (boxesOf g v k)
     unfolding boxesOf
     all-found some =
         record {
-          few = few;
-          long = places-long;
-          occupied = λ i l. rw list-found (all-occupied g v k most a some i l);
+          placed = record { few = few; long = places-long; within = λ i l. rw list-found (all-occupied g v k most a some i l .within) };
+          some = λ i l. rw list-found (all-occupied g v k most a some i l .some);
         }

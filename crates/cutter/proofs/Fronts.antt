@@ -1,14 +1,19 @@
 -- Filling the front of a lent array, item by item: one law over the width of an item.
 -- Assumes nothing.
-use mathlib.Core.Path.{_≡_, refl, sym, ap, _∙_}
+use mathlib.Core.Path.{_≡_, sym, ap, _∙_}
 use mathlib.Core.List.{List, [], _∷_, _++_, append-assoc, append-nil}
-use Prim.Native.Nat.{ℕ, suc, _+_, _*_, _≤_, _<_}
-use native.Mathlib.Nat.{le-of-lt, add-zero, mul-zero, mul-add, mul-one, le-trans, mul-le-mul-left}
+use Prim.Native.Nat.{ℕ, zero, suc, _+_, _*_, _≤_, _<_}
+use native.Mathlib.Nat.{le-of-lt, add-zero, mul-zero, mul-add, mul-one, one-mul, le-trans, mul-le-mul-left}
 use native.Mathlib.Numerals.{add-one}
 use native.Mathlib.Omega.{arith}
-use lib.ListN.{length, getD, take, drop, set, length-append, length-drop}
-use lib.Seq.{drop-cons, set-at, length-take-le, take-suc, append-snoc}
+use lib.ListN.{length, getD, take, drop, set, length-append, length-drop, List·getD-append}
+use lib.Seq.{drop-cons, set-at, take-at, length-take-le, take-suc, append-snoc, getD-append-add, getD-drop}
 use Rattle.cutter.specs.Fronts.{flat, filled, putFrom}
+
+-- one value at place i is an item of width 1 there
+pub put-one : {B : Type 0} (old : List B) (i : ℕ) (b : B) → set old i b ≡ putFrom old (1 * i) (b ∷ [])
+unfolding putFrom
+put-one old i b = ap (λ (n : ℕ). set old n b) (sym (one-mul i))
 
 -- values written where a front ends make it longer
 pub put-front : {B : Type 0} (none : B) (front old bs : List B) (n : ℕ) → length front ≡ n → n + length bs ≤ length old → putFrom (front ++ drop n old) n bs ≡ front ++ (bs ++ drop (n + length bs) old)
@@ -48,7 +53,45 @@ module _ {A B : Type 0} (w : ℕ) (f : A → List B) (each : (x : A) → length 
   unfolding filled
   length-filled xs old h = simp (length-append, length-drop, length-flat) (omega arith)
 
-  -- the item at place i after the first i
+  -- of the first i items
+  pub length-filled-part : (xs : List A) (i : ℕ) → i ≤ length xs → (old : List B) → w * length xs ≤ length old → length (filled w f (take i xs) old) ≡ length old
+  length-filled-part xs i h old l = length-filled (take i xs) old (rw (length-take-le i xs h) (le-trans (mul-le-mul-left w h) l))
+
+  -- ---- what stands where
+  -- value j of item i
+  flat-at : (xs : List A) (rest : List B) (i j : ℕ) (none : A) (past : B) → i < length xs → j < w → getD (flat f xs ++ rest) (w * i + j) past ≡ getD (f (getD xs i none)) j past
+  unfolding flat
+  flat-at [] rest i j none past h l = absurd (omega arith)
+  flat-at (x ∷ xs) rest zero j none past h l =
+      (λ k. getD (append-assoc (f x) (flat f xs) rest k) (first k) past)
+      ∙ List·getD-append (f x) (flat f xs ++ rest) past j (rw (each x) l)
+    where
+      first : w * 0 + j ≡ j
+      first = omega arith
+  flat-at (x ∷ xs) rest (suc i) j none past h l =
+      (λ k. getD (append-assoc (f x) (flat f xs) rest k) (later k) past)
+      ∙ getD-append-add (f x) (flat f xs ++ rest) (w * i + j) past
+      ∙ flat-at xs rest i j none past (omega arith) l
+    where
+      later : w * suc i + j ≡ length (f x) + (w * i + j)
+      later = omega (arith, each x)
+
+  pub filled-at : (xs : List A) (old : List B) (i j : ℕ) (none : A) (past : B) → i < length xs → j < w → getD (filled w f xs old) (w * i + j) past ≡ getD (f (getD xs i none)) j past
+  unfolding filled
+  filled-at xs old i j none past h l = flat-at xs (drop (w * length xs) old) i j none past h l
+
+  pub filled-past : (xs : List A) (old : List B) (k : ℕ) (past : B) → getD (filled w f xs old) (w * length xs + k) past ≡ getD old (w * length xs + k) past
+  unfolding filled
+  filled-past xs old k past =
+      ap (λ (n : ℕ). getD (flat f xs ++ drop (w * length xs) old) (n + k) past) (sym (length-flat xs))
+      ∙ getD-append-add (flat f xs) (drop (w * length xs) old) k past
+      ∙ getD-drop (w * length xs) old k past
+
+  pub filled-front : (xs : List A) (old : List B) → take (w * length xs) (filled w f xs old) ≡ flat f xs
+  unfolding filled
+  filled-front xs old = take-at (flat f xs) (drop (w * length xs) old) (w * length xs) (length-flat xs)
+
+  -- ---- the item at place i after the first i
   pub filled-next : (xs : List A) (i : ℕ) (none : A) (past : B) → i < length xs → (old : List B) → w * length xs ≤ length old → {before later : List B} → before ≡ filled w f (take i xs) old → later ≡ putFrom before (w * i) (f (getD xs i none)) → later ≡ filled w f (take (i + 1) xs) old
   unfolding filled
   filled-next xs i none past h old l e g =

@@ -54,23 +54,7 @@ module _ (b1 b2 b3 k : ℕ) (t : List ℕ) (b : Buffers) where
       go (chosen.Of g) e = (of (cutNumberOn limit g k t (lengthsOf b)) _ _ e ∙ ap refusedRecord e, of (cutNumberOn limit g k t (lengthsOf b)) _ _ e)
       go chosen.Refused e = (ap refusedRecord e, refl)
 
-  -- a cut that is done has a grid
-  pub record OnGrid : Type 0 where
-    pub g : Grid
-    pub chosen : gridOf b1 b2 b3 ≡ chosen.Of g
-
-  pub cut-grid : cutNumber b1 b2 b3 k t b ≡ 0 → OnGrid
-  unfolding cutNumber numberOn onGrid gridAnswer
-  cut-grid = go (gridOf b1 b2 b3) refl
-    where
-      go : (c : Chosen) → gridOf b1 b2 b3 ≡ c → onGrid c (gridAnswer c .number) (λ g. cutNumberOn limit g k t (lengthsOf b)) ≡ 0 → OnGrid
-      go (chosen.Of g) e n = record { g = g; chosen = e }
-      go chosen.Refused e n = absurd (never n)
-        where
-          never : _≡_ {A = ℕ} 1 0 → ⊥
-          never q = omega arith
-
-  -- what it tells
+  -- what a cut that is done tells
   pub record CutDone (g : Grid) : Type 0 where
     pub accepted : Accepted g
     pub can : CanCut g k t (lengthsOf b)

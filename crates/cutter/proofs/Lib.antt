@@ -3,7 +3,6 @@ pub mod Held
 pub mod Filled
 pub mod Maps
 pub mod Colours
-pub mod Turns
 pub mod Worked
 pub mod Listed
 pub mod Refusals

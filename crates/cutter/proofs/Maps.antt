@@ -4,11 +4,13 @@ use mathlib.Core.Path.{_≡_, refl, sym, ap, _∙_}
 use mathlib.Core.Bool.{Bool, true, false, cond}
 use mathlib.Core.List.{List, [], _∷_, _++_}
 use Prim.Native.Nat.{ℕ, zero, suc, _+_, _≤_, _<_}
-use native.Mathlib.Nat.{zero-add, add-zero, add-suc, suc-add}
+use native.Mathlib.Nat.{zero-add, add-zero, add-suc, suc-add, le-of-lt}
+use native.Mathlib.Numerals.{add-one}
 use native.Mathlib.Omega.{arith}
 use borrow.Author.Tests.{eq-eqb, eqb-true}
 use lib.Dec.{eqb}
-use lib.ListN.{length, getD}
+use lib.ListN.{length, getD, take}
+use lib.Seq.{length-take-le, take-suc}
 use Rattle.grid.specs.declared.Grid.{Grid}
 use Rattle.grid.specs.Grid.{binsOf}
 use Rattle.grid.proofs.Range.{length-list, list-at, list-is}
@@ -43,6 +45,17 @@ module _ (g : Grid) where
   filled-more i (y ∷ xs) x old =
       filled-more (suc i) xs x (fillOf g y i old)
       ∙ ap (λ (n : ℕ). fillOf g x n (fillFrom g (suc i) xs (fillOf g y i old))) (suc-add i (length xs) ∙ sym (add-suc i (length xs)))
+
+  -- box i of a list after the first i
+  pub filled-next : (xs : List Bounds) (i : ℕ) (none : Bounds) → i < length xs → (old : List ℕ) {before later : List ℕ} → before ≡ fillFrom g 0 (take i xs) old → later ≡ fillOf g (getD xs i none) i before → later ≡ fillFrom g 0 (take (i + 1) xs) old
+  filled-next xs i none h old e f =
+      let x = getD xs i none in
+      let before-it : 0 + length (take i xs) ≡ i = zero-add (length (take i xs)) ∙ length-take-le i xs (le-of-lt h) in
+      let more : take i xs ++ (x ∷ []) ≡ take (i + 1) xs = sym (ap (λ (n : ℕ). take n xs) (add-one i) ∙ take-suc xs i none h) in
+      f
+      ∙ (λ k. fillOf g x (sym before-it k) (e k))
+      ∙ sym (filled-more 0 (take i xs) x old)
+      ∙ ap (λ (ys : List Bounds). fillFrom g 0 ys old) more
 
   -- what no box holds stays
   stays : (i : ℕ) (xs : List Bounds) (old : List ℕ) (p : ℕ) → p < length old → holding g xs p ≡ 0 → getD (fillFrom g i xs old) p 0 ≡ getD old p 0

@@ -31,7 +31,7 @@ use Rattle.rounds.specs.Loop.{noBox, noItem, wholeOf, heapOf}
 use Rattle.rounds.proofs.Grids.{whole-sum}
 use Rattle.rounds.proofs.Filled.{heap-fit, heap-in-use}
 use Rattle.rounds.proofs.Cover.{over, over-heap}
-use Rattle.cutter.specs.Palette.{countOf, countsOf, Occupied}
+use Rattle.cutter.specs.Palette.{countOf, Occupied}
 use Rattle.cutter.specs.Map.{lies, holds, holding, Tiles}
 use Rattle.cutter.proofs.Held.{whole-holds, cut-holding}
 
@@ -50,13 +50,13 @@ holding-sum g p [] = refl
 holding-sum g p (x ∷ h) = ap (λ (n : ℕ). cond (holds g (x .box) p) 1 0 + n) (holding-sum g p h)
 
 counts-sum : (g : Grid) (v : View) (h : Room Bounds)
-    → sumFrom 0 (length h) (λ i. getD (countsOf g v (map (λ (x : Item Bounds). x .box) h)) i 0) ≡ sumItems (λ x. boxSum g v (x .box) 0) h
-unfolding countsOf countOf sumFrom sumItems
+    → sumFrom 0 (length h) (λ i. countOf g v (getD (map (λ (x : Item Bounds). x .box) h) i noBox)) ≡ sumItems (λ x. boxSum g v (x .box) 0) h
+unfolding countOf sumFrom sumItems
 counts-sum g v [] = refl
 counts-sum g v (x ∷ h) = ap (λ (n : ℕ). boxSum g v (x .box) 0 + n) (sum-shift 1 0 (length h) count ∙ (λ j. sumFrom 0 (length h) (λ i. count (next i j))) ∙ counts-sum g v h)
   where
     count : ℕ → ℕ
-    count i = getD (countsOf g v (map (λ (y : Item Bounds). y .box) (x ∷ h))) i 0
+    count i = countOf g v (getD (map (λ (y : Item Bounds). y .box) (x ∷ h)) i noBox)
 
     next : (i : ℕ) → 1 + i ≡ suc i
     next i = omega arith
@@ -88,7 +88,7 @@ module _ (g : Grid) (v : View) (k : ℕ) (most : k ≤ 256) where
   pub box-at : (i : ℕ) → i < used → getD (boxesFound g v k) i noBox ≡ item noItem room i .box
   box-at i h = List·getD-map (λ (x : Item Bounds). x .box) (take used room) i noItem ∙ ap (λ (x : Item Bounds). x .box) (getD-take used room i noItem h)
 
-  -- "each bin of the grid lies in exactly one box"
+  -- each bin of the grid lies in exactly one box
   pub tiles : Accepted g → Tiles g (boxesFound g v k)
   unfolding over
   tiles a =
@@ -99,17 +99,17 @@ module _ (g : Grid) (v : View) (k : ℕ) (most : k ≤ 256) where
             ∙ rw (whole-holds a (wholeOf g) (whole-low g) (whole-high g) p h) refl;
       }
 
-  -- "no box is empty"
+  -- no box is empty
   pub all-occupied : Accepted g → 0 < total g v → (i : ℕ) → i < used → Occupied g v (getD (boxesFound g v k) i noBox)
   all-occupied a some i h =
       let fit = heap-fit a some k most .each i h in
       rw (box-at i h) (record { within = fit .within; some = pos-of-ne-zero (fit .some) })
 
-  -- "counts add up to the total"
-  pub counts-total : sumFrom 0 used (λ i. getD (countsOf g v (boxesFound g v k)) i 0) ≡ total g v
+  -- the counts add up to the total
+  pub counts-total : sumFrom 0 used (λ i. countOf g v (getD (boxesFound g v k) i noBox)) ≡ total g v
   unfolding over
   counts-total =
-      ap (λ (n : ℕ). sumFrom 0 n (λ i. getD (countsOf g v (boxesFound g v k)) i 0)) (sym (length-take-le used room in-room))
+      ap (λ (n : ℕ). sumFrom 0 n (λ i. countOf g v (getD (boxesFound g v k) i noBox))) (sym (length-take-le used room in-room))
       ∙ counts-sum g v (take used room)
       ∙ over-heap {f = λ x. boxSum g v x 0} (record { adds = λ x d c h l. cut-sum g v x d c 0 h l }) g v k most
       ∙ whole-sum g v 0

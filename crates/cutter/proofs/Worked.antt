@@ -9,14 +9,15 @@ use Rattle.grid.specs.Range.{listFrom, sumFrom, allFrom}
 use Rattle.grid.specs.Grid.{choose, binsOf, placeOf, binAt}
 use Rattle.sums.specs.declared.Bounds.{Bounds}
 use Rattle.sums.specs.Box.{minAt, maxAt, sum3, binSum, boxSum}
-use Rattle.cutter.specs.Palette.{meanOf, colourOf, countOf, bytesOf, coloursOf, countsOf, paletteLater, countsLater, frontOf}
+use Rattle.cutter.specs.Fronts.{flat, filled}
+use Rattle.cutter.specs.Palette.{meanOf, colourOf, countOf, bytesOf, itsColour, itsCount, paletteLater, countsLater, frontOf}
 use Rattle.cutter.specs.Map.{lies, holds, indexFrom, mapOf, fillWhere, fillOf, fillFrom}
 
 record Outcome : Type 0 where
   palette : List ℕ
   counts : List ℕ
   mapped : List ℕ
-  filled : List ℕ
+  filledMap : List ℕ
   front : List ℕ
 
 -- a grid with the numbers of its occupied bins, and boxes of it
@@ -35,7 +36,7 @@ outcome c =
       palette = palette;
       counts = countsLater (c .grid) view (c .boxes) (replicate 4 7);
       mapped = mapOf (c .grid) (c .boxes);
-      filled = fillFrom (c .grid) 0 (c .boxes) (replicate (binsOf (c .grid)) 7);
+      filledMap = fillFrom (c .grid) 0 (c .boxes) (replicate (binsOf (c .grid)) 7);
       front = frontOf palette (length (c .boxes));
     }
 
@@ -58,7 +59,7 @@ cases =
         palette = 0 ∷ 0 ∷ 0 ∷ 255 ∷ 255 ∷ 255 ∷ 7 ∷ 7 ∷ 7 ∷ 7 ∷ [];
         counts = 1 ∷ 3 ∷ 7 ∷ 7 ∷ [];
         mapped = 0 ∷ 0 ∷ 0 ∷ 0 ∷ 1 ∷ 1 ∷ 1 ∷ 1 ∷ [];
-        filled = 0 ∷ 0 ∷ 0 ∷ 0 ∷ 1 ∷ 1 ∷ 1 ∷ 1 ∷ [];
+        filledMap = 0 ∷ 0 ∷ 0 ∷ 0 ∷ 1 ∷ 1 ∷ 1 ∷ 1 ∷ [];
         front = 0 ∷ 0 ∷ 0 ∷ 255 ∷ 255 ∷ 255 ∷ [];
       };
     }
@@ -71,7 +72,7 @@ cases =
         palette = 1 ∷ 0 ∷ 0 ∷ replicate 7 7;
         counts = 2 ∷ 7 ∷ 7 ∷ 7 ∷ [];
         mapped = replicate 8 0;
-        filled = replicate 8 0;
+        filledMap = replicate 8 0;
         front = 1 ∷ 0 ∷ 0 ∷ [];
       };
     }
@@ -84,14 +85,14 @@ cases =
         palette = 255 ∷ 0 ∷ 0 ∷ 0 ∷ 0 ∷ 0 ∷ 64 ∷ 0 ∷ 0 ∷ 7 ∷ [];
         counts = 1 ∷ 1 ∷ 1 ∷ 7 ∷ [];
         mapped = 1 ∷ 1 ∷ 1 ∷ 1 ∷ 2 ∷ 2 ∷ 2 ∷ 2 ∷ replicate 8 0;
-        filled = 1 ∷ 1 ∷ 1 ∷ 1 ∷ 2 ∷ 2 ∷ 2 ∷ 2 ∷ replicate 8 0;
+        filledMap = 1 ∷ 1 ∷ 1 ∷ 1 ∷ 2 ∷ 2 ∷ 2 ∷ 2 ∷ replicate 8 0;
         front = 255 ∷ 0 ∷ 0 ∷ 0 ∷ 0 ∷ 0 ∷ 64 ∷ 0 ∷ 0 ∷ [];
       };
     }
     ∷ []
 
 worked : map outcome cases ≡ map (λ c. c .expected) cases
-unfolding outcome cases planes narrow listFrom sumFrom allFrom choose binsOf placeOf binAt minAt maxAt sum3 binSum boxSum meanOf colourOf countOf bytesOf coloursOf countsOf paletteLater countsLater frontOf lies holds indexFrom mapOf fillWhere fillOf fillFrom
+unfolding outcome cases planes narrow listFrom sumFrom allFrom choose binsOf placeOf binAt minAt maxAt sum3 binSum boxSum meanOf colourOf countOf bytesOf itsColour itsCount flat filled paletteLater countsLater frontOf lies holds indexFrom mapOf fillWhere fillOf fillFrom
 worked = refl
 
 -- a palette of seven bytes has room for two boxes and not for three

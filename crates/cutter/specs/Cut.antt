@@ -11,12 +11,13 @@ use Rattle.grid.specs.Grid.{gridOf, onGrid, numberOn, binsOf}
 use Rattle.table.specs.Cell.{View, wide, wideList}
 use Rattle.table.specs.Sound.{limit, total, sound}
 use Rattle.sums.specs.declared.Bounds.{Bounds}
+use Rattle.sums.specs.Box.{boxSum, Within}
 use Rattle.sums.specs.Moments.{momentsOf}
 use Rattle.rounds.specs.declared.BoxSpread.{BoxSpread}
 use Rattle.rounds.specs.declared.Boxes.{Boxes}
 use Rattle.rounds.specs.Loop.{noBox, spent, boxSpread, boxesOf}
 use Rattle.cutter.specs.declared.CutRecord.{CutRecord}
-use Rattle.cutter.specs.Palette.{paletteLater, countsLater, Occupied}
+use Rattle.cutter.specs.Palette.{paletteLater, countsLater}
 use Rattle.cutter.specs.Map.{mapOf}
 
 -- what is lent to be written, and its lengths
@@ -73,13 +74,13 @@ cutRecord b1 b2 b3 k t b = onGrid (gridOf b1 b2 b3) (refusedRecord 1) (λ g. rec
 unfoldable pub boundsOf : BoxSpread → Bounds
 boundsOf x = record { r0 = x .r0; r1 = x .r1; g0 = x .g0; g1 = x .g1; b0 = x .b0; b1 = x .b1 }
 
--- the boxes found, in order
-unfoldable pub listOf : Boxes → List Bounds
-listOf b = map boundsOf (take (b .found) (b .places))
+-- the boxes of the first n places, in order
+unfoldable pub listOf : ℕ → List BoxSpread → List Bounds
+listOf n places = map boundsOf (take n places)
 
 -- the boxes of a cut
 unfoldable pub boxList : Grid → List ℕ → ℕ → List Bounds
-boxList g t k = listOf (boxesOf g (wide t) k)
+boxList g t k = let b = boxesOf g (wide t) k in listOf (b .found) (b .places)
 
 -- "the work table holds the moments of the whole table"; palette and counts are filled in front; the map is full
 unfoldable pub laterOn : Grid → ℕ → List ℕ → Buffers → Buffers
@@ -108,8 +109,13 @@ pub record CanCut (g : Grid) (k : ℕ) (t : List ℕ) (l : Lengths) : Type 0 whe
   pub is-sound : sound limit g (wide t) ≡ true
   pub some : 0 < total g (wide t)
 
--- boxes of the grid, each with some weight, in a record of 256 places
-pub record Found (g : Grid) (v : View) (b : Boxes) : Type 0 where
+-- boxes of the grid, in a record of 256 places
+pub record Placed (g : Grid) (b : Boxes) : Type 0 where
   pub few : b .found ≤ 256
   pub long : length (b .places) ≡ 256
-  pub occupied : (i : ℕ) → i < b .found → Occupied g v (getD (listOf b) i noBox)
+  pub within : (i : ℕ) → i < b .found → Within g (getD (listOf (b .found) (b .places)) i noBox)
+
+-- and each with some weight
+pub record Found (g : Grid) (v : View) (b : Boxes) : Type 0 where
+  pub placed : Placed g b
+  pub some : (i : ℕ) → i < b .found → 0 < boxSum g v (getD (listOf (b .found) (b .places)) i noBox) 0

@@ -1,15 +1,16 @@
 -- Palette and counts of a list of boxes (document 01, "Results"). Definitions only.
 use mathlib.Core.Bool.{cond}
-use mathlib.Core.List.{List, [], _∷_, _++_, map}
-use Prim.Native.Nat.{ℕ, _+_, _*_, _/_, _≤_, _<_}
+use mathlib.Core.List.{List, [], _∷_}
+use Prim.Native.Nat.{ℕ, _*_, _/_, _≤_, _<_}
 use lib.Dec.{ltb}
-use lib.ListN.{length, take, drop, set}
+use lib.ListN.{length, take}
 use Rattle.grid.specs.declared.Grid.{Grid}
 use Rattle.grid.specs.declared.Rgb.{Rgb}
 use Rattle.table.specs.Cell.{View}
 use Rattle.sums.specs.declared.Bounds.{Bounds}
 use Rattle.sums.specs.declared.Stats.{Stats}
 use Rattle.sums.specs.Box.{boxSum, Within}
+use Rattle.cutter.specs.Fronts.{flat, filled, putFrom}
 
 -- a "sum divided by n, rounded down"
 unfoldable pub meanOf : ℕ → ℕ → ℕ
@@ -32,21 +33,23 @@ countOf g v x = boxSum g v x 0
 unfoldable pub bytesOf : Rgb → List ℕ
 bytesOf c = c .c1 ∷ c .c2 ∷ c .c3 ∷ []
 
+-- what a box gives the palette, and what it gives the counts
+unfoldable pub itsColour : Grid → View → Bounds → List ℕ
+itsColour g v x = bytesOf (colourOf g v x)
+
+unfoldable pub itsCount : Grid → View → Bounds → List ℕ
+itsCount g v x = countOf g v x ∷ []
+
 -- the colours of boxes, one after the other
 unfoldable pub coloursOf : Grid → View → List Bounds → List ℕ
-coloursOf g v [] = []
-coloursOf g v (x ∷ xs) = bytesOf (colourOf g v x) ++ coloursOf g v xs
-
--- and their counts
-unfoldable pub countsOf : Grid → View → List Bounds → List ℕ
-countsOf g v xs = map (countOf g v) xs
+coloursOf g v xs = flat (itsColour g v) xs
 
 -- "Places past the filled front of palette and counts stay"
 unfoldable pub paletteLater : Grid → View → List Bounds → List ℕ → List ℕ
-paletteLater g v xs old = coloursOf g v xs ++ drop (3 * length xs) old
+paletteLater g v xs old = filled 3 (itsColour g v) xs old
 
 unfoldable pub countsLater : Grid → View → List Bounds → List ℕ → List ℕ
-countsLater g v xs old = countsOf g v xs ++ drop (length xs) old
+countsLater g v xs old = filled 1 (itsCount g v) xs old
 
 -- "the filled front of the lent palette as a part of it; if the palette is too short for that number, the part is empty"
 unfoldable pub frontOf : List ℕ → ℕ → List ℕ
@@ -76,4 +79,4 @@ pub record Occupied (g : Grid) (v : View) (x : Bounds) : Type 0 where
 
 -- a palette with a colour at place i
 unfoldable pub withColourAt : List ℕ → ℕ → Rgb → List ℕ
-withColourAt palette i c = set (set (set palette (3 * i) (c .c1)) (3 * i + 1) (c .c2)) (3 * i + 2) (c .c3)
+withColourAt palette i c = putFrom palette (3 * i) (bytesOf c)

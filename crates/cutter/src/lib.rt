@@ -24,7 +24,7 @@ ghost use Rattle.sums.specs.Moments.{Worked};
 ghost use Rattle.cutter.specs.Palette.{meanOf, colourOf, countOf, paletteLater, countsLater, frontOf, statsColour, withColourAt, Coloured, Occupied};
 ghost use Rattle.cutter.specs.Map.{lies, holds, slice, fillWhere, fillOf, fillFrom, Plane};
 ghost use Rattle.rounds.specs.Loop.{boxesOf};
-ghost use Rattle.cutter.specs.Cut.{buffers, lengthsOf, longEnough, cutNumberOn, refusedRecord, doneRecord, cutRecord, boundsOf, listOf, laterOn, cutLater, CanCut, Found};
+ghost use Rattle.cutter.specs.Cut.{buffers, lengthsOf, longEnough, cutNumberOn, refusedRecord, doneRecord, cutRecord, boundsOf, listOf, laterOn, cutLater, CanCut, Placed, Found};
 
 // ---- Palette and counts
 
@@ -156,8 +156,8 @@ fn put_results(
 )
     requires { ⌜ Worked g (now table) (now work) × Found g (wide (now table)) b ⌝ }
     requires { ⌜ (3 * b .found ≤ length (now palette)) × (b .found ≤ length (now counts)) ⌝ }
-    ensures { λ r. ⌜ now (palette .exit) ≡ paletteLater g (wide (now (table .entry))) (listOf b) (now (palette .entry)) ⌝ }
-    ensures { λ r. ⌜ now (counts .exit) ≡ countsLater g (wide (now (table .entry))) (listOf b) (now (counts .entry)) ⌝ }
+    ensures { λ r. ⌜ now (palette .exit) ≡ paletteLater g (wide (now (table .entry))) (listOf (b .found) (b .places)) (now (palette .entry)) ⌝ }
+    ensures { λ r. ⌜ now (counts .exit) ≡ countsLater g (wide (now (table .entry))) (listOf (b .found) (b .places)) (now (counts .entry)) ⌝ }
 {
     let places = b.places;
     let n = b.found;
@@ -169,19 +169,19 @@ fn put_results(
     }
 }
 
-// Writes the index of each box at its bins. The table is named by the contract alone.
-fn fill_boxes(table: &[u64], g: Grid, b: Boxes, map: &mut [u8])
-    requires { ⌜ Found g (wide (now table)) b × (length (now map) ≡ binsOf g) ⌝ }
-    ensures { λ r. ⌜ now (map .exit) ≡ fillFrom g 0 (listOf b) (now (map .entry)) ⌝ }
+// Writes the index of each box at its bins.
+fn fill_boxes(g: Grid, b: Boxes, map: &mut [u8])
+    requires { ⌜ Placed g b × (length (now map) ≡ binsOf g) ⌝ }
+    ensures { λ r. ⌜ now (map .exit) ≡ fillFrom g 0 (listOf (b .found) (b .places)) (now (map .entry)) ⌝ }
 {
     let places = b.places;
     let n = b.found;
-    let mut place = 0;
-    while place < n {
-        let held = bounds_of(places[place]);
-        let index = place as u8;
-        fill_box(map, g, held, index);
-        place = place + 1;
+    let mut at = 0;
+    while at < n {
+        let x = bounds_of(places[at]);
+        let index = at as u8;
+        fill_box(map, g, x, index);
+        at = at + 1;
     }
 }
 
@@ -304,7 +304,7 @@ fn cut_on(
     moments(table, g, work);
     let b = cut_boxes(table, work, g, k);
     put_results(table, work, g, b, palette, counts);
-    fill_boxes(table, g, b, map);
+    fill_boxes(g, b, map);
     done(b)
 }
 

@@ -29,10 +29,10 @@ use Rattle.rounds.specs.declared.Boxes.{Boxes}
 use Rattle.rounds.specs.Loop.{noBox, boxesOf}
 use Rattle.rounds.proofs.Filled.{heap-most}
 use Rattle.cutter.specs.declared.CutRecord.{CutRecord}
-use Rattle.cutter.specs.Palette.{countOf, countsOf, paletteLater, countsLater, frontOf}
+use Rattle.cutter.specs.Palette.{countOf, paletteLater, countsLater, frontOf}
 use Rattle.cutter.specs.Map.{holds}
 use Rattle.cutter.specs.Cut.{Buffers, lengthsOf, cutNumber, doneRecord, cutRecord, listOf, boxList, laterOn, cutLater, CanCut, Found}
-use Rattle.cutter.proofs.Colours.{front-filled, palette-at, counts-at, counts-front}
+use Rattle.cutter.proofs.Colours.{front-filled, palette-at, counts-at}
 use Rattle.cutter.proofs.Listed.{list-length}
 use Rattle.cutter.proofs.Maps.{map-below, box-of-index}
 use Rattle.cutter.proofs.Tiling.{counts-total, holds-colour, sum-of-held}
@@ -45,39 +45,41 @@ module _ {g : Grid} {k : ℕ} {t : List ℕ} (b : Buffers) (a : Accepted g) (c :
   abbrev found : Boxes
   found = boxesOf g (wide t) k
 
+  abbrev boxes : List Bounds
+  boxes = listOf (found .found) (found .places)
+
   are-found : Found g (wide t) found
   are-found = all-found g (wide t) k (c .most) a (c .some)
 
-  in-list : {i : ℕ} → i < found .found → i < length (listOf found)
-  in-list h = omega (arith, list-length are-found)
+  in-list : {i : ℕ} → i < found .found → i < length boxes
+  in-list h = omega (arith, list-length (are-found .placed))
 
-  counts-all : sumFrom 0 (found .found) (λ i. getD (countsLater g (wide t) (listOf found) (b .counts)) i 0) ≡ total g (wide t)
+  counts-all : sumFrom 0 (found .found) (λ i. getD (countsLater g (wide t) boxes (b .counts)) i 0) ≡ total g (wide t)
   unfolding boxesOf
   counts-all =
-      sum-same 0 (found .found) _ _ (λ i l h. counts-front g (wide t) (listOf found) (b .counts) i (in-list (omega arith)))
-      ∙ ap (λ (xs : List Bounds). sumFrom 0 (found .found) (λ i. getD (countsOf g (wide t) xs) i 0)) (list-found g (wide t) k (c .most))
+      sum-same 0 (found .found) _ _ (λ i l h. counts-at g (wide t) boxes (b .counts) i noBox (in-list (omega arith)))
+      ∙ ap (λ (xs : List Bounds). sumFrom 0 (found .found) (λ i. countOf g (wide t) (getD xs i noBox))) (list-found g (wide t) k (c .most))
       ∙ counts-total g (wide t) k (c .most)
 
-  fits : 3 * length (listOf found) ≤ length (b .palette)
+  fits : 3 * length boxes ≤ length (b .palette)
   unfolding boxesOf
-  fits = omega (arith, list-length are-found, heap-most g (wide t) k (c .least) (c .most), c .palette)
+  fits = omega (arith, list-length (are-found .placed), heap-most g (wide t) k (c .least) (c .most), c .palette)
 
   done-tiling : Tiling g t (doneRecord found) (laterOn g k t b)
   unfolding boxesIn boxIn doneRecord laterOn boxList countOf
   done-tiling =
-      let xs = listOf found in
       let tiles = list-tiles g (wide t) k (c .most) a in
       record {
-        listed = list-length are-found;
+        listed = list-length (are-found .placed);
         tiles = tiles;
-        within = λ i h. are-found .occupied i h .within;
-        count = λ i h. counts-at g (wide t) xs (b .counts) i noBox (in-list h) ∙ sum-of-held (are-found .occupied i h .within) (wide t) 0;
-        some = λ i h. omega (arith, counts-at g (wide t) xs (b .counts) i noBox (in-list h), are-found .occupied i h .some);
+        within = are-found .placed .within;
+        count = λ i h. counts-at g (wide t) boxes (b .counts) i noBox (in-list h) ∙ sum-of-held (are-found .placed .within i h) (wide t) 0;
+        some = λ i h. omega (arith, counts-at g (wide t) boxes (b .counts) i noBox (in-list h), are-found .some i h);
         all = counts-all;
-        index = λ i p h l. box-of-index g xs tiles i noBox p (in-list h) l;
-        below = λ p l. omega (arith, map-below g xs tiles p l, list-length are-found);
-        colour = λ i h. palette-at g (wide t) xs (b .palette) i noBox (in-list h);
-        front = ap (frontOf (paletteLater g (wide t) xs (b .palette))) (sym (list-length are-found)) ∙ front-filled g (wide t) xs (b .palette) fits;
+        index = λ i p h l. box-of-index g boxes tiles i noBox p (in-list h) l;
+        below = λ p l. omega (arith, map-below g boxes tiles p l, list-length (are-found .placed));
+        colour = λ i h. palette-at g (wide t) boxes (b .palette) i noBox (in-list h);
+        front = ap (frontOf (paletteLater g (wide t) boxes (b .palette))) (sym (list-length (are-found .placed))) ∙ front-filled g (wide t) boxes (b .palette) fits;
       }
 
 -- ---- the boxes of a loaded table

@@ -21,7 +21,7 @@ use Rattle.cutter.specs.Cut.{Buffers, listOf}
 
 -- the boxes of a record, in order: those of its places that are in use
 unfoldable pub boxesIn : CutRecord → List Bounds
-boxesIn r = listOf (record { found = r .boxes; places = r .places })
+boxesIn r = listOf (r .boxes) (r .places)
 
 unfoldable pub boxIn : CutRecord → ℕ → Bounds
 boxIn r i = getD (boxesIn r) i noBox

@@ -3,7 +3,6 @@
 use mathlib.Core.Path.{_≡_, refl, sym, ap, _∙_}
 use mathlib.Core.List.{List}
 use Prim.Native.Nat.{ℕ, _+_, _*_, _≤_, _<_}
-use native.Mathlib.Nat.{one-mul}
 use native.Mathlib.Omega.{arith}
 use lib.ListN.{length, getD, take, set}
 use lib.Seq.{length-take-le, getD-take, take-all}
@@ -12,7 +11,7 @@ use Rattle.rounds.specs.declared.BoxSpread.{BoxSpread}
 use Rattle.cutter.specs.declared.CutRecord.{CutRecord}
 use Rattle.cutter.specs.Fronts.{filled, putFrom}
 use Rattle.cutter.proofs.Listed.{pastPlaces}
-use Rattle.cutter.proofs.Fronts.{filled-next, length-filled}
+use Rattle.cutter.proofs.Fronts.{put-one, filled-next, length-filled-part}
 use Rattle.seluvava.specs.Cut.{boxBytes, spreadOf, told, withBoxAt}
 
 -- the six bytes of a box are six stores
@@ -22,10 +21,6 @@ six-bytes old i x = simp (next 1, next 2, next 3, next 4) refl
   where
     next : (n : ℕ) → 6 * i + n + 1 ≡ 6 * i + (n + 1)
     next n = omega arith
-
-one-store : (old : List Float) (i : ℕ) (x : BoxSpread) → set old i (x .spread) ≡ putFrom old (1 * i) (spreadOf x)
-unfolding putFrom spreadOf
-one-store old i x = ap (λ (n : ℕ). set old n (x .spread)) (sym (one-mul i))
 
 pub six : (x : BoxSpread) → length (boxBytes x) ≡ 6
 unfolding boxBytes
@@ -56,12 +51,13 @@ module _ (r : CutRecord) (long : length (r .places) ≡ 256) (few : r .boxes ≤
         (f ∙ ap (λ (y : BoxSpread). putFrom before (6 * i) (boxBytes y)) (sym item))
 
     pub spreads-next : (old : List Float) → r .boxes ≤ length old → {before later : List Float} → before ≡ filled 1 spreadOf (take i (told r)) old → later ≡ set before i (x .spread) → later ≡ filled 1 spreadOf (take (i + 1) (told r)) old
+    unfolding spreadOf
     spreads-next old h {before} e f =
         filled-next 1 spreadOf one (told r) i pastPlaces nan (omega (arith, told-length)) old (omega (arith, told-length)) e
-        (f ∙ one-store before i x ∙ ap (λ (y : BoxSpread). putFrom before (1 * i) (spreadOf y)) (sym item))
+        (f ∙ put-one before i (x .spread) ∙ ap (λ (y : BoxSpread). putFrom before (1 * i) (spreadOf y)) (sym item))
 
   pub boxes-long : (i : ℕ) → i ≤ r .boxes → (old : List ℕ) → 6 * r .boxes ≤ length old → length (filled 6 boxBytes (take i (told r)) old) ≡ length old
-  boxes-long i l old h = length-filled 6 boxBytes six (take i (told r)) old (omega (arith, length-take-le i (told r) (omega (arith, told-length))))
+  boxes-long i l old h = length-filled-part 6 boxBytes six (told r) i (omega (arith, told-length)) old (omega (arith, told-length))
 
   pub spreads-long : (i : ℕ) → i ≤ r .boxes → (old : List Float) → r .boxes ≤ length old → length (filled 1 spreadOf (take i (told r)) old) ≡ length old
-  spreads-long i l old h = length-filled 1 spreadOf one (take i (told r)) old (omega (arith, length-take-le i (told r) (omega (arith, told-length))))
+  spreads-long i l old h = length-filled-part 1 spreadOf one (told r) i (omega (arith, told-length)) old (omega (arith, told-length))

@@ -1,6 +1,6 @@
 -- `cutter::cut` meets its contract: the refusals, and else the cut.
 -- Assumes nothing.
-use mathlib.Core.Path.{_≡_, refl, sym, ap, _∙_}
+use mathlib.Core.Path.{_≡_, sym, _∙_}
 use borrow.Author.Needs.{needs}
 use denote.Ref.{now}
 use Rattle.grid.specs.declared.Chosen.the-variants.{Of}

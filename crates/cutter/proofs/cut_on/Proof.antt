@@ -1,15 +1,14 @@
 -- `cutter::cut_on` meets its contract: the moments, the boxes of the loop, and what they give.
 -- Assumes nothing.
 use mathlib.Core.Path.{_≡_, sym, ap, subst, _∙_}
-use mathlib.Core.List.{List}
-use Prim.Native.Nat.{ℕ, _*_, _≤_}
+use Prim.Native.Nat.{_≤_}
 use native.Mathlib.Nat.{le-trans}
 use native.Mathlib.Omega.{arith}
 use borrow.Author.Needs.{needs}
 use denote.Ref.{now}
 use Rattle.table.specs.Cell.{View, wide}
 use Rattle.rounds.specs.declared.Boxes.{Boxes}
-use Rattle.rounds.specs.Loop.{heapOf, boxesOf}
+use Rattle.rounds.specs.Loop.{boxesOf}
 use Rattle.rounds.proofs.Filled.{heap-most}
 use Rattle.cutter.specs.Palette.{paletteLater, countsLater}
 use Rattle.cutter.specs.Map.{fillFrom}
@@ -45,7 +44,7 @@ put-results-requires c κs =
     )
 
 fill-boxes-requires : tie.Need-fill-boxes-requires
-fill-boxes-requires c κs = let s = c .before .before .before .before .before .before .before .before .before .before .before .before .before .before .before .before .before .before .before .before in (the-boxes s (c .before .before .before .before .before .before .before .before .before .cut-boxes .ensures), s .pre .1 .map)
+fill-boxes-requires c κs = let s = c .before .before .before .before .before .before .before .before .before .before .before .before .before .before .before .before .before .before .before .before in (the-boxes s (c .before .before .before .before .before .before .before .before .before .cut-boxes .ensures) .placed, s .pre .1 .map)
 
 done-requires : tie.Need-done-requires
 done-requires c κs = search needs
@@ -67,12 +66,12 @@ unfolding laterOn boxList
 returns c =
     let s = c .before .before .before .before .before .before .before .before .before .before .before .before .before .before .before .before .before .before .before .before .before .before .before .before in
     let e = c .before .before .before .before .before .before .before .before .before .before .before .before .before .cut-boxes .ensures in
-    let palette = c .before .before .before .before .before .before .before .before .before .put-results .ensures .0 ∙ ap (λ (b : Boxes). paletteLater (s .args .g) (view s) (listOf b) (now (s .args .palette))) e in
-    let counts = c .before .before .before .before .before .before .before .before .before .put-results .ensures .1 ∙ ap (λ (b : Boxes). countsLater (s .args .g) (view s) (listOf b) (now (s .args .counts))) e in
+    let palette = c .before .before .before .before .before .before .before .before .before .put-results .ensures .0 ∙ ap (λ (b : Boxes). paletteLater (s .args .g) (view s) (listOf (b .found) (b .places)) (now (s .args .palette))) e in
+    let counts = c .before .before .before .before .before .before .before .before .before .put-results .ensures .1 ∙ ap (λ (b : Boxes). countsLater (s .args .g) (view s) (listOf (b .found) (b .places)) (now (s .args .counts))) e in
     let map =
     c .before .before .before .fill-boxes .ensures
-    ∙ ap (λ (b : Boxes). fillFrom (s .args .g) 0 (listOf b) (now (s .args .map))) e
-    ∙ filled-map (s .args .g) (listOf (boxesOf (s .args .g) (view s) (s .args .k))) (list-tiles (s .args .g) (view s) (s .args .k) (s .pre .1 .most) (s .pre .0)) (now (s .args .map)) (s .pre .1 .map) in (
+    ∙ ap (λ (b : Boxes). fillFrom (s .args .g) 0 (listOf (b .found) (b .places)) (now (s .args .map))) e
+    ∙ filled-map (s .args .g) _ (list-tiles (s .args .g) (view s) (s .args .k) (s .pre .1 .most) (s .pre .0)) (now (s .args .map)) (s .pre .1 .map) in (
       c .done .ensures ∙ ap doneRecord e,
       λ i. buffers (c .before .before .before .before .before .before .before .before .before .before .before .before .before .before .before .before .before .moments .ensures i) (palette i) (counts i) (map i),
     )

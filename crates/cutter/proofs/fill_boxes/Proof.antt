@@ -2,7 +2,7 @@
 -- Assumes nothing.
 use mathlib.Core.Path.{_≡_, sym, ap, subst, _∙_}
 use mathlib.Core.List.{List}
-use Prim.Native.Nat.{ℕ, _-_, _≤_, _<_}
+use Prim.Native.Nat.{_-_, _≤_, _<_}
 use native.Mathlib.Omega.{arith}
 use borrow.Author.Needs.{needs}
 use denote.Ref.{now}
@@ -12,59 +12,58 @@ use Rattle.sums.specs.Box.{Within}
 use Rattle.rounds.specs.Loop.{noBox}
 use Rattle.cutter.specs.Map.{fillOf, fillFrom}
 use Rattle.cutter.specs.Cut.{listOf}
-use Rattle.cutter.proofs.Maps.{length-filled, filled-none}
-use Rattle.cutter.proofs.Turns.{filled-next}
+use Rattle.cutter.proofs.Maps.{length-filled, filled-none, filled-next}
 use Rattle.cutter.proofs.Listed.{list-length, list-item, take-listed}
 use Rattle.cutter.proofs.fill_boxes.Statement.{statement}
 use Rattle.cutter.proofs.fill_boxes.Tie as tie
 
 abbrev Inv-loop : tie.InvT-loop
-Inv-loop table g map₀ places n place₀ map place = (place ≤ n) × (map ≡ fillFrom g 0 (take place (listOf (record { found = n; places = places }))) map₀)
+Inv-loop g map₀ places n at₀ map at = (at ≤ n) × (map ≡ fillFrom g 0 (take at (listOf n places)) map₀)
 
 abbrev μ-loop : tie.MeasureT-loop
-μ-loop table g map₀ places n place₀ map place = n - place
+μ-loop g map₀ places n at₀ map at = n - at
 
 loop-holds : tie.Need-loop-holds Inv-loop μ-loop
 loop-holds c = (omega arith, sym (filled-none _ 0 _))
 
 mul-bounds-of : tie.Need-mul-bounds-of Inv-loop μ-loop
-mul-bounds-of c = omega (arith, c .loop-test .taken, c .before .before .before .before .before .pre .0 .few)
+mul-bounds-of c = omega (arith, c .loop-test .taken, c .before .before .before .before .pre .0 .few)
 
 array-copy-out-bounds-of : tie.Need-array-copy-out-bounds-of Inv-loop μ-loop
-array-copy-out-bounds-of c = omega (arith, c .loop-test .taken, c .before .before .before .before .before .pre .0 .few)
+array-copy-out-bounds-of c = omega (arith, c .loop-test .taken, c .before .before .before .before .pre .0 .few)
 
 bounds-of-requires : tie.Need-bounds-of-requires Inv-loop μ-loop
 bounds-of-requires c κs = search needs
 
 cast-index : tie.Need-cast-index Inv-loop μ-loop
-cast-index c = omega (arith, c .before .before .loop-test .taken, c .before .before .before .before .before .before .before .pre .0 .few)
+cast-index c = omega (arith, c .before .before .loop-test .taken, c .before .before .before .before .before .before .pre .0 .few)
 
 fill-box-requires : tie.Need-fill-box-requires Inv-loop μ-loop
 fill-box-requires c κs =
-    let s = c .before .before .before .before .before .before .before .before in
+    let s = c .before .before .before .before .before .before .before in
     let l = c .before .before .before .before .loop in
     let f = s .pre .0 in
-    let t : l .place < s .args .b .found = omega (arith, c .before .before .before .loop-test .taken) in (
-      subst (Within (s .args .g)) (sym (list-item f (l .place) t (c .before .bounds-of .ensures))) (f .occupied (l .place) t .within),
-      ap length (l .inv .1) ∙ length-filled (s .args .g) 0 (take (l .place) (listOf (s .args .b))) (now (s .args .map)) ∙ s .pre .1,
+    let t : l .at < s .args .b .found = omega (arith, c .before .before .before .loop-test .taken) in (
+      subst (Within (s .args .g)) (sym (list-item f (l .at) t (c .before .bounds-of .ensures))) (f .within (l .at) t),
+      ap length (l .inv .1) ∙ length-filled (s .args .g) 0 (take (l .at) (listOf (s .args .b .found) (s .args .b .places))) (now (s .args .map)) ∙ s .pre .1,
     )
 
-add-place : tie.Need-add-place Inv-loop μ-loop
-add-place c = omega (arith, c .before .before .before .before .before .before .loop-test .taken, c .before .before .before .before .before .before .before .before .before .before .before .pre .0 .few)
+add-at : tie.Need-add-at Inv-loop μ-loop
+add-at c = omega (arith, c .before .before .before .before .before .before .loop-test .taken, c .before .before .before .before .before .before .before .before .before .before .pre .0 .few)
 
 loop-less : tie.Need-loop-less Inv-loop μ-loop
 loop-less c = omega (arith, c .before .before .before .before .before .before .loop-test .taken)
 
 loop-again : tie.Need-loop-again Inv-loop μ-loop
 loop-again c =
-    let s = c .before .before .before .before .before .before .before .before .before .before .before in
+    let s = c .before .before .before .before .before .before .before .before .before .before in
     let l = c .before .before .before .before .before .before .before .loop in
     let f = s .pre .0 in
-    let t : l .place < s .args .b .found = omega (arith, c .before .before .before .before .before .before .loop-test .taken) in
-    let at : l .place < length (listOf (s .args .b)) = omega (arith, list-length f) in (
+    let t : l .at < s .args .b .found = omega (arith, c .before .before .before .before .before .before .loop-test .taken) in
+    let here : l .at < length (listOf (s .args .b .found) (s .args .b .places)) = omega (arith, list-length f) in (
       omega arith,
-      filled-next (listOf (s .args .b)) (l .place) noBox at (s .args .g) (now (s .args .map)) (l .inv .1)
-          (c .before .before .fill-box .ensures ∙ ap (λ (x : Bounds). fillOf (s .args .g) x (l .place) (l .map)) (list-item f (l .place) t (c .before .before .before .before .bounds-of .ensures))),
+      filled-next (s .args .g) (listOf (s .args .b .found) (s .args .b .places)) (l .at) noBox here (now (s .args .map)) (l .inv .1)
+          (c .before .before .fill-box .ensures ∙ ap (λ (x : Bounds). fillOf (s .args .g) x (l .at) (l .map)) (list-item f (l .at) t (c .before .before .before .before .bounds-of .ensures))),
     )
 
 same-length : tie.Need-same-length Inv-loop μ-loop
@@ -72,9 +71,9 @@ same-length c = ap length (c .before .loop .inv .1) ∙ length-filled _ 0 _ _
 
 returns : tie.Need-returns Inv-loop μ-loop
 returns c =
-    let s = c .before .before .before .before .before in
+    let s = c .before .before .before .before in
     let l = c .before .loop in
-    l .inv .1 ∙ ap (λ (xs : List Bounds). fillFrom (s .args .g) 0 xs (now (s .args .map))) (take-listed (s .pre .0) {i = l .place} (omega (arith, l .inv .0, c .loop-test .left)))
+    l .inv .1 ∙ ap (λ (xs : List Bounds). fillFrom (s .args .g) 0 xs (now (s .args .map))) (take-listed (s .pre .0) {i = l .at} (omega (arith, l .inv .0, c .loop-test .left)))
 
 pub fill-boxes-spec : {M : Type 1} → statement M
 fill-boxes-spec =
@@ -88,7 +87,7 @@ fill-boxes-spec =
     bounds-of-requires
     cast-index
     fill-box-requires
-    add-place
+    add-at
     loop-less
     loop-again
     same-length

@@ -3,7 +3,8 @@
 use native.Mathlib.Omega.{arith}
 use borrow.Author.Needs.{needs}
 use lib.ListN.{length-set}
-use Rattle.cutter.specs.Palette.{withColourAt, statsColour}
+use Rattle.cutter.specs.Palette.{statsColour}
+use Rattle.cutter.proofs.Colours.{three-bytes}
 use Rattle.cutter.proofs.put_colour.Statement.{statement}
 use Rattle.cutter.proofs.put_colour.Tie as tie
 
@@ -38,8 +39,8 @@ same-length : tie.Need-same-length
 same-length c = search needs
 
 returns : tie.Need-returns
-unfolding withColourAt statsColour
-returns c = cc
+unfolding statsColour
+returns c = rw (three-bytes _ _ _) cc
 
 pub put-colour-spec : {M : Type 1} → statement M
 put-colour-spec =

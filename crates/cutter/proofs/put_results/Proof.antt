@@ -7,34 +7,59 @@ use native.Mathlib.Nat.{le-of-lt}
 use native.Mathlib.Omega.{arith}
 use borrow.Author.Needs.{needs}
 use denote.Ref.{now}
-use lib.ListN.{length, take, set}
-use Rattle.table.specs.Cell.{wide}
+use lib.ListN.{length, take}
+use Rattle.table.specs.Cell.{View, wide}
 use Rattle.sums.specs.declared.Bounds.{Bounds}
 use Rattle.rounds.specs.Loop.{noBox}
-use Rattle.cutter.specs.Palette.{colourOf, countOf, withColourAt, paletteLater, countsLater, Occupied}
+use Rattle.cutter.specs.Fronts.{putFrom}
+use Rattle.cutter.specs.Palette.{itsColour, itsCount, paletteLater, countsLater, withColourAt, Occupied}
 use Rattle.cutter.specs.Cut.{listOf}
-use Rattle.cutter.proofs.Colours.{palette-none, counts-none}
-use Rattle.cutter.proofs.Turns.{palette-next, counts-next}
-use Rattle.cutter.proofs.Listed.{list-length, list-item, palette-long, counts-long, take-listed}
+use Rattle.cutter.proofs.Fronts.{put-one, filled-none, filled-next, length-filled-part}
+use Rattle.cutter.proofs.Colours.{three, one}
+use Rattle.cutter.proofs.Listed.{list-length, list-item, take-listed}
 use Rattle.cutter.proofs.put_results.Statement.{statement}
 use Rattle.cutter.proofs.put_results.Tie as tie
 
 abbrev Inv-loop : tie.InvT-loop
 Inv-loop table work g palette₀ counts₀ places n i₀ palette counts i =
-    let boxes = take i (listOf (record { found = n; places = places })) in
+    let boxes = take i (listOf n places) in
     (i ≤ n) × (palette ≡ paletteLater g (wide table) boxes palette₀) × (counts ≡ countsLater g (wide table) boxes counts₀)
 
 abbrev μ-loop : tie.MeasureT-loop
 μ-loop table work g palette₀ counts₀ places n i₀ palette counts i = n - i
 
+abbrev view : tie.Start Inv-loop μ-loop → View
+view s = wide (now (s .args .table))
+
+-- all boxes have room, and so have the first i
+module _ (s : tie.Start Inv-loop μ-loop) where
+  abbrev boxes : List Bounds
+  boxes = listOf (s .args .b .found) (s .args .b .places)
+
+  palette-fits : 3 * length boxes ≤ length (now (s .args .palette))
+  palette-fits = omega (arith, list-length (s .pre .0 .1 .placed), s .pre .1 .0)
+
+  counts-fits : 1 * length boxes ≤ length (now (s .args .counts))
+  counts-fits = omega (arith, list-length (s .pre .0 .1 .placed), s .pre .1 .1)
+
+  module _ (i : ℕ) (h : i ≤ s .args .b .found) where
+    palette-long : length (paletteLater (s .args .g) (view s) (take i boxes) (now (s .args .palette))) ≡ length (now (s .args .palette))
+    unfolding paletteLater
+    palette-long = length-filled-part 3 _ (three (s .args .g) (view s)) boxes i (omega (arith, list-length (s .pre .0 .1 .placed))) (now (s .args .palette)) palette-fits
+
+    counts-long : length (countsLater (s .args .g) (view s) (take i boxes) (now (s .args .counts))) ≡ length (now (s .args .counts))
+    unfolding countsLater
+    counts-long = length-filled-part 1 _ (one (s .args .g) (view s)) boxes i (omega (arith, list-length (s .pre .0 .1 .placed))) (now (s .args .counts)) counts-fits
+
 loop-holds : tie.Need-loop-holds Inv-loop μ-loop
-loop-holds c = (omega arith, sym (palette-none _ _ _), sym (counts-none _ _ _))
+unfolding paletteLater countsLater
+loop-holds c = (omega arith, sym (filled-none 3 _ (three _ _) _), sym (filled-none 1 _ (one _ _) _))
 
 mul-bounds-of : tie.Need-mul-bounds-of Inv-loop μ-loop
-mul-bounds-of c = omega (arith, c .loop-test .taken, c .before .before .before .before .before .before .before .pre .0 .1 .few)
+mul-bounds-of c = omega (arith, c .loop-test .taken, c .before .before .before .before .before .before .before .pre .0 .1 .placed .few)
 
 array-copy-out-bounds-of : tie.Need-array-copy-out-bounds-of Inv-loop μ-loop
-array-copy-out-bounds-of c = omega (arith, c .loop-test .taken, c .before .before .before .before .before .before .before .pre .0 .1 .few)
+array-copy-out-bounds-of c = omega (arith, c .loop-test .taken, c .before .before .before .before .before .before .before .pre .0 .1 .placed .few)
 
 bounds-of-requires : tie.Need-bounds-of-requires Inv-loop μ-loop
 bounds-of-requires c κs = search needs
@@ -45,54 +70,55 @@ put-result-requires c κs =
     let l = c .before .before .before .before .before .loop in
     let f = s .pre .0 .1 in
     let t : l .i < s .args .b .found = omega (arith, c .before .before .before .before .loop-test .taken) in (
-      (s .pre .0 .0, subst (Occupied (s .args .g) (wide (now (s .args .table)))) (sym (list-item f (l .i) t (c .before .before .bounds-of .ensures))) (f .occupied (l .i) t)),
+      (s .pre .0 .0, subst (Occupied (s .args .g) (view s)) (sym (list-item (f .placed) (l .i) t (c .before .before .bounds-of .ensures))) (record { within = f .placed .within (l .i) t; some = f .some (l .i) t })),
       (
-        omega (arith, ap length (l .inv .1), palette-long f (l .i) (le-of-lt t) (now (s .args .palette)) (s .pre .1 .0), s .pre .1 .0),
-        omega (arith, ap length (l .inv .2), counts-long f (l .i) (le-of-lt t) (now (s .args .counts)) (s .pre .1 .1), s .pre .1 .1),
+        omega (arith, ap length (l .inv .1), palette-long s (l .i) (le-of-lt t), s .pre .1 .0),
+        omega (arith, ap length (l .inv .2), counts-long s (l .i) (le-of-lt t), s .pre .1 .1),
       ),
     )
 
 add-i : tie.Need-add-i Inv-loop μ-loop
-add-i c = omega (arith, c .before .before .before .before .before .before .before .before .before .loop-test .taken, c .before .before .before .before .before .before .before .before .before .before .before .before .before .before .before .before .pre .0 .1 .few)
+add-i c = omega (arith, c .before .before .before .before .before .before .before .before .before .loop-test .taken, c .before .before .before .before .before .before .before .before .before .before .before .before .before .before .before .before .pre .0 .1 .placed .few)
 
 loop-less : tie.Need-loop-less Inv-loop μ-loop
 loop-less c = omega (arith, c .before .before .before .before .before .before .before .before .before .loop-test .taken)
 
 loop-again : tie.Need-loop-again Inv-loop μ-loop
+unfolding paletteLater countsLater withColourAt itsColour itsCount
 loop-again c =
     let s = c .before .before .before .before .before .before .before .before .before .before .before .before .before .before .before .before in
     let l = c .before .before .before .before .before .before .before .before .before .before .loop in
     let f = s .pre .0 .1 in
     let t : l .i < s .args .b .found = omega (arith, c .before .before .before .before .before .before .before .before .before .loop-test .taken) in
-    let at : l .i < length (listOf (s .args .b)) = omega (arith, list-length f) in
-    let same = list-item f (l .i) t (c .before .before .before .before .before .before .before .bounds-of .ensures) in
+    let at : l .i < length (boxes s) = omega (arith, list-length (f .placed)) in
+    let same = list-item (f .placed) (l .i) t (c .before .before .before .before .before .before .before .bounds-of .ensures) in
     let e = c .before .before .before .before .put-result .ensures in (
       omega arith,
-      palette-next (listOf (s .args .b)) (l .i) noBox at (s .args .g) (wide (now (s .args .table))) (now (s .args .palette)) (omega (arith, list-length f, s .pre .1 .0)) (l .inv .1)
-          (e .0 ∙ ap (λ (x : Bounds). withColourAt (l .palette) (l .i) (colourOf (s .args .g) (wide (now (s .args .table))) x)) same),
-      counts-next (listOf (s .args .b)) (l .i) noBox at (s .args .g) (wide (now (s .args .table))) (now (s .args .counts)) (omega (arith, list-length f, s .pre .1 .1)) (l .inv .2)
-          (e .1 ∙ ap (λ (x : Bounds). set (l .counts) (l .i) (countOf (s .args .g) (wide (now (s .args .table))) x)) same),
+      filled-next 3 _ (three (s .args .g) (view s)) (boxes s) (l .i) noBox 0 at (now (s .args .palette)) (palette-fits s) (l .inv .1)
+          (e .0 ∙ ap (λ (x : Bounds). putFrom (l .palette) (3 * l .i) (itsColour (s .args .g) (view s) x)) same),
+      filled-next 1 _ (one (s .args .g) (view s)) (boxes s) (l .i) noBox 0 at (now (s .args .counts)) (counts-fits s) (l .inv .2)
+          (e .1 ∙ put-one (l .counts) (l .i) _ ∙ ap (λ (x : Bounds). putFrom (l .counts) (1 * l .i) (itsCount (s .args .g) (view s) x)) same),
     )
 
 same-length : tie.Need-same-length Inv-loop μ-loop
 same-length c =
     let s = c .before .before .before .before .before .before .before in
     let l = c .before .loop in
-    ap length (l .inv .1) ∙ palette-long (s .pre .0 .1) (l .i) (l .inv .0) (now (s .args .palette)) (s .pre .1 .0)
+    ap length (l .inv .1) ∙ palette-long s (l .i) (l .inv .0)
 
 same-length-2 : tie.Need-same-length-2 Inv-loop μ-loop
 same-length-2 c =
     let s = c .before .before .before .before .before .before .before in
     let l = c .before .loop in
-    ap length (l .inv .2) ∙ counts-long (s .pre .0 .1) (l .i) (l .inv .0) (now (s .args .counts)) (s .pre .1 .1)
+    ap length (l .inv .2) ∙ counts-long s (l .i) (l .inv .0)
 
 returns : tie.Need-returns Inv-loop μ-loop
 returns c =
     let s = c .before .before .before .before .before .before .before in
     let l = c .before .loop in
-    let all = take-listed (s .pre .0 .1) {i = l .i} (omega (arith, l .inv .0, c .loop-test .left)) in (
-      l .inv .1 ∙ ap (λ (xs : List Bounds). paletteLater (s .args .g) (wide (now (s .args .table))) xs (now (s .args .palette))) all,
-      l .inv .2 ∙ ap (λ (xs : List Bounds). countsLater (s .args .g) (wide (now (s .args .table))) xs (now (s .args .counts))) all,
+    let all = take-listed (s .pre .0 .1 .placed) {i = l .i} (omega (arith, l .inv .0, c .loop-test .left)) in (
+      l .inv .1 ∙ ap (λ (xs : List Bounds). paletteLater (s .args .g) (view s) xs (now (s .args .palette))) all,
+      l .inv .2 ∙ ap (λ (xs : List Bounds). countsLater (s .args .g) (view s) xs (now (s .args .counts))) all,
     )
 
 pub put-results-spec : {M : Type 1} → statement M
