@@ -25,7 +25,7 @@ pub record Holed (A : Type 0) : Type 0 where
 abbrev pub parent : ℕ → ℕ
 parent p = (p - 1) / 2
 
--- none stands for what a place past the room's end has; where the places in use are in the room it is never read
+-- none stands for what a place past the room's end has; the laws hold whatever it is
 module _ {A : Type 0} (none : Item A) where
   -- "Places count from 0"
   abbrev pub item : Room A → ℕ → Item A
