@@ -10,6 +10,11 @@
 //! as a static library, and this crate only lends it slices. Bad input is [`Refused`] by number with nothing changed,
 //! and none makes a call panic.
 //!
+//! A cut works in `f64` and counts on the processor rounding to nearest, which no call can test. Rust programs have it:
+//! they begin so, and the language takes it as given everywhere, so that changing it is undefined behaviour in any of
+//! their code. Only where C code of the same thread calls `fesetround` does it have to set the mode back before it
+//! returns.
+//!
 //! # From pixels to indices
 //!
 //! ```

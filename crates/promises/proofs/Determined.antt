@@ -11,6 +11,7 @@ use Rattle.cutter.specs.declared.CutRecord.{CutRecord}
 use Rattle.cutter.specs.Cut.{Buffers, buffers}
 use Rattle.grid.proofs.shift_of as shift-of
 use Rattle.grid.proofs.grid_of as grid-of
+use Rattle.grid.proofs.Grid.rgb as rgb
 use Rattle.grid.proofs.bin_of as bin-of
 use Rattle.grid.proofs.span_of as span-of
 use Rattle.grid.proofs.bins as bins
@@ -65,6 +66,9 @@ shift-of-determined κs a r s x y p q = determined p q
 
 pub grid-of-determined : Determines 0 grid-of.Kinds.ps grid-of.Kinds.r grid-of.Reads.Learnt (λ κs r e. r)
 grid-of-determined κs a r s x y p q = determined p q
+
+pub rgb-determined : Determines 0 rgb.Kinds.ps rgb.Kinds.r rgb.Reads.Learnt (λ κs r e. r)
+rgb-determined κs a r s x y p q = determined p q
 
 pub bin-of-determined : Determines 0 bin-of.Kinds.ps bin-of.Kinds.r bin-of.Reads.Learnt (λ κs r e. r)
 bin-of-determined κs a r s x y p q = determined p q
