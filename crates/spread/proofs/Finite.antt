@@ -71,4 +71,4 @@ position-finite s w {d} {bin} p =
     rw (p .scored)
     (score-finite s
     (low-within w d bin (p .inside .0) (p .inside .1)) (pos-of-ne-zero (p .split .low))
-    (high-within w d bin (p .inside .0) (p .inside .1)) (pos-of-ne-zero (p .split .high)))
+    (high-within w d bin (p .inside .1)) (pos-of-ne-zero (p .split .high)))

@@ -6,8 +6,6 @@ use Prim.Native.Nat.{ℕ, _+_, _-_, _^_, _≤_, _<_}
 use native.Mathlib.Nat.{zero-add, lt-of-le-of-lt}
 use native.Mathlib.Omega.{arith}
 use lib.Dec.{lit<}
-use lib.Ieee.{binary64, ofInt}
-use lib.IntN.{pos}
 use Rattle.grid.specs.declared.Grid.{Grid}
 use Rattle.grid.specs.Range.{sumFrom}
 use Rattle.grid.specs.Grid.{Inside, choose, sizeAt, binsOf, placeOf}
@@ -16,11 +14,11 @@ use Rattle.grid.proofs.Places.{place-lt}
 use Rattle.table.specs.declared.Cell.{Cell}
 use Rattle.table.specs.Cell.{View, wide, cellOf, numberOf, minusCell, AtLeast, HasCell}
 use Rattle.table.specs.Sound.{limit}
-use Rattle.table.proofs.Cells.{Holds, list-holds, number-cell, cell-by, cell-fields, minus-least, minus-is, zero-cell}
+use Rattle.table.proofs.Cells.{Holds, list-holds, number-cell, cell-by, Fields, cell-fields, minus-least, minus-is, zero-cell}
 use Rattle.table.proofs.Soundness.{Sound}
 use Rattle.sums.specs.declared.Bounds.{Bounds}
 use Rattle.sums.specs.declared.Stats.{Stats}
-use Rattle.sums.specs.Box.{minAt, maxAt, sum3, binSum, boxSum, boxCell, cellStats, statsOf, Within}
+use Rattle.sums.specs.Box.{minAt, maxAt, sum3, binSum, boxSum, boxCell, statsFrom, statsOf, Within}
 use Rattle.sums.specs.Moments.{belowSum, momentsOf, binCell, Corner}
 use Rattle.sums.proofs.Boxes.{sum3-first, sum3-second, sum3-third}
 use Rattle.sums.proofs.Below.{moments-at, below-small}
@@ -161,22 +159,21 @@ box-small {g} {v} s {x} w j h =
     let e = sides w in
     lt-of-le-of-lt (box-below g v x j e) (below-small (w .accepted) s (x .r1) (x .g1) (x .b1) j (e .one-fits) (e .two-fits) (e .three-fits) h)
 
--- a box's statistics are those of its five numbers, and its squares fit an f64
-module _ (g : Grid) (v : View) (x : Bounds) {c : Cell} (e : c ≡ boxCell g v x) where
-  pub box-squares : Sound limit g v → Within g x → c .squares ≤ 2 ^ 53
-  unfolding boxCell
-  box-squares s w = omega (arith, cell-fields (boxSum g v x) e .squares, box-small s w 4 (lit< tt))
+-- ---- statistics of five numbers
+pub stats-by : (f h : ℕ → ℕ) → ((j : ℕ) → j < 5 → f j ≡ h j) → statsFrom f ≡ statsFrom h
+stats-by f h e =
+    cc (e 0 (lit< tt), e 1 (lit< tt), e 2 (lit< tt), e 3 (lit< tt), e 4 (lit< tt))
 
-  pub box-stats : {s : Stats} → s ≡ cellStats c → s ≡ statsOf g v x
-  unfolding cellStats statsOf boxCell
+pub cell-numbers : (c : Cell) → Fields (numberOf c) c
+cell-numbers c = cell-fields (numberOf c) (cell-by c (cellOf (numberOf c)) (λ j h. sym (number-cell (numberOf c) j h)))
+
+-- those of a box, and that its squares fit an f64
+module _ (g : Grid) (v : View) (x : Bounds) {c : Cell} (e : c ≡ boxCell g v x) where
+  pub box-squares : boxSum g v x 4 < 2 ^ 50 → c .squares ≤ 2 ^ 53
+  unfolding boxCell
+  box-squares h = omega (arith, cell-fields (boxSum g v x) e .squares)
+
+  pub box-stats : {s : Stats} → s ≡ statsFrom (numberOf c) → s ≡ statsOf g v x
+  unfolding statsOf boxCell
   box-stats q =
-      let f = cell-fields (boxSum g v x) e in
-      q
-      ∙ (λ i.
-      record {
-        weight = f .weight i;
-        sum1 = f .sum1 i;
-        sum2 = f .sum2 i;
-        sum3 = f .sum3 i;
-        squares = ofInt binary64 (pos (f .squares i));
-      })
+      q ∙ stats-by (numberOf c) (boxSum g v x) (λ j h. ap (λ (y : Cell). numberOf y j) e ∙ number-cell (boxSum g v x) j h)

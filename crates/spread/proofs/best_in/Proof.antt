@@ -7,7 +7,7 @@ use native.Mathlib.Omega.{arith}
 use borrow.Author.Needs.{needs}
 use denote.Ref.{now}
 use Rattle.table.specs.Cell.{wide}
-use Rattle.sums.specs.Box.{boxCell, minAt, maxAt}
+use Rattle.sums.specs.Box.{statsOf, minAt, maxAt}
 use Rattle.sums.proofs.Laws.{slabTo}
 use Rattle.spread.specs.Cut.{bestRun, bestIn}
 use Rattle.spread.proofs.Choose.{later-is-better, earlier-is-better, end-high, run-none, run-next}
@@ -18,7 +18,7 @@ abbrev Inv-loop : tie.InvT-loop
 Inv-loop table work g x dimension all end first walk base₀ best₀ bin₀ base best bin =
     (minAt x dimension ≤ bin) × (bin ≤ end)
     × (best ≡ bestRun g (wide table) x dimension (minAt x dimension + 1) (bin - (minAt x dimension + 1)))
-    × (minAt x dimension < bin → base ≡ boxCell g (wide table) (slabTo x dimension (minAt x dimension)))
+    × (minAt x dimension < bin → base ≡ statsOf g (wide table) (slabTo x dimension (minAt x dimension)))
 
 abbrev μ-loop : tie.MeasureT-loop
 μ-loop table work g x dimension all end first walk base₀ best₀ bin₀ base best bin = end - bin
@@ -93,7 +93,7 @@ loop-again c =
           (c .if2 .came),
       λ h.
           ⊎-elim
-          (λ w. w .1 ∙ c .before .sums-before .ensures ∙ ap (λ (n : ℕ). boxCell (s .args .g) (wide (now (s .args .table))) (slabTo (s .args .x) (s .args .dimension) n)) (w .0 .taken ∙ first))
+          (λ w. w .1 ∙ c .before .sums-before .ensures ∙ ap (λ (n : ℕ). statsOf (s .args .g) (wide (now (s .args .table))) (slabTo (s .args .x) (s .args .dimension) n)) (w .0 .taken ∙ first))
           (⊎-elim
           (λ w. w .4 ∙ l .inv .3 (past-first (record { before = c .before; if2 = w .0 })))
           (λ w. w .4 ∙ l .inv .3 (past-first (record { before = c .before; if2 = w .0 }))))
