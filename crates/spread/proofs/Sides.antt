@@ -1,6 +1,7 @@
 -- The records of the two sides of a position, from those of the box, of what lies before it and of what lies before the bin.
 -- Assumes nothing.
 use mathlib.Core.Path.{_≡_, sym, ap, _∙_}
+use mathlib.Core.Bool.{false}
 use Prim.Native.Nat.{ℕ, _+_, _-_, _^_, _≤_, _<_}
 use native.Mathlib.Nat.{le-of-lt, le-trans, mul-one}
 use native.Mathlib.Omega.{arith}
