@@ -1,11 +1,10 @@
--- The records of the two sides of a position, from those of the box, of what lies before it and of what lies before the bin.
+-- Records taken from each other: f64 subtracts their squares without loss, so a difference has the statistics of what is left.
 -- Assumes nothing.
 use mathlib.Core.Path.{_≡_, sym, ap, _∙_}
 use mathlib.Core.Bool.{false}
 use Prim.Native.Nat.{ℕ, _+_, _-_, _^_, _≤_, _<_}
 use native.Mathlib.Nat.{le-of-lt, le-trans, mul-one}
 use native.Mathlib.Omega.{arith}
-use lib.Dec.{lit<}
 use lib.Ieee.{binary64, sub, round}
 use Rattle.grid.specs.declared.Grid.{Grid}
 use Rattle.table.specs.Cell.{View}
@@ -14,11 +13,21 @@ use Rattle.table.proofs.Soundness.{Sound}
 use Rattle.sums.specs.declared.Bounds.{Bounds}
 use Rattle.sums.specs.declared.Stats.{Stats}
 use Rattle.sums.specs.Box.{minAt, maxAt, boxSum, statsFrom, statsOf, lowSide, highSide, Within}
-use Rattle.sums.proofs.Corners.{box-small}
-use Rattle.sums.proofs.Laws.{cut-sum, slabTo, slab-sum, slab-small}
+use Rattle.sums.proofs.Corners.{box-squares}
+use Rattle.sums.proofs.Laws.{cut-sum, slabTo, slab-sum, slab-squares}
 use Rattle.spread.specs.Spread.{whole}
 use Rattle.spread.specs.Walk.{minusStats, Covers}
 use Rattle.spread.proofs.Rounding.{less-of, of-whole, whole-is}
+
+-- the statistics of five numbers, with squares that f64 holds
+pub record Exact (s : Stats) (f : ℕ → ℕ) : Type 0 where
+  pub is : s ≡ statsFrom f
+  pub squares : f 4 ≤ 2 ^ 53
+
+-- one record less another, which has part of its numbers: what is left
+pub record Less (a b : Stats) (left : ℕ → ℕ) : Type 0 where
+  pub covers : Covers a b
+  pub exact : {r : Stats} → r ≡ minusStats a b → Exact r left
 
 -- whole numbers up to 2^53 are subtracted in f64 without loss
 less-whole : (a b : ℕ) → b ≤ a → a ≤ 2 ^ 53 → sub binary64 (whole a) (whole b) ≡ whole (a - b)
@@ -27,53 +36,38 @@ less-whole a b h l =
     ∙ ap (λ (n : ℕ). round binary64 false (n - b) 1) (mul-one a)
     ∙ sym (whole-is binary64 (a - b))
 
--- statistics of five numbers, of which some are taken off: what is left has the difference's
-module _ (all off left : ℕ → ℕ) (split : (j : ℕ) → all j ≡ off j + left j) {a b : Stats} (p : a ≡ statsFrom all) (q : b ≡ statsFrom off) where
-  pub covers : Covers a b
-  covers =
-      rw (p, q)
-      (record { weight = omega (arith, split 0); sum1 = omega (arith, split 1); sum2 = omega (arith, split 2); sum3 = omega (arith, split 3) })
+-- the difference of the statistics of five numbers and of a part of them is the statistics of the rest
+pub stats-less : (all part left : ℕ → ℕ) → ((j : ℕ) → all j ≡ part j + left j) → {a b : Stats} → Exact a all → b ≡ statsFrom part → Less a b left
+unfolding minusStats
+stats-less all part left split {a} {b} p q =
+    record {
+      covers = rw (p .is, q) (record { weight = omega (arith, split 0); sum1 = omega (arith, split 1); sum2 = omega (arith, split 2); sum3 = omega (arith, split 3) });
+      exact = λ e. record { is = e ∙ (λ i. minusStats (p .is i) (q i)) ∙ rest; squares = omega (arith, split 4, p .squares) };
+    }
+  where
+    less : (j : ℕ) → all j - part j ≡ left j
+    less j = omega (arith, split j)
 
-  pub less-is : all 4 ≤ 2 ^ 53 → {r : Stats} → r ≡ minusStats a b → r ≡ statsFrom left
-  unfolding minusStats
-  less-is l e =
-      e
-      ∙ (λ i. minusStats (p i) (q i))
-      ∙ (λ i.
-      record {
-        weight = rest 0 i;
-        sum1 = rest 1 i;
-        sum2 = rest 2 i;
-        sum3 = rest 3 i;
-        squares = (less-whole (all 4) (off 4) (omega (arith, split 4)) l ∙ ap whole (rest 4)) i;
-      })
-    where
-      rest : (j : ℕ) → all j - off j ≡ left j
-      rest j = omega (arith, split j)
+    rest : minusStats (statsFrom all) (statsFrom part) ≡ statsFrom left
+    rest = λ i.
+        record {
+          weight = less 0 i;
+          sum1 = less 1 i;
+          sum2 = less 2 i;
+          sum3 = less 3 i;
+          squares = (less-whole (all 4) (part 4) (omega (arith, split 4)) (p .squares) ∙ ap whole (less 4)) i;
+        }
 
--- ---- the sides of a position
-fits : (n : ℕ) → n < 2 ^ 50 → n ≤ 2 ^ 53
-fits n h = omega arith
+-- ---- the two sides of a position
+module _ {g : Grid} {v : View} (s : Sound limit g v) {x : Bounds} (w : Within g x) (d c : ℕ) (h : minAt x d ≤ c) (l : c ≤ maxAt x d) where
+  pub low : {before base : Stats} → before ≡ statsOf g v (slabTo x d c) → base ≡ statsOf g v (slabTo x d (minAt x d)) → Less before base (boxSum g v (lowSide x d c))
+  unfolding statsOf
+  low p q =
+      stats-less (boxSum g v (slabTo x d c)) (boxSum g v (slabTo x d (minAt x d))) (boxSum g v (lowSide x d c)) (λ j. slab-sum g v x d c j h)
+      (record { is = p; squares = slab-squares s w d c l }) q
 
-module _ {g : Grid} {v : View} (s : Sound limit g v) {x : Bounds} (w : Within g x) (d c : ℕ) (h : minAt x d < c) (l : c < maxAt x d) where
-  module _ {before base : Stats} (p : before ≡ statsOf g v (slabTo x d c)) (q : base ≡ statsOf g v (slabTo x d (minAt x d))) where
-    pub low-covers : Covers before base
-    unfolding statsOf
-    low-covers = covers (boxSum g v (slabTo x d c)) (boxSum g v (slabTo x d (minAt x d))) (boxSum g v (lowSide x d c)) (λ j. slab-sum g v x d c j (le-of-lt h)) p q
-
-    pub low-is : {r : Stats} → r ≡ minusStats before base → r ≡ statsOf g v (lowSide x d c)
-    unfolding statsOf
-    low-is e =
-        less-is (boxSum g v (slabTo x d c)) (boxSum g v (slabTo x d (minAt x d))) (boxSum g v (lowSide x d c)) (λ j. slab-sum g v x d c j (le-of-lt h)) p q
-        (fits _ (slab-small s w d c 4 (le-of-lt l) (lit< tt))) e
-
-  module _ {all low : Stats} (p : all ≡ statsOf g v x) (q : low ≡ statsOf g v (lowSide x d c)) where
-    pub high-covers : Covers all low
-    unfolding statsOf
-    high-covers = covers (boxSum g v x) (boxSum g v (lowSide x d c)) (boxSum g v (highSide x d c)) (λ j. cut-sum g v x d c j (le-of-lt h) (le-of-lt l)) p q
-
-    pub high-is : {r : Stats} → r ≡ minusStats all low → r ≡ statsOf g v (highSide x d c)
-    unfolding statsOf
-    high-is e =
-        less-is (boxSum g v x) (boxSum g v (lowSide x d c)) (boxSum g v (highSide x d c)) (λ j. cut-sum g v x d c j (le-of-lt h) (le-of-lt l)) p q
-        (fits _ (box-small s w 4 (lit< tt))) e
+  pub high : {all low : Stats} → all ≡ statsOf g v x → low ≡ statsOf g v (lowSide x d c) → Less all low (boxSum g v (highSide x d c))
+  unfolding statsOf
+  high p q =
+      stats-less (boxSum g v x) (boxSum g v (lowSide x d c)) (boxSum g v (highSide x d c)) (λ j. cut-sum g v x d c j h l)
+      (record { is = p; squares = box-squares s w }) q

@@ -1,8 +1,10 @@
 -- How the bins of one dimension are walked through in the moments, and one record taken from another. Definitions only.
-use Prim.Native.Nat.{ℕ, _-_, _≤_}
+use mathlib.Core.List.{List}
+use Prim.Native.Nat.{ℕ, _-_, _^_, _≤_}
 use lib.Ieee.{binary64, sub}
 use Rattle.grid.specs.declared.Grid.{Grid}
 use Rattle.grid.specs.Grid.{choose, placeOf, strideAt}
+use Rattle.table.specs.Cell.{wide, HasCell}
 use Rattle.sums.specs.declared.Bounds.{Bounds}
 use Rattle.sums.specs.declared.Stats.{Stats}
 use Rattle.sums.specs.Box.{minAt, maxAt}
@@ -35,6 +37,11 @@ walkOf g x d =
       left = startOf g d (maxAt x (outerOf d)) (minAt x (innerOf d));
       diagonal = startOf g d (minAt x (outerOf d)) (minAt x (innerOf d));
     }
+
+-- a place with its five numbers, and squares that f64 holds
+pub record HasRecord (w : List ℕ) (p : ℕ) : Type 0 where
+  pub cell : HasCell w p
+  pub squares : wide w p 4 ≤ 2 ^ 53
 
 -- one record less another: weight and sums in whole numbers, the squares in f64
 unfoldable pub minusStats : Stats → Stats → Stats

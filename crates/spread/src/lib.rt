@@ -6,20 +6,18 @@ use sums::Stats;
 use sums::ZEROS;
 use sums::box_sum;
 use sums::stats_of;
-use table::Cell;
 use table::cell_at;
-use table::minus;
 ghost use mathlib.Core.Path.{_≡_};
 ghost use mathlib.Core.Bool.{true};
 ghost use Prim.Native.Nat.{_-_, _≤_, _<_};
 ghost use Rattle.grid.specs.Grid.{sizeAt, strideAt, Accepted};
 ghost use Rattle.table.specs.Cell.{wide};
 ghost use Rattle.table.specs.Sound.{limit, sound};
-ghost use Rattle.sums.specs.Box.{boxCell, statsOf, minAt, maxAt, lowSide, highSide, Within};
+ghost use Rattle.sums.specs.Box.{statsFrom, statsOf, minAt, maxAt, lowSide, highSide, Within};
 ghost use Rattle.sums.specs.Moments.{Worked};
 ghost use Rattle.spread.specs.Spread.{whole, quotientOf, oneBin, spreadOf, scoreOf, Plain, Ordered};
 ghost use Rattle.spread.specs.Cut.{positionOf, positionAt, laterWins, better as betterOf, bestIn, bestCut};
-ghost use Rattle.spread.specs.Walk.{outerOf, innerOf, startOf, walkOf, minusStats, Covers};
+ghost use Rattle.spread.specs.Walk.{outerOf, innerOf, startOf, walkOf, minusStats, Covers, HasRecord};
 
 // ---- Spread and score
 
@@ -267,55 +265,12 @@ fn walk_of(g: Grid, x: Bounds, dimension: u8) -> Walk
     }
 }
 
-// The five sums of a box's bins before a bin of a dimension, from the edge of the grid on (`volume_at`). The table and
-// the box are named by the contract alone.
-fn cell_before(
-    table: &[u64],
-    work: &[u64],
-    g: Grid,
-    x: Bounds,
-    dimension: u8,
-    walk: Walk,
-    bin: u8,
-) -> Cell
-    requires { ⌜ Worked g (now table) (now work) × Within g x × (bin ≤ maxAt x dimension) ⌝ }
-    requires { ⌜ walk ≡ walkOf g x dimension ⌝ }
-    ensures { λ c. ⌜ c ≡ boxCell g (wide (now (table .entry))) (lowSide (highSide x dimension 0) dimension bin) ⌝ }
+// The record at a place of the moments.
+fn record_at(work: &[u64], place: usize) -> Stats
+    requires { ⌜ HasRecord (now work) place ⌝ }
+    ensures { λ r. ⌜ r ≡ statsFrom (wide (now (work .entry)) place) ⌝ }
 {
-    if bin == 0 {
-        return ZEROS;
-    }
-    let far = walk.step * ((bin - 1) as usize);
-    let corner = cell_at(work, walk.corner + far);
-    if walk.inner == 0 {
-        if walk.outer == 0 {
-            return corner;
-        }
-        return minus(corner, cell_at(work, walk.above + far));
-    }
-    let row = minus(corner, cell_at(work, walk.left + far));
-    if walk.outer == 0 {
-        return row;
-    }
-    let above = cell_at(work, walk.above + far);
-    minus(row, minus(above, cell_at(work, walk.diagonal + far)))
-}
-
-// They as a record, turned into f64 once a bin.
-fn sums_before(
-    table: &[u64],
-    work: &[u64],
-    g: Grid,
-    x: Bounds,
-    dimension: u8,
-    walk: Walk,
-    bin: u8,
-) -> Stats
-    requires { ⌜ Worked g (now table) (now work) × Within g x × (bin ≤ maxAt x dimension) ⌝ }
-    requires { ⌜ walk ≡ walkOf g x dimension ⌝ }
-    ensures { λ r. ⌜ r ≡ statsOf g (wide (now (table .entry))) (lowSide (highSide x dimension 0) dimension bin) ⌝ }
-{
-    stats_of(cell_before(table, work, g, x, dimension, walk, bin))
+    stats_of(cell_at(work, place))
 }
 
 // One record less another: weight and sums in whole numbers, the squares in f64.
@@ -330,6 +285,40 @@ fn less(a: Stats, b: Stats) -> Stats
         sum3: a.sum3 - b.sum3,
         squares: a.squares - b.squares,
     }
+}
+
+// The statistics of a box's bins before a bin of a dimension, from the edge of the grid on (`volume_at`). The table and
+// the box are named by the contract alone.
+fn sums_before(
+    table: &[u64],
+    work: &[u64],
+    g: Grid,
+    x: Bounds,
+    dimension: u8,
+    walk: Walk,
+    bin: u8,
+) -> Stats
+    requires { ⌜ Worked g (now table) (now work) × Within g x × (bin ≤ maxAt x dimension) ⌝ }
+    requires { ⌜ walk ≡ walkOf g x dimension ⌝ }
+    ensures { λ r. ⌜ r ≡ statsOf g (wide (now (table .entry))) (lowSide (highSide x dimension 0) dimension bin) ⌝ }
+{
+    if bin == 0 {
+        return stats_of(ZEROS);
+    }
+    let far = walk.step * ((bin - 1) as usize);
+    let corner = record_at(work, walk.corner + far);
+    if walk.inner == 0 {
+        if walk.outer == 0 {
+            return corner;
+        }
+        return less(corner, record_at(work, walk.above + far));
+    }
+    let row = less(corner, record_at(work, walk.left + far));
+    if walk.outer == 0 {
+        return row;
+    }
+    let above = record_at(work, walk.above + far);
+    less(row, less(above, record_at(work, walk.diagonal + far)))
 }
 
 // The position at a bin, from the records of the box, of what lies before the box in the dimension and of what lies
