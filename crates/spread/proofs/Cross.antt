@@ -124,7 +124,7 @@ pub record Reads (w : List ℕ) (p : ℕ) (f : ℕ → ℕ) : Type 0 where
   pub exact : {y : Stats} → y ≡ statsFrom (wide w p) → Exact y f
 
 module _ {g : Grid} {t w : List ℕ} (worked : Worked g t w) where
-  -- below n bins in one dimension, i and k in the two others
+  -- below r, gr and b
   at-corner : (r gr b : ℕ) → r ≤ g .b1 → gr ≤ g .b2 → b ≤ g .b3 → 0 < r → 0 < gr → 0 < b → {p : ℕ} → p ≡ placeOf g (r - 1) (gr - 1) (b - 1) → Reads w p (binSum g (wide t) 0 r 0 gr 0 b)
   at-corner r gr b h k l r0 gr0 b0 {p} at =
       let c : Corner g t w r gr b = record { worked = worked; one = h; two = k; three = l } in
@@ -135,6 +135,7 @@ module _ {g : Grid} {t w : List ℕ} (worked : Worked g t w) where
         exact = λ e. record { is = e ∙ stats-by (wide w p) (binSum g (wide t) 0 r 0 gr 0 b) (corner-number c r0 gr0 b0 at); squares = squares };
       }
 
+  -- below n in dimension d, i and k in the two others
   reads : (d n i k : ℕ) → n ≤ sizeAt g d → i ≤ sizeAt g (outerOf d) → k ≤ sizeAt g (innerOf d) → 0 < n → 0 < i → 0 < k → Reads w (startOf g d i k + strideAt g d * (n - 1)) (crossSum g (wide t) d n 0 i 0 k)
   unfolding startOf strideAt sizeAt outerOf innerOf choose crossSum
   reads zero n i k N I K n0 i0 k0 = at-corner n i k N I K n0 i0 k0 (along-first g (n - 1) (i - 1) (k - 1))

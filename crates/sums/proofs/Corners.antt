@@ -18,7 +18,7 @@ use Rattle.table.proofs.Cells.{Holds, list-holds, number-cell, cell-by, Fields,
 use Rattle.table.proofs.Soundness.{Sound}
 use Rattle.sums.specs.declared.Bounds.{Bounds}
 use Rattle.sums.specs.declared.Stats.{Stats}
-use Rattle.sums.specs.Box.{minAt, maxAt, sum3, binSum, boxSum, boxCell, statsFrom, Within}
+use Rattle.sums.specs.Box.{minAt, maxAt, sum3, binSum, boxSum, statsFrom, Within}
 use Rattle.sums.specs.Moments.{belowSum, momentsOf, binCell, Corner}
 use Rattle.sums.proofs.Boxes.{sum3-first, sum3-second, sum3-third}
 use Rattle.sums.proofs.Below.{moments-at, below-small}
