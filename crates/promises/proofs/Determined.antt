@@ -27,7 +27,6 @@ use Rattle.table.proofs.weigh as weigh
 use Rattle.loader.proofs.load as load
 use Rattle.loader.proofs.merge as merge
 use Rattle.sums.proofs.moments as moments
-use Rattle.sums.proofs.box_cell as box-cell
 use Rattle.sums.proofs.stats_of as stats-of
 use Rattle.sums.proofs.box_sum as box-sum
 use Rattle.spread.proofs.spread as spread
@@ -117,9 +116,6 @@ merge-determined κs a r s x y p q = both (determined (p .0) (q .0)) (determined
 -- ---- sums
 pub moments-determined : Determines 2 moments.Kinds.ps moments.Kinds.r moments.Reads.Learnt (λ κs r e. now (e .1 .1 .0))
 moments-determined κs a r s x y p q = determined p q
-
-pub box-cell-determined : Determines 2 box-cell.Kinds.ps box-cell.Kinds.r box-cell.Reads.Learnt (λ κs r e. r)
-box-cell-determined κs a r s x y p q = determined p q
 
 pub stats-of-determined : Determines 0 stats-of.Kinds.ps stats-of.Kinds.r stats-of.Reads.Learnt (λ κs r e. r)
 stats-of-determined κs a r s x y p q = determined p q

@@ -7,7 +7,7 @@ use native.Mathlib.Omega.{arith}
 use borrow.Author.Needs.{needs}
 use denote.Ref.{now}
 use Rattle.table.specs.Cell.{wide}
-use Rattle.sums.specs.Box.{boxCell, minAt, maxAt}
+use Rattle.sums.specs.Box.{statsOf, minAt, maxAt}
 use Rattle.sums.proofs.Laws.{slabTo}
 use Rattle.spread.specs.Cut.{bestRun, bestIn}
 use Rattle.spread.proofs.Choose.{later-is-better, earlier-is-better, end-high, run-none, run-next}
@@ -18,7 +18,7 @@ abbrev Inv-loop : tie.InvT-loop
 Inv-loop table work g x dimension all end first walk base₀ best₀ bin₀ base best bin =
     (minAt x dimension ≤ bin) × (bin ≤ end)
     × (best ≡ bestRun g (wide table) x dimension (minAt x dimension + 1) (bin - (minAt x dimension + 1)))
-    × (minAt x dimension < bin → base ≡ boxCell g (wide table) (slabTo x dimension (minAt x dimension)))
+    × (minAt x dimension < bin → base ≡ statsOf g (wide table) (slabTo x dimension (minAt x dimension)))
 
 abbrev μ-loop : tie.MeasureT-loop
 μ-loop table work g x dimension all end first walk base₀ best₀ bin₀ base best bin = end - bin
@@ -42,29 +42,32 @@ returns c =
 walk-of-requires : tie.Need-walk-of-requires Inv-loop μ-loop
 walk-of-requires c κs = c .before .before .before .before .before .pre .0 .1
 
+stats-of-requires : tie.Need-stats-of-requires Inv-loop μ-loop
+stats-of-requires c κs = search needs
+
 loop-holds : tie.Need-loop-holds Inv-loop μ-loop
 loop-holds c =
-    let s = c .before .before .before .before .before .before in
-    let first = c .before .before .first-bin .ensures in (
+    let s = c .before .before .before .before .before .before .before in
+    let first = c .before .before .before .first-bin .ensures in (
       omega (arith, first),
-      omega (arith, first, c .before .before .before .end-bin .ensures, s .pre .0 .1 .some (s .args .dimension)),
-      run-none (s .args .g) (wide (now (s .args .table))) (s .args .x) (s .args .dimension) (minAt (s .args .x) (s .args .dimension) + 1) (c .before .before .first-bin .result) (omega (arith, first)),
+      omega (arith, first, c .before .before .before .before .end-bin .ensures, s .pre .0 .1 .some (s .args .dimension)),
+      run-none (s .args .g) (wide (now (s .args .table))) (s .args .x) (s .args .dimension) (minAt (s .args .x) (s .args .dimension) + 1) (c .before .before .before .first-bin .result) (omega (arith, first)),
       λ h. absurd (omega (arith, first)),
     )
 
 sums-before-requires : tie.Need-sums-before-requires Inv-loop μ-loop
 sums-before-requires c κs =
-    let s = c .before .before .before .before .before .before .before .before in
-    ((s .pre .0 .0, s .pre .0 .1, omega (arith, c .loop-test .taken, c .before .before .before .before .before .end-bin .ensures)), c .before .before .walk-of .ensures)
+    let s = c .before .before .before .before .before .before .before .before .before in
+    ((s .pre .0 .0, s .pre .0 .1, omega (arith, c .loop-test .taken, c .before .before .before .before .before .before .end-bin .ensures)), c .before .before .before .walk-of .ensures)
 
 -- a bin past the first
-past-first : (k : tie.Else2 Inv-loop μ-loop) → minAt (k .before .before .before .before .before .before .before .before .before .before .args .x) (k .before .before .before .before .before .before .before .before .before .before .args .dimension) < k .before .before .before .loop .bin
-past-first k = omega (arith, k .before .before .before .loop .inv .0, k .before .before .before .before .before .before .first-bin .ensures)
+past-first : (k : tie.Else2 Inv-loop μ-loop) → minAt (k .before .before .before .before .before .before .before .before .before .before .before .args .x) (k .before .before .before .before .before .before .before .before .before .before .before .args .dimension) < k .before .before .before .loop .bin
+past-first k = omega (arith, k .before .before .before .loop .inv .0, k .before .before .before .before .before .before .before .first-bin .ensures)
 
 position-at-requires : tie.Need-position-at-requires Inv-loop μ-loop
 position-at-requires c κs =
-    let s = c .before .before .before .before .before .before .before .before .before .before in (
-      (s .pre .0 .0 .is-sound, s .pre .0 .1, past-first c, omega (arith, c .before .before .before .before .before .before .before .end-bin .ensures, c .before .before .loop-test .taken)),
+    let s = c .before .before .before .before .before .before .before .before .before .before .before in (
+      (s .pre .0 .0 .is-sound, s .pre .0 .1, past-first c, omega (arith, c .before .before .before .before .before .before .before .before .end-bin .ensures, c .before .before .loop-test .taken)),
       (s .pre .1, (c .before .before .before .loop .inv .3 (past-first c), c .before .sums-before .ensures)),
     )
 
@@ -72,16 +75,16 @@ later-wins-requires : tie.Need-later-wins-requires Inv-loop μ-loop
 later-wins-requires c κs = search needs
 
 add-bin : tie.Need-add-bin Inv-loop μ-loop
-add-bin c = omega (arith, c .before .before .loop-test .taken, c .before .before .before .before .before .before .before .end-bin .ensures, end-high (c .before .before .before .before .before .before .before .before .before .before .pre .0 .1) (c .before .before .before .before .before .before .before .before .before .before .args .dimension))
+add-bin c = omega (arith, c .before .before .loop-test .taken, c .before .before .before .before .before .before .before .before .end-bin .ensures, end-high (c .before .before .before .before .before .before .before .before .before .before .before .pre .0 .1) (c .before .before .before .before .before .before .before .before .before .before .before .args .dimension))
 
 loop-less : tie.Need-loop-less Inv-loop μ-loop
 loop-less c = omega arith
 
 loop-again : tie.Need-loop-again Inv-loop μ-loop
 loop-again c =
-    let s = c .before .before .before .before .before .before .before .before .before .before in
+    let s = c .before .before .before .before .before .before .before .before .before .before .before in
     let l = c .before .before .before .loop in
-    let first = c .before .before .before .before .before .before .first-bin .ensures in
+    let first = c .before .before .before .before .before .before .before .first-bin .ensures in
     let from : ℕ = minAt (s .args .x) (s .args .dimension) in (
       omega (arith, l .inv .0),
       omega (arith, c .before .before .loop-test .taken),
@@ -93,7 +96,7 @@ loop-again c =
           (c .if2 .came),
       λ h.
           ⊎-elim
-          (λ w. w .1 ∙ c .before .sums-before .ensures ∙ ap (λ (n : ℕ). boxCell (s .args .g) (wide (now (s .args .table))) (slabTo (s .args .x) (s .args .dimension) n)) (w .0 .taken ∙ first))
+          (λ w. w .1 ∙ c .before .sums-before .ensures ∙ ap (λ (n : ℕ). statsOf (s .args .g) (wide (now (s .args .table))) (slabTo (s .args .x) (s .args .dimension) n)) (w .0 .taken ∙ first))
           (⊎-elim
           (λ w. w .4 ∙ l .inv .3 (past-first (record { before = c .before; if2 = w .0 })))
           (λ w. w .4 ∙ l .inv .3 (past-first (record { before = c .before; if2 = w .0 }))))
@@ -106,9 +109,9 @@ loop-again c =
 returns-2 : tie.Need-returns-2 Inv-loop μ-loop
 unfolding bestIn
 returns-2 c =
-    let s = c .before .before .before .before .before .before .before .before in
+    let s = c .before .before .before .before .before .before .before .before .before in
     let l = c .before .loop in
-    let all : l .bin ≡ maxAt (s .args .x) (s .args .dimension) = omega (arith, l .inv .1, c .loop-test .left, c .before .before .before .before .before .end-bin .ensures) in
+    let all : l .bin ≡ maxAt (s .args .x) (s .args .dimension) = omega (arith, l .inv .1, c .loop-test .left, c .before .before .before .before .before .before .end-bin .ensures) in
     l .inv .2 ∙ ap (λ (n : ℕ). bestRun (s .args .g) (wide (now (s .args .table))) (s .args .x) (s .args .dimension) (minAt (s .args .x) (s .args .dimension) + 1) (n - (minAt (s .args .x) (s .args .dimension) + 1))) all
 
 pub best-in-spec : {M : Type 1} → statement M
@@ -122,6 +125,7 @@ best-in-spec =
     sub-if1
     returns
     walk-of-requires
+    stats-of-requires
     loop-holds
     sums-before-requires
     position-at-requires
