@@ -25,10 +25,6 @@ pub record Numbers (n a b c sq : ℕ) : Type 0 where
   pub three : c ≤ 255 * n
   pub squares : sq ≤ 195075 * n
 
--- Q without rounding
-abbrev pub exactQ : ℕ → ℕ → ℕ → ℕ
-exactQ a b c = a * a + b * b + c * c
-
 -- Q/n and the spread of a box of more than one bin
 abbrev pub quotAt : ℕ → ℕ → ℕ → ℕ → Float
 quotAt n a b c = div binary64 (qOf a b c) (whole n)
