@@ -10,11 +10,11 @@ use Rattle.grid.specs.declared.Chosen.the-variants.{Of}
 use Rattle.grid.specs.Grid.{gridOf, binsOf}
 use Rattle.grid.proofs.Places.{chose}
 use Rattle.table.specs.Cell.{wide}
-use Rattle.loader.specs.Load.{weightOf}
+use Rattle.loader.specs.Load.{weightOf, ColourAt}
 use Rattle.loader.specs.Plan.{Plan, Table, run, leaves, BytesIn}
 use Rattle.loader.proofs.Order.{table-holds, table-total, table-sound, leaves-bytes}
 use Rattle.loader.proofs.Ran.{ran-table}
-use Rattle.sums.proofs.Loaded.{ColourAt, occupied-colour, colour-occupies}
+use Rattle.sums.proofs.Loaded.{occupied-colour, colour-occupies}
 use Rattle.spread.specs.Spread.{SpreadsAbove}
 use Rattle.spread.proofs.FromColours.{table-above}
 use Rattle.rounds.specs.Loop.{boxesOf}

@@ -1,0 +1,82 @@
+-- "The lowest number that applies is given, and none is given otherwise": a call is done exactly where none of its numbers applies.
+-- Assumes nothing.
+use mathlib.Core.Path.{_≡_}
+use mathlib.Core.Logic.{_↔_}
+use mathlib.Core.Bool.{Bool}
+use mathlib.Core.List.{List}
+use Prim.Native.Nat.{ℕ}
+use Rattle.grid.specs.declared.Grid.{Grid}
+use Rattle.grid.specs.Grid.{gridOf}
+use Rattle.grid.proofs.Ends.{call-done}
+use Rattle.table.specs.Sound.{limit}
+use Rattle.loader.specs.Load.{loadNumber}
+use Rattle.loader.specs.Merge.{mergeNumber}
+use Rattle.loader.proofs.Laws.{load-says, load-accepts, merge-says, merge-accepts}
+use Rattle.cutter.specs.Cut.{Buffers, lengthsOf, cutNumberOn, cutNumber, CanCut}
+use Rattle.cutter.proofs.Laws.{cut-says, cut-accepts}
+use Rattle.mapper.specs.Map.{mapNumber}
+use Rattle.mapper.specs.Paint.{paintNumber}
+use Rattle.mapper.proofs.Laws.{map-says, map-accepts, paint-says, paint-accepts}
+use Rattle.promises.specs.Numbers.{OnGrid, CanLoad, CanMerge, CanMap, CanPaint}
+
+module _ (b1 b2 b3 : ℕ) where
+  pub load-exactly : (t colours : List ℕ) (given : Bool) (weights : List ℕ) → (loadNumber b1 b2 b3 t colours given weights ≡ 0) ↔ OnGrid b1 b2 b3 (CanLoad t colours given weights)
+  load-exactly t colours given weights = (
+    λ e.
+        let d = load-says b1 b2 b3 t colours given weights e in
+        record {
+          g = d .g;
+          chosen = d .chosen;
+          can = record { threes = d .threes; paired = d .paired; lent = d .lent; is-sound = d .sound-before .holds; fits = d .under };
+        },
+    λ o. let c = o .can in load-accepts b1 b2 b3 t colours given weights (o .chosen) (c .threes) (c .paired) (c .lent) (c .is-sound) (c .fits),
+  )
+
+  pub merge-exactly : (t s : List ℕ) → (mergeNumber b1 b2 b3 t s ≡ 0) ↔ OnGrid b1 b2 b3 (CanMerge t s)
+  merge-exactly t s = (
+    λ e.
+        let d = merge-says b1 b2 b3 t s e in
+        record {
+          g = d .g;
+          chosen = d .chosen;
+          can = record { lent = d .lent; are-sound = (d .sound-before .0 .holds, d .sound-before .1 .holds); fits = d .under };
+        },
+    λ o. let c = o .can in merge-accepts b1 b2 b3 t s (o .chosen) (c .lent .0) (c .lent .1) (c .are-sound .0) (c .are-sound .1) (c .fits),
+  )
+
+  pub cut-exactly : (k : ℕ) (t : List ℕ) (b : Buffers) → (cutNumber b1 b2 b3 k t b ≡ 0) ↔ OnGrid b1 b2 b3 (λ g. CanCut g k t (lengthsOf b))
+  unfolding cutNumber
+  cut-exactly k t b = (
+    λ e.
+        let c = call-done {A = ℕ} (gridOf b1 b2 b3) (λ g. cutNumberOn limit g k t (lengthsOf b)) (λ g. 0) 0 e in
+        record { g = c .g; chosen = c .is; can = cut-says b1 b2 b3 k t b (c .is) e .can },
+    λ o. cut-accepts b1 b2 b3 k t b (o .chosen) (o .can),
+  )
+
+  pub map-exactly : (map : List ℕ) (colours : ℕ) (frame indices : List ℕ) (first pixels : ℕ) → (mapNumber b1 b2 b3 map colours frame indices first pixels ≡ 0) ↔ OnGrid b1 b2 b3 (CanMap map colours frame indices first pixels)
+  map-exactly map colours frame indices first pixels = (
+    λ e.
+        let d = map-says b1 b2 b3 map colours frame indices first pixels e in
+        record {
+          g = d .g;
+          chosen = d .chosen;
+          can = record { threes = d .threes; lent = d .lent; some = d .some; few = d .few; one-each = d .one-each; inside = d .inside; below = d .below };
+        },
+    λ o.
+        let c = o .can in
+        map-accepts b1 b2 b3 map colours frame indices first pixels (o .chosen) (c .threes) (c .lent) (c .some) (c .few) (c .one-each) (c .inside) (c .below) .0,
+  )
+
+  pub paint-exactly : (map palette frame : List ℕ) (first pixels : ℕ) → (paintNumber b1 b2 b3 map palette frame first pixels ≡ 0) ↔ OnGrid b1 b2 b3 (CanPaint map palette frame first pixels)
+  paint-exactly map palette frame first pixels = (
+    λ e.
+        let d = paint-says b1 b2 b3 map palette frame first pixels e in
+        record {
+          g = d .g;
+          chosen = d .chosen;
+          can = record { threes = d .threes; lent = d .lent; some = d .some; few = d .few; whole = d .whole; inside = d .inside; below = d .below };
+        },
+    λ o.
+        let c = o .can in
+        paint-accepts b1 b2 b3 map palette frame first pixels (o .chosen) (c .threes) (c .lent) (c .some) (c .few) (c .whole) (c .inside) (c .below) .0,
+  )
