@@ -66,5 +66,5 @@ module _ (g : Grid) (v : View) (x : Bounds) where
       (sidesSpread g v x d bin .plus) (sidesSpread g v x e c .plus) (plus-is p) (plus-is q) (exactScore g v x d bin .plus) (exactScore g v x e c .plus) (no-plus d bin) (no-plus e c)
 
   -- and so the smallest by the one is the smallest by the other
-  pub smallest-both : {d bin : ℕ} → Cuts g v x d bin → Smallest g v (exactScore g v x) x d bin ↔ Smallest g v (sidesSpread g v x) x d bin
-  smallest-both p = ((λ s e c q. criterion p q .0 (s e c q)), (λ s e c q. criterion p q .1 (s e c q)))
+  pub smallest : {d bin : ℕ} → Cuts g v x d bin → Smallest g v (exactScore g v x) x d bin ↔ Smallest g v (sidesSpread g v x) x d bin
+  smallest p = ((λ s e c q. criterion p q .0 (s e c q)), (λ s e c q. criterion p q .1 (s e c q)))
