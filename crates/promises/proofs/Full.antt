@@ -29,8 +29,8 @@ module _ (b1 b2 b3 k : ℕ) (t : List ℕ) (b : Buffers) {g : Grid} (e : gridOf 
   unfolding doneRecord boxesOf occupiedBins
   full-above n spreads =
       let d = cut-says b1 b2 b3 k t b e n in
-      rw (d .hands, ← occupied-whole g (wide t))
-      (full (record { holds = d .can .is-sound }) (d .accepted) (d .can .some) spreads k (d .can .least) (d .can .most))
+      rw (d .hands)
+      (full (record { holds = d .can .is-sound }) (d .accepted) (d .can .some) spreads k (d .can .least) (d .can .most) ∙ ap (min k) (occupied-whole g (wide t)))
 
   module _ (p : Plan) (y : BytesIn p) (ran : run b1 b2 b3 p ≡ Table t) where
     -- a cut of what was loaded is done, if anything was

@@ -37,7 +37,7 @@ module _ (b1 b2 b3 k : ℕ) (t : List ℕ) (b : Buffers) {g : Grid} (e : gridOf 
   -- band has index i exactly where box i holds its bin
   pub pixel-index : (colours : ℕ) (frame indices : List ℕ) (first pixels : ℕ) → ((j : ℕ) → getD frame j 0 < 256)
       → mapNumber b1 b2 b3 (cutMap b1 b2 b3 k t b) colours frame indices first pixels ≡ 0
-      → (i p : ℕ) → i < cutBoxes b1 b2 b3 k t b → first ≤ p → p < first + pixels
+      → (i p : ℕ) → i < cutRecord b1 b2 b3 k t b .boxes → first ≤ p → p < first + pixels
       → holds g (boxIn (cutRecord b1 b2 b3 k t b) i) (colourPlace g (colourAt frame p)) ≡ eqb (getD (mapLater b1 b2 b3 (cutMap b1 b2 b3 k t b) colours frame indices first pixels) p 0) i
   unfolding mapNumber numberOn onGrid indexAt
   pixel-index colours frame indices first pixels bytes done i p h from until =
