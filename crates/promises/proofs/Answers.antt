@@ -22,7 +22,7 @@ use Rattle.sums.specs.Box.{Within}
 use Rattle.spread.specs.Cut.{positionAnswer, bestCut}
 use Rattle.spread.specs.Best.{Candidate, Tells}
 use Rattle.spread.proofs.Least.{best-told}
-use Rattle.promises.specs.Answers.{answered, refusedBy, Among, NotAmong, ShiftTold, GridTold, WeighedTold}
+use Rattle.promises.specs.Answers.{Among, NotAmong, ShiftTold, GridTold, WeighedTold}
 use Rattle.promises.proofs.Each.{each}
 
 -- ---- a size

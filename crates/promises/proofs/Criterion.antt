@@ -1,7 +1,7 @@
 -- Wu's criterion, over whole numbers: among the positions of a box, the one with the smallest exact score is the one whose two sides
 -- have the smallest exact spreads together, since those are the squares of the box and the score.
 -- Assumes nothing.
-use mathlib.Core.Path.{_≡_, sym, ap, _∙_}
+use mathlib.Core.Path.{_≡_}
 use mathlib.Core.Logic.{_↔_}
 use Prim.Native.Nat.{ℕ, _+_, _*_, _≤_, _<_}
 use native.Mathlib.Nat.{mul-add, add-mul, mul-assoc, mul-comm, mul-left-comm, add-assoc, add-comm, add-left-comm, mul-pos, pos-of-ne-zero, le-of-lt, one-mul, mul-one, zero-mul, zero-add, add-zero}
@@ -11,22 +11,19 @@ use Rattle.table.specs.Cell.{View}
 use Rattle.sums.specs.declared.Bounds.{Bounds}
 use Rattle.sums.specs.Box.{boxSum, lowSide, highSide}
 use Rattle.sums.proofs.Laws.{cut-sum}
-use Rattle.promises.specs.Criterion.{Fraction, together, negative, Same, AtMost, exactQuotient, exactSpread, exactSquares, Cuts, exactScore, sidesSpread, Smallest}
+use Rattle.promises.specs.Criterion.{together, negative, Same, AtMost, exactQuotient, exactSpread, exactSquares, Cuts, exactScore, sidesSpread, Smallest}
 
 ruleset ring = (mul-add, add-mul, mul-assoc, mul-comm, mul-left-comm, add-assoc, add-comm, add-left-comm)
 
--- two fractions over u and w that are q and x taken away from it, and q and y: their order is that without q
+-- (q·u − x)/u is at most (q·w − y)/w exactly where −x/u is at most −y/w
 order : (q u w x y p r : ℕ) → p ≡ q * u → r ≡ q * w → (s t : ℕ) → s ≡ 0 → t ≡ 0 → (s * w + y * u ≤ t * u + x * w) ↔ (p * w + y * u ≤ r * u + x * w)
 order q u w x y p r e f s t z n =
-    let both : p * w ≡ r * u = ap (λ (k : ℕ). k * w) e ∙ mul-assoc q u w ∙ ap (λ (k : ℕ). q * k) (mul-comm u w) ∙ sym (mul-assoc q w u) ∙ sym (ap (λ (k : ℕ). k * u) f) in
-    let first : s * w ≡ 0 = ap (λ (k : ℕ). k * w) z ∙ none w in
-    let second : t * u ≡ 0 = ap (λ (k : ℕ). k * u) n ∙ none u in
+    let both : p * w ≡ r * u = rw (e, f) (simp ring) in
+    let first : s * w ≡ 0 = rw z (zero-mul w) in
+    let second : t * u ≡ 0 = rw n (zero-mul u) in
     ((λ h. omega arith), (λ h. omega arith))
-  where
-    none : (k : ℕ) → 0 * k ≡ 0
-    none k = omega arith
 
--- n of the low side's weight, m of the high side's: n·a/n + m·b/m is (a + b) over n·m
+-- n·a/n and m·b/m added are (a + b)·(n·m) over n·m
 sides : (n m a b q : ℕ) → q ≡ a + b → n * a * m + m * b * n ≡ q * (n * m)
 sides n m a b q e = rw e (simp ring)
 

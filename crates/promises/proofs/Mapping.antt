@@ -1,5 +1,5 @@
 -- Mapping and painting after a cut: a pixel has index i exactly where box i holds its bin, neither call refuses the map with 9 for the
--- palette that came with it, and plans over the same colours give every pixel of every frame the same index.
+-- palette that came with it, and plans over the same colours give every pixel of every frame the same index. And mapping in bands.
 -- Assumes nothing.
 use mathlib.Core.Path.{_≡_, refl, sym, ap, _∙_}
 use mathlib.Core.Bool.{true}
@@ -24,7 +24,9 @@ use Rattle.cutter.proofs.Laws.{cut-says}
 use Rattle.mapper.specs.Band.{indexAt, allBelow}
 use Rattle.mapper.specs.Map.{mapNumberOn, mapNumber, mapLater}
 use Rattle.mapper.specs.Paint.{paintNumber}
+use Rattle.mapper.specs.Bands.{Band, mapBands, allInside, covered}
 use Rattle.mapper.proofs.Band.{band-within}
+use Rattle.mapper.proofs.Bands.{bands-whole}
 use Rattle.mapper.proofs.Below.{all-below}
 use Rattle.mapper.proofs.Laws.{map-says, map-done, map-not-9, paint-not-9}
 use Rattle.promises.specs.Order.{SameCut}
@@ -75,6 +77,11 @@ module _ (b1 b2 b3 k : ℕ) (t : List ℕ) (b : Buffers) {g : Grid} (e : gridOf 
   pub paint-never-9 : (frame : List ℕ) (first pixels : ℕ) → paintNumber b1 b2 b3 (cutMap b1 b2 b3 k t b) (cutFront b1 b2 b3 k t b) frame first pixels ≡ 9 → ⊥
   paint-never-9 frame first pixels =
       paint-not-9 b1 b2 b3 (cutMap b1 b2 b3 k t b) (cutFront b1 b2 b3 k t b) frame first pixels (rw front-colours all-entries-below)
+
+-- bands that cover a frame, in any order, map it whole
+pub mapped-in-bands : (b1 b2 b3 : ℕ) (map : List ℕ) (colours : ℕ) (frame : List ℕ) (bs : List Band) (indices : List ℕ) → allInside (length frame / 3) bs ≡ true → ((i : ℕ) → i < length frame / 3 → covered bs i ≡ true)
+    → mapBands b1 b2 b3 map colours frame bs indices ≡ mapLater b1 b2 b3 map colours frame indices 0 (length frame / 3)
+mapped-in-bands b1 b2 b3 map colours frame bs indices inside all = bands-whole b1 b2 b3 map colours frame bs indices inside all
 
 -- the same index for every pixel in any order of loading, over the call itself
 pub same-indices : {g : Grid} {b1 b2 b3 k : ℕ} {b : Buffers} {t s : List ℕ} → SameCut g b1 b2 b3 k b t s → SameIndices b1 b2 b3 (cutMap b1 b2 b3 k t b) (cutMap b1 b2 b3 k s b)

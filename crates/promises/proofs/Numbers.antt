@@ -1,22 +1,22 @@
--- "The lowest number that applies is given, and none is given otherwise": a call is done exactly where none of its numbers applies.
+-- "The lowest number that applies is given, and none is given otherwise": a call is done exactly where none of its numbers applies. And
+-- "A refusal returns its number and, from a cut, zero boxes and box places all zero, and writes nothing".
 -- Assumes nothing.
 use mathlib.Core.Path.{_≡_}
 use mathlib.Core.Logic.{_↔_}
 use mathlib.Core.Bool.{Bool}
 use mathlib.Core.List.{List}
-use Prim.Native.Nat.{ℕ}
-use Rattle.grid.specs.declared.Grid.{Grid}
+use Prim.Native.Nat.{ℕ, suc}
 use Rattle.grid.specs.Grid.{gridOf}
 use Rattle.grid.proofs.Ends.{call-done}
 use Rattle.table.specs.Sound.{limit}
-use Rattle.loader.specs.Load.{loadNumber}
-use Rattle.loader.specs.Merge.{mergeNumber}
-use Rattle.loader.proofs.Laws.{load-says, load-accepts, merge-says, merge-accepts}
-use Rattle.cutter.specs.Cut.{Buffers, lengthsOf, cutNumberOn, cutNumber, CanCut}
-use Rattle.cutter.proofs.Laws.{cut-says, cut-accepts}
-use Rattle.mapper.specs.Map.{mapNumber}
-use Rattle.mapper.specs.Paint.{paintNumber}
-use Rattle.mapper.proofs.Laws.{map-says, map-accepts, paint-says, paint-accepts}
+use Rattle.loader.specs.Load.{loadNumber, loadLater}
+use Rattle.loader.specs.Merge.{mergeNumber, mergeLater}
+use Rattle.loader.proofs.Laws.{load-refused, load-says, load-accepts, merge-refused, merge-says, merge-accepts}
+use Rattle.cutter.specs.Cut.{Buffers, lengthsOf, cutNumberOn, cutNumber, refusedRecord, cutRecord, cutLater, CanCut}
+use Rattle.cutter.proofs.Laws.{cut-refuses, cut-says, cut-accepts}
+use Rattle.mapper.specs.Map.{mapNumber, mapLater}
+use Rattle.mapper.specs.Paint.{paintNumber, paintLater}
+use Rattle.mapper.proofs.Laws.{map-refused, map-says, map-accepts, paint-refused, paint-says, paint-accepts}
 use Rattle.promises.specs.Numbers.{OnGrid, CanLoad, CanMerge, CanMap, CanPaint}
 
 module _ (b1 b2 b3 : ℕ) where
@@ -80,3 +80,20 @@ module _ (b1 b2 b3 : ℕ) where
         let c = o .can in
         paint-accepts b1 b2 b3 map palette frame first pixels (o .chosen) (c .threes) (c .lent) (c .some) (c .few) (c .whole) (c .inside) (c .below) .0,
   )
+
+  -- ---- a refusal writes nothing
+  module _ {n : ℕ} where
+    pub refused-load : (t colours : List ℕ) (given : Bool) (weights : List ℕ) → loadNumber b1 b2 b3 t colours given weights ≡ suc n → loadLater b1 b2 b3 t colours given weights ≡ t
+    refused-load t colours given weights e = load-refused b1 b2 b3 t colours given weights e
+
+    pub refused-merge : (t s : List ℕ) → mergeNumber b1 b2 b3 t s ≡ suc n → mergeLater b1 b2 b3 t s ≡ t
+    refused-merge t s e = merge-refused b1 b2 b3 t s e
+
+    pub refused-cut : (k : ℕ) (t : List ℕ) (b : Buffers) → cutNumber b1 b2 b3 k t b ≡ suc n → (cutRecord b1 b2 b3 k t b ≡ refusedRecord (suc n)) × (cutLater b1 b2 b3 k t b ≡ b)
+    refused-cut k t b e = cut-refuses b1 b2 b3 k t b e
+
+    pub refused-map : (map : List ℕ) (colours : ℕ) (frame indices : List ℕ) (first pixels : ℕ) → mapNumber b1 b2 b3 map colours frame indices first pixels ≡ suc n → mapLater b1 b2 b3 map colours frame indices first pixels ≡ indices
+    refused-map map colours frame indices first pixels e = map-refused b1 b2 b3 map colours frame indices first pixels e
+
+    pub refused-paint : (map palette frame : List ℕ) (first pixels : ℕ) → paintNumber b1 b2 b3 map palette frame first pixels ≡ suc n → paintLater b1 b2 b3 map palette frame first pixels ≡ frame
+    refused-paint map palette frame first pixels e = paint-refused b1 b2 b3 map palette frame first pixels e

@@ -3,7 +3,7 @@
 -- Assumes nothing.
 use mathlib.Core.Path.{_≡_}
 use mathlib.Core.Bool.{true, false}
-use Prim.Native.Nat.{ℕ, _*_, _≤_}
+use Prim.Native.Nat.{_*_, _≤_}
 use Rattle.grid.specs.declared.Grid.{Grid}
 use Rattle.table.specs.Cell.{View}
 use Rattle.table.specs.Sound.{limit, sound}

@@ -1,7 +1,7 @@
 -- Wu's criterion over whole numbers (ACM Transactions on Graphics 11(4), 1992): the exact spread of a box and the exact score of a
 -- position, as fractions. Definitions only.
-use Prim.Native.Nat.{ℕ, _+_, _*_, _≤_, _<_}
 use mathlib.Core.Path.{_≡_}
+use Prim.Native.Nat.{ℕ, _+_, _*_, _≤_, _<_}
 use Rattle.grid.specs.declared.Grid.{Grid}
 use Rattle.table.specs.Cell.{View}
 use Rattle.sums.specs.declared.Bounds.{Bounds}
