@@ -14,19 +14,15 @@ use Rattle.grid.specs.declared.Chosen.the-variants as chosen
 use Rattle.grid.specs.Answer.{refuse, whenDone}
 use Rattle.grid.specs.Grid.{gridOf, Accepted, binsOf, onGrid, numberOn}
 use Rattle.grid.proofs.Places.{chose}
-use Rattle.table.specs.Cell.{wide, wideList}
+use Rattle.table.specs.Cell.{zeros, wide, wideList}
 use Rattle.table.specs.Sound.{limit, total, sound}
-use Rattle.loader.specs.Load.{Weighted, sumOver, adds, weightOf, loaded, batchOf, loadNumberOn, loadNumber, loadLater}
+use Rattle.loader.specs.Load.{Weighted, sumOver, adds, weightOf, loaded, tableOf, batchOf, loadNumberOn, loadNumber, loadLater}
 use Rattle.loader.specs.Merge.{merged, mergeNumberOn, mergeNumber, mergeLater}
 use Rattle.loader.specs.Plan.{Batch, Plan, empty, load, merge, Ran, Refused, Table, ranOf, thenLoad, thenMerge, run, leaves, malformed, firstOf, firstMalformed, BytesIn}
 use Rattle.table.proofs.Cells.{Holds, list-holds, holds-list, holds-same, wide-at}
-use Rattle.table.proofs.Soundness.{zeros, zeros-sound, zeros-total, sound-same, total-same}
+use Rattle.table.proofs.Soundness.{zeros-sound, zeros-total, sound-same, total-same}
 use Rattle.loader.proofs.Loading.{AllBytes, over-append, over-perm, load-total, load-sound}
 use Rattle.loader.proofs.Parts.{all-bytes-of}
-
--- the table of a list of colours
-unfoldable pub tableOf : Grid → List Weighted → List ℕ
-tableOf g cs = wideList (binsOf g) (loaded g cs zeros)
 
 bytes-append : (cs ds : List Weighted) → AllBytes cs → AllBytes ds → AllBytes (cs ++ ds)
 bytes-append [] ds b c = c

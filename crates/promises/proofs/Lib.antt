@@ -1,6 +1,12 @@
+pub mod Each
 pub mod Worked
+pub mod Answers
+pub mod Numbers
+pub mod Loading
 pub mod Tiling
 pub mod Full
 pub mod Order
-pub mod Determined
 pub mod Mapping
+pub mod Criterion
+pub mod Sign
+pub mod Determined

@@ -1,5 +1,9 @@
 pub mod Cases
+pub mod Answers
+pub mod Numbers
 pub mod Tiling
 pub mod Full
 pub mod Order
+pub mod Mapping
+pub mod Criterion
 pub mod Determined

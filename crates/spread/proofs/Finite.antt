@@ -18,7 +18,7 @@ use Rattle.sums.specs.declared.Bounds.{Bounds}
 use Rattle.sums.specs.Box.{boxSum, statsOf, Within}
 use Rattle.sums.proofs.Laws.{low-within, high-within}
 use Rattle.spread.specs.Spread.{oneBin, spreadOf, scoreOf}
-use Rattle.spread.proofs.Best.{Good}
+use Rattle.spread.specs.Best.{Good}
 use Rattle.spread.proofs.Numbers.{numbers, quot-is, spread-is, spread-one}
 use Rattle.spread.proofs.Rounding.{Is, add-of}
 use Rattle.spread.proofs.Error.{F, U, spot-le, round-is-at}
