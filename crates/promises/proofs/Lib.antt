@@ -4,3 +4,4 @@ pub mod Full
 pub mod Order
 pub mod Determined
 pub mod Mapping
+pub mod Listing

@@ -3,6 +3,7 @@
 -- Assumes nothing.
 use mathlib.Core.Path.{_≡_, refl, sym, ap, _∙_}
 use mathlib.Core.Logic.{inl, inr}
+use mathlib.Core.Bool.{false}
 use mathlib.Core.List.{List, [], _∷_, map, List·Memᴰ, List·Memᴰ·not-nil, List·Memᴰ·cases-cons}
 use lib.ListN.{getD, drop}
 use Rattle.grid.specs.Answer.{refuse, whenDone}
@@ -22,6 +23,7 @@ use Rattle.cutter.specs.Fronts.{flat, filled}
 use Rattle.cutter.specs.Palette.{meanOf, colourOf, countOf, bytesOf, itsColour, itsCount, paletteLater, countsLater}
 use Rattle.cutter.specs.Map.{lies, holds, indexFrom, mapOf}
 use Rattle.cutter.specs.Cut.{longEnough, cutNumberOn, cutNumber, refusedRecord, doneRecord, recordOn, cutRecord, boundsOf, listOf, boxList, laterOn, cutLater}
+use Rattle.promises.specs.Listing.{grid8, fourPixels, fourTable}
 use Rattle.promises.specs.Cases.{Case, Outcome, loadsOf, tableAfter, positionIn, lentTo, outcome, times, empties, plain, weighted, loadGives, at, nowhere, box, recordWith, done, refusedWith, blackWhite, blackWhiteTable, blackWhiteMoments, reds, redsTable, redsMoments, fullCell, sizeOne, cases}
 
 pub worked : map outcome cases ≡ map (λ c. c .expected) cases
@@ -37,6 +39,11 @@ unfolding loadsOf tableAfter positionIn lentTo outcome times empties plain weigh
     longEnough cutNumberOn cutNumber refusedRecord doneRecord recordOn cutRecord boundsOf listOf boxList laterOn cutLater
     lib.Ieee.ofInt lib.Ieee.mul lib.Ieee.add lib.Ieee.sub lib.Ieee.div lib.Ieee.neg lib.Ieee.lt lib.Ieee.le lib.Ieee.round lib.Ieee.size lib.Ieee.span lib.Ieee.climb lib.Ieee.units lib.Ieee.odd lib.Ieee.sum lib.Ieee.eq lib.Count.trailingZeros
 worked = refl
+
+-- the example of the listing program: what its four pixels add to a table of zeros
+pub four-added : wideList (binsOf grid8) (loaded grid8 (batchOf fourPixels false []) (λ p j. 0)) ≡ fourTable
+unfolding fourPixels fourTable listFrom binOf choose shiftAt binsOf placeOf binAt colourPlace colourAt wideList share adds sumOver loaded weightedAt batchOf
+four-added = refl
 
 -- what holds of the whole table holds of each case in it
 one-of : (xs : List Case) → map outcome xs ≡ map (λ c. c .expected) xs → {c : Case} → List·Memᴰ c xs → outcome c ≡ c .expected

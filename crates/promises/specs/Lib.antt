@@ -3,3 +3,4 @@ pub mod Tiling
 pub mod Full
 pub mod Order
 pub mod Determined
+pub mod Listing
