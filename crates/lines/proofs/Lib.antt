@@ -1,3 +1,3 @@
 pub mod Decimal
 pub mod Putting
-pub mod Example
+pub mod Texts

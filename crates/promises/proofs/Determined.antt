@@ -42,8 +42,10 @@ use Rattle.rounds.proofs.cut_boxes as cut-boxes
 use Rattle.cutter.proofs.front as front
 use Rattle.mapper.proofs.map as map
 use Rattle.mapper.proofs.paint as paint
-use Rattle.lines.proofs.listing as listing
-use Rattle.lines.proofs.refused as refused
+use Rattle.lines.specs.declared.Loaded.{Loaded}
+use Rattle.lines.proofs.empty_table as empty-table
+use Rattle.lines.proofs.load_batch as load-batch
+use Rattle.lines.proofs.text as text
 use Rattle.cutter.proofs.cut as cut
 use Rattle.seluvava.specs.declared.CutAnswer.{CutAnswer}
 use Rattle.seluvava.specs.Cut.{Lent, lent}
@@ -171,11 +173,14 @@ pub paint-determined : Determines {A = ℕ × List ℕ} 3 paint.Kinds.ps paint.K
 paint-determined κs a r s x y p q = both (determined (p .0) (q .0)) (determined (p .1) (q .1))
 
 -- ---- lines
-pub listing-determined : Determines {A = ℕ × List ℕ} 3 listing.Kinds.ps listing.Kinds.r listing.Reads.Learnt (λ κs r e. (r, now (e .1 .1 .1 .0)))
-listing-determined κs a r s x y p q = both (determined (p .0) (q .0)) (determined (p .1 .0) (q .1 .0))
+pub empty-table-determined : Determines 0 empty-table.Kinds.ps empty-table.Kinds.r empty-table.Reads.Learnt (λ κs r e. r)
+empty-table-determined κs a r s x y p q = determined p q
 
-pub refused-determined : Determines {A = ℕ × List ℕ} 1 refused.Kinds.ps refused.Kinds.r refused.Reads.Learnt (λ κs r e. (r, now (e .1 .0)))
-refused-determined κs a r s x y p q = both (determined (p .0) (q .0)) (determined (p .1 .0) (q .1 .0))
+pub load-batch-determined : Determines {A = Loaded × List ℕ} 2 load-batch.Kinds.ps load-batch.Kinds.r load-batch.Reads.Learnt (λ κs r e. (r, now (e .0)))
+load-batch-determined κs a r s x y p q = both (determined (p .0) (q .0)) (determined (p .1) (q .1))
+
+pub text-determined : Determines {A = ℕ × List ℕ} 2 text.Kinds.ps text.Kinds.r text.Reads.Learnt (λ κs r e. (r, now (e .1 .1 .0)))
+text-determined κs a r s x y p q = both (determined (p .0) (q .0)) (determined (p .1 .0) (q .1 .0))
 
 -- ---- seluvava
 pub exported-bins-determined : Determines 0 exported-bins.Kinds.ps exported-bins.Kinds.r exported-bins.Reads.Learnt (λ κs r e. r)

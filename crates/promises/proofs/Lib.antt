@@ -9,4 +9,5 @@ pub mod Order
 pub mod Mapping
 pub mod Criterion
 pub mod Sign
+pub mod Listing
 pub mod Determined

@@ -2,7 +2,8 @@
 -- definitions that the contracts of load and cut cite.
 -- Assumes nothing.
 use mathlib.Core.Path.{_≡_, refl}
-use mathlib.Core.List.{map, List·Memᴰ}
+use mathlib.Core.Bool.{false}
+use mathlib.Core.List.{[], map, List·Memᴰ}
 use Rattle.grid.specs.Answer.{refuse, whenDone}
 use Rattle.grid.specs.Range.{listFrom, sumFrom, allFrom}
 use Rattle.grid.specs.Size.{choices, shiftIn, shiftOf, binOf, spanOf}
@@ -21,6 +22,7 @@ use Rattle.cutter.specs.Palette.{meanOf, colourOf, countOf, bytesOf, itsColour,
 use Rattle.cutter.specs.Map.{lies, holds, indexFrom, mapOf}
 use Rattle.cutter.specs.Cut.{longEnough, cutNumberOn, cutNumber, refusedRecord, doneRecord, recordOn, cutRecord, boundsOf, listOf, boxList, laterOn, cutLater}
 use Rattle.promises.specs.Cases.{Case, loadsOf, tableAfter, positionIn, lentTo, outcome, times, empties, plain, weighted, loadGives, at, nowhere, box, recordWith, done, refusedWith, blackWhite, blackWhiteTable, blackWhiteMoments, reds, redsTable, redsMoments, fullCell, sizeOne, cases}
+use Rattle.promises.specs.Listing.{grid8, fourPixels, fourTable}
 use Rattle.promises.proofs.Each.{each}
 
 pub worked : map outcome cases ≡ map (λ c. c .expected) cases
@@ -39,3 +41,8 @@ worked = refl
 
 pub each-worked : {c : Case} → List·Memᴰ c cases → outcome c ≡ c .expected
 each-worked m = each outcome (λ c. c .expected) cases worked m
+
+-- the example of the listing program: what its four pixels add to a table of zeros
+pub four-added : wideList (binsOf grid8) (loaded grid8 (batchOf fourPixels false []) (λ p j. 0)) ≡ fourTable
+unfolding fourPixels fourTable listFrom binOf choose shiftAt binsOf placeOf binAt colourPlace colourAt wideList share adds sumOver loaded weightedAt batchOf
+four-added = refl

@@ -7,3 +7,4 @@ pub mod Order
 pub mod Mapping
 pub mod Criterion
 pub mod Determined
+pub mod Listing

@@ -12,14 +12,14 @@ Inv-loop table₀ so-far₀ turns₀ table so-far turns = length table ≡ lengt
 abbrev μ-loop : tie.MeasureT-loop
 μ-loop table₀ so-far₀ turns₀ table so-far turns = turns
 
-load-batch-requires : tie.Need-load-batch-requires Inv-loop μ-loop
-load-batch-requires c κs = search needs
+load-next-requires : tie.Need-load-next-requires Inv-loop μ-loop
+load-next-requires c κs = search needs
 
 loop-holds : tie.Need-loop-holds Inv-loop μ-loop
 loop-holds c = refl
 
-load-batch-requires-2 : tie.Need-load-batch-requires-2 Inv-loop μ-loop
-load-batch-requires-2 c κs = search needs
+load-next-requires-2 : tie.Need-load-next-requires-2 Inv-loop μ-loop
+load-next-requires-2 c κs = search needs
 
 sub-turns : tie.Need-sub-turns Inv-loop μ-loop
 sub-turns c = search needs
@@ -48,9 +48,9 @@ load-all-spec =
     (tie.spec
     Inv-loop
     μ-loop
-    load-batch-requires
+    load-next-requires
     loop-holds
-    load-batch-requires-2
+    load-next-requires-2
     sub-turns
     loop-less
     loop-again

@@ -1,0 +1,53 @@
+-- The listing program over its whole input (document 01, "The listing program"), by the definitions of the contracts of `lines`: what
+-- was read so far, batch by batch, and what is then written. Definitions only.
+use mathlib.Core.List.{List, [], _∷_, _++_}
+use Prim.Native.Nat.{ℕ}
+use lib.ListN.{replicate}
+use Rattle.grid.specs.declared.Grid.{Grid}
+use Rattle.lines.specs.Listing.{emptyTable, loadsTo, leftBy, lowerOf, textOf}
+
+-- between two batches: the lowest number of the loads so far, 0 where none was refused, and the table
+pub record Progress : Type 0 where
+  pub number : ℕ
+  pub table : List ℕ
+
+unfoldable pub atFirst : Progress
+atFirst = record { number = 0; table = emptyTable }
+
+unfoldable pub afterBatch : Progress → List ℕ → Progress
+afterBatch s batch = record { number = lowerOf (s .number) (loadsTo (s .table) batch); table = leftBy (s .table) batch }
+
+unfoldable pub afterAll : Progress → List (List ℕ) → Progress
+afterAll s [] = s
+afterAll s (batch ∷ rest) = afterAll (afterBatch s batch) rest
+
+-- the text that is written for an input that came in these batches
+unfoldable pub writtenFor : List (List ℕ) → List ℕ
+writtenFor batches = let s = afterAll atFirst batches in textOf (s .number) (s .table)
+
+-- ---- document 01's example
+-- "four pixels, one black and then three white"
+unfoldable pub fourPixels : List ℕ
+fourPixels = 0 ∷ 0 ∷ 0 ∷ 255 ∷ 255 ∷ 255 ∷ 255 ∷ 255 ∷ 255 ∷ 255 ∷ 255 ∷ 255 ∷ []
+
+-- the grid 8,8,8, whose shifts are 5
+abbrev pub grid8 : Grid
+grid8 = record { s1 = 5; s2 = 5; s3 = 5; b1 = 8; b2 = 8; b3 = 8 }
+
+-- their table: black once in the first of the 512 bins, white three times in the last
+unfoldable pub fourTable : List ℕ
+fourTable = 1 ∷ (replicate 2554 0 ++ (3 ∷ 765 ∷ 765 ∷ 765 ∷ 585225 ∷ []))
+
+-- "boxes 2 total 4", "0 255 255 255 3" and "1 0 0 0 1"
+unfoldable pub threeLines : List ℕ
+threeLines =
+    (98 ∷ 111 ∷ 120 ∷ 101 ∷ 115 ∷ 32 ∷ 50 ∷ 32 ∷ 116 ∷ 111 ∷ 116 ∷ 97 ∷ 108 ∷ 32 ∷ 52 ∷ 10 ∷ [])
+    ++ (48 ∷ 32 ∷ 50 ∷ 53 ∷ 53 ∷ 32 ∷ 50 ∷ 53 ∷ 53 ∷ 32 ∷ 50 ∷ 53 ∷ 53 ∷ 32 ∷ 51 ∷ 10 ∷ [])
+    ++ (49 ∷ 32 ∷ 48 ∷ 32 ∷ 48 ∷ 32 ∷ 48 ∷ 32 ∷ 49 ∷ 10 ∷ [])
+
+-- "refused 3" and "refused 8"
+unfoldable pub refused3 : List ℕ
+refused3 = 114 ∷ 101 ∷ 102 ∷ 117 ∷ 115 ∷ 101 ∷ 100 ∷ 32 ∷ 51 ∷ 10 ∷ []
+
+unfoldable pub refused8 : List ℕ
+refused8 = 114 ∷ 101 ∷ 102 ∷ 117 ∷ 115 ∷ 101 ∷ 100 ∷ 32 ∷ 56 ∷ 10 ∷ []
