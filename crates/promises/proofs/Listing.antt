@@ -19,10 +19,10 @@ use Rattle.grid.specs.Range.{listFrom, sumFrom}
 use Rattle.grid.specs.Size.{choices, shiftIn, shiftOf}
 use Rattle.grid.specs.Grid.{choose, gridWith, gridOf, onGrid, numberOn, binsOf, placeOf}
 use Rattle.grid.proofs.Range.{and-left, and-right}
-use Rattle.table.specs.Cell.{View, wide, wideList}
+use Rattle.table.specs.Cell.{View, zeros, wide, wideList}
 use Rattle.table.specs.Sound.{limit, total, sound}
 use Rattle.table.proofs.Cells.{wide-at}
-use Rattle.table.proofs.Soundness.{zeros, zeros-total, zeros-sound}
+use Rattle.table.proofs.Soundness.{zeros-total, zeros-sound}
 use Rattle.loader.specs.Load.{weightOf, loaded, batchOf, loadNumber}
 use Rattle.loader.proofs.Parts.{batch-weight}
 use Rattle.loader.proofs.Calls.{load-not-threes, load-length, load-unsound, load-over, load-done}

@@ -8,7 +8,7 @@ use Rattle.grid.specs.Answer.{refuse, whenDone}
 use Rattle.grid.specs.Range.{listFrom, sumFrom, allFrom}
 use Rattle.grid.specs.Size.{choices, shiftIn, shiftOf, binOf, spanOf}
 use Rattle.grid.specs.Grid.{choose, shiftAt, gridWith, gridOf, gridAnswer, onGrid, numberOn, binsOf, placeOf, binAt, colourPlace, colourAt}
-use Rattle.table.specs.Cell.{wide, wideList}
+use Rattle.table.specs.Cell.{zeros, wide, wideList}
 use Rattle.table.specs.Sound.{between, inBounds, spanAt, binSound, total, sound}
 use Rattle.loader.specs.Load.{share, adds, sumOver, weightOf, loaded, weightedAt, batchOf, loadNumberOn, loadNumber, loadLater}
 use Rattle.sums.specs.Box.{minAt, maxAt, sum3, binSum, boxSum, statsOf, lowSide, highSide}
@@ -43,6 +43,6 @@ pub each-worked : {c : Case} → List·Memᴰ c cases → outcome c ≡ c .expec
 each-worked m = each outcome (λ c. c .expected) cases worked m
 
 -- the example of the listing program: what its four pixels add to a table of zeros
-pub four-added : wideList (binsOf grid8) (loaded grid8 (batchOf fourPixels false []) (λ p j. 0)) ≡ fourTable
+pub four-added : wideList (binsOf grid8) (loaded grid8 (batchOf fourPixels false []) zeros) ≡ fourTable
 unfolding fourPixels fourTable listFrom binOf choose shiftAt binsOf placeOf binAt colourPlace colourAt wideList share adds sumOver loaded weightedAt batchOf
 four-added = refl
