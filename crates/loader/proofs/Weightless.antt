@@ -60,7 +60,7 @@ module _ (b1 b2 b3 : ℕ) (t : List ℕ) (given : Bool) (colours weights colours
   unfolding loaded
   table-alike g = λ i. wideList (binsOf g) (λ p j. wide t p j + sums (λ c. adds g c p j) (adds-none g p j) i)
 
-  pub loads-alike : (loadNumber b1 b2 b3 t colours given weights ≡ loadNumber b1 b2 b3 t colours' given weights') × (loadLater b1 b2 b3 t colours given weights ≡ loadLater b1 b2 b3 t colours' given weights')
+  loads-alike : (loadNumber b1 b2 b3 t colours given weights ≡ loadNumber b1 b2 b3 t colours' given weights') × (loadLater b1 b2 b3 t colours given weights ≡ loadLater b1 b2 b3 t colours' given weights')
   unfolding loadNumber loadLater
   loads-alike = (
     λ i. numberOn (gridOf b1 b2 b3) (λ g. number-alike g i),

@@ -10,8 +10,8 @@ use Rattle.grid.specs.declared.Chosen.the-variants.{Of}
 use Rattle.grid.specs.Grid.{gridOf, colourPlace}
 use Rattle.table.specs.Sound.{limit}
 use Rattle.loader.specs.Load.{weightOf, tableOf}
-use Rattle.loader.specs.Plan.{Plan, Table, Refused, run, leaves, firstMalformed, BytesIn}
-use Rattle.loader.proofs.Order.{table-perm, any-order, malformed-refused}
+use Rattle.loader.specs.Plan.{Plan, Table, Refused, ranOf, run, leaves, firstMalformed, BytesIn}
+use Rattle.loader.proofs.Order.{table-perm, run-is, any-order, malformed-refused}
 use Rattle.loader.proofs.Ran.{ran-table}
 use Rattle.cutter.specs.Cut.{Buffers, cutRecord, cutLater}
 use Rattle.promises.specs.Order.{SameCut, CutAlike}
@@ -49,6 +49,11 @@ module _ (b1 b2 b3 : ℕ) {g : Grid} (e : gridOf b1 b2 b3 ≡ Of g) (p q : Plan)
         alike = ran-alike (ran .0) (ran .1 ∙ ran .0);
       }
 
--- a plan with a malformed batch is refused with that batch's number
-pub malformed-is-refused : (b1 b2 b3 : ℕ) {g : Grid} → gridOf b1 b2 b3 ≡ Of g → (p : Plan) → BytesIn p → weightOf (leaves p) ≤ limit → {n : ℕ} → firstMalformed p ≡ suc n → run b1 b2 b3 p ≡ Refused (suc n)
-malformed-is-refused b1 b2 b3 e p y h m = malformed-refused b1 b2 b3 e p y h m
+module _ (b1 b2 b3 : ℕ) {g : Grid} (e : gridOf b1 b2 b3 ≡ Of g) (p : Plan) (y : BytesIn p) (h : weightOf (leaves p) ≤ limit) where
+  -- how a plan whose total fits ends: refused with the number of its first malformed batch, or else with the table of its colours
+  pub plan-ends : run b1 b2 b3 p ≡ ranOf (firstMalformed p) (tableOf g (leaves p))
+  plan-ends = run-is b1 b2 b3 e p y h
+
+  -- a plan with a malformed batch is refused with that batch's number
+  pub malformed-is-refused : {n : ℕ} → firstMalformed p ≡ suc n → run b1 b2 b3 p ≡ Refused (suc n)
+  malformed-is-refused m = malformed-refused b1 b2 b3 e p y h m
