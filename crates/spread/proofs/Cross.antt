@@ -15,10 +15,9 @@ use Rattle.table.specs.declared.Cell.{Cell}
 use Rattle.table.specs.Cell.{View, wide, numberOf, cellOf}
 use Rattle.sums.specs.declared.Bounds.{Bounds}
 use Rattle.sums.specs.declared.Stats.{Stats}
-use Rattle.sums.specs.Box.{minAt, maxAt, binSum, boxSum, statsFrom, statsOf, lowSide, highSide, Within}
+use Rattle.sums.specs.Box.{minAt, maxAt, binSum, boxSum, statsFrom, statsOf, lowSide, highSide, slabTo, Within}
 use Rattle.sums.specs.Moments.{Worked, Corner, binCell}
 use Rattle.sums.proofs.Corners.{first-from, second-from, third-from, no-first, no-second, no-third, zeros-are, corner-inside, corner-cell, corner-number, corner-squares, stats-by, cell-stats}
-use Rattle.sums.proofs.Laws.{slabTo}
 use Rattle.spread.specs.Walk.{outerOf, innerOf, startOf, minusStats, Covers, HasRecord}
 use Rattle.spread.proofs.Sides.{Exact, Less, stats-less}
 

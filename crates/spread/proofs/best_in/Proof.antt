@@ -7,8 +7,7 @@ use native.Mathlib.Omega.{arith}
 use borrow.Author.Needs.{needs}
 use denote.Ref.{now}
 use Rattle.table.specs.Cell.{wide}
-use Rattle.sums.specs.Box.{statsOf, minAt, maxAt}
-use Rattle.sums.proofs.Laws.{slabTo}
+use Rattle.sums.specs.Box.{statsOf, minAt, maxAt, slabTo}
 use Rattle.spread.specs.Cut.{bestRun, bestIn}
 use Rattle.spread.proofs.Choose.{later-is-better, earlier-is-better, end-high, run-none, run-next}
 use Rattle.spread.proofs.best_in.Statement.{statement}

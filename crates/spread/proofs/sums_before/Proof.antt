@@ -8,8 +8,7 @@ use borrow.Author.Needs.{needs}
 use denote.Ref.{now}
 use Rattle.table.specs.Cell.{View, wide}
 use Rattle.sums.specs.declared.Stats.{Stats}
-use Rattle.sums.specs.Box.{statsOf, minAt, maxAt}
-use Rattle.sums.proofs.Laws.{slabTo}
+use Rattle.sums.specs.Box.{statsOf, minAt, maxAt, slabTo}
 use Rattle.spread.specs.declared.Walk.{Walk}
 use Rattle.spread.specs.Walk.{outerOf, innerOf, walkOf}
 use Rattle.spread.proofs.Sides.{Exact, Less}
