@@ -15,11 +15,10 @@ use Rattle.table.specs.declared.Cell.{Cell}
 use Rattle.table.specs.Cell.{View, wide, numberOf, cellOf}
 use Rattle.sums.specs.declared.Bounds.{Bounds}
 use Rattle.sums.specs.declared.Stats.{Stats}
-use Rattle.sums.specs.Box.{minAt, maxAt, binSum, boxSum, statsFrom, statsOf, lowSide, highSide, Within}
+use Rattle.sums.specs.Box.{minAt, maxAt, binSum, boxSum, statsFrom, statsOf, lowSide, highSide, slabTo, Within}
 use Rattle.sums.specs.Moments.{Worked, Corner, binCell}
 use Rattle.sums.proofs.Corners.{first-from, second-from, third-from, no-first, no-second, no-third, zeros-are, corner-inside, corner-cell, corner-number, corner-squares, stats-by, cell-stats}
-use Rattle.sums.proofs.Laws.{slabTo}
-use Rattle.spread.specs.Walk.{outerOf, innerOf, startOf, minusStats, Covers, HasRecord}
+use Rattle.spread.specs.Walk.{outerOf, innerOf, startOf, HasRecord}
 use Rattle.spread.proofs.Sides.{Exact, Less, stats-less}
 
 pub outer-rest : (d : ℕ) → (d ≡ 0 → ⊥) → outerOf d ≡ 0
@@ -172,19 +171,13 @@ module _ {g : Grid} (v : View) {x : Bounds} (b : Within g x) (d n : ℕ) where
   abbrev across : ℕ → ℕ → ℕ → ℕ
   across a m = crossSum g v d n a m (minAt x (innerOf d)) (maxAt x (innerOf d) - minAt x (innerOf d))
 
-  is-slab : {y : Stats} → Exact y (across (minAt x (outerOf d)) (maxAt x (outerOf d) - minAt x (outerOf d))) → y ≡ statsOf g v (slabTo x d n)
-  unfolding statsOf
-  is-slab p = p .is ∙ (λ t. statsFrom (λ j. cross-box g v x d n j t))
+  the-slab : across (minAt x (outerOf d)) (maxAt x (outerOf d) - minAt x (outerOf d)) ≡ boxSum g v (slabTo x d n)
+  the-slab = λ t j. cross-box g v x d n j t
 
-  pub slab-start : minAt x (outerOf d) ≡ 0 → {upper : Stats} → Exact upper (rowTo (maxAt x (outerOf d))) → upper ≡ statsOf g v (slabTo x d n)
-  slab-start z p = is-slab (from-start across z p)
+  pub slab-start : minAt x (outerOf d) ≡ 0 → {upper : Stats} → Exact upper (rowTo (maxAt x (outerOf d))) → Exact upper (boxSum g v (slabTo x d n))
+  slab-start z {upper} p = subst (λ (f : ℕ → ℕ). Exact upper f) the-slab (from-start across z p)
 
-  module _ {upper lower : Stats} (p : Exact upper (rowTo (maxAt x (outerOf d)))) (q : Exact lower (rowTo (minAt x (outerOf d)))) where
-    less-slab : Less upper lower (across (minAt x (outerOf d)) (maxAt x (outerOf d) - minAt x (outerOf d)))
-    less-slab = from across (outer-from g v d n (minAt x (innerOf d)) (maxAt x (innerOf d) - minAt x (innerOf d))) (le-of-lt (b .some (outerOf d))) p q
-
-    pub slab-covers : Covers upper lower
-    slab-covers = less-slab .covers
-
-    pub slab-is : {y : Stats} → y ≡ minusStats upper lower → y ≡ statsOf g v (slabTo x d n)
-    slab-is e = is-slab (less-slab .exact e)
+  pub slab : {upper lower : Stats} → Exact upper (rowTo (maxAt x (outerOf d))) → Exact lower (rowTo (minAt x (outerOf d))) → Less upper lower (boxSum g v (slabTo x d n))
+  slab {upper} {lower} p q =
+      subst (λ (f : ℕ → ℕ). Less upper lower f) the-slab
+      (from across (outer-from g v d n (minAt x (innerOf d)) (maxAt x (innerOf d) - minAt x (innerOf d))) (le-of-lt (b .some (outerOf d))) p q)

@@ -12,9 +12,9 @@ use Rattle.table.specs.Sound.{limit}
 use Rattle.table.proofs.Soundness.{Sound}
 use Rattle.sums.specs.declared.Bounds.{Bounds}
 use Rattle.sums.specs.declared.Stats.{Stats}
-use Rattle.sums.specs.Box.{minAt, maxAt, boxSum, statsFrom, statsOf, lowSide, highSide, Within}
+use Rattle.sums.specs.Box.{minAt, maxAt, boxSum, statsFrom, statsOf, lowSide, highSide, slabTo, Within}
 use Rattle.sums.proofs.Corners.{box-squares}
-use Rattle.sums.proofs.Laws.{cut-sum, slabTo, slab-sum, slab-squares}
+use Rattle.sums.proofs.Laws.{cut-sum, slab-sum, slab-squares}
 use Rattle.spread.specs.Spread.{whole}
 use Rattle.spread.specs.Walk.{minusStats, Covers}
 use Rattle.spread.proofs.Rounding.{less-of, of-whole, whole-is}

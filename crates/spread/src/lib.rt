@@ -13,7 +13,7 @@ ghost use Prim.Native.Nat.{_-_, _≤_, _<_};
 ghost use Rattle.grid.specs.Grid.{sizeAt, strideAt, Accepted};
 ghost use Rattle.table.specs.Cell.{wide};
 ghost use Rattle.table.specs.Sound.{limit, sound};
-ghost use Rattle.sums.specs.Box.{statsFrom, statsOf, minAt, maxAt, lowSide, highSide, Within};
+ghost use Rattle.sums.specs.Box.{statsFrom, statsOf, minAt, maxAt, lowSide, highSide, slabTo, Within};
 ghost use Rattle.sums.specs.Moments.{Worked};
 ghost use Rattle.spread.specs.Spread.{whole, quotientOf, oneBin, spreadOf, scoreOf, Plain, Ordered};
 ghost use Rattle.spread.specs.Cut.{positionOf, positionAt, laterWins, better as betterOf, bestIn, bestCut};
@@ -300,7 +300,7 @@ fn sums_before(
 ) -> Stats
     requires { ⌜ Worked g (now table) (now work) × Within g x × (bin ≤ maxAt x dimension) ⌝ }
     requires { ⌜ walk ≡ walkOf g x dimension ⌝ }
-    ensures { λ r. ⌜ r ≡ statsOf g (wide (now (table .entry))) (lowSide (highSide x dimension 0) dimension bin) ⌝ }
+    ensures { λ r. ⌜ r ≡ statsOf g (wide (now (table .entry))) (slabTo x dimension bin) ⌝ }
 {
     if bin == 0 {
         return stats_of(ZEROS);
@@ -336,8 +336,8 @@ fn position_at(
 ) -> Position
     requires { ⌜ (sound limit g (wide (now table)) ≡ true) × Within g x × (minAt x dimension < bin) × (bin < maxAt x dimension) ⌝ }
     requires { ⌜ all ≡ statsOf g (wide (now table)) x ⌝ }
-    requires { ⌜ base ≡ statsOf g (wide (now table)) (lowSide (highSide x dimension 0) dimension (minAt x dimension)) ⌝ }
-    requires { ⌜ before ≡ statsOf g (wide (now table)) (lowSide (highSide x dimension 0) dimension bin) ⌝ }
+    requires { ⌜ base ≡ statsOf g (wide (now table)) (slabTo x dimension (minAt x dimension)) ⌝ }
+    requires { ⌜ before ≡ statsOf g (wide (now table)) (slabTo x dimension bin) ⌝ }
     ensures { λ r. ⌜ r ≡ positionAt g (wide (now (table .entry))) x dimension bin ⌝ }
 {
     let low = less(before, base);

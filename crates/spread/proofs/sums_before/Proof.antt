@@ -1,6 +1,6 @@
 -- `spread::sums_before` meets its contract: inclusion and exclusion over the corners that the walk names.
 -- Assumes nothing.
-use mathlib.Core.Path.{_≡_, sym, ap, subst, _∙_}
+use mathlib.Core.Path.{_≡_, refl, sym, ap, subst, _∙_}
 use Prim.Native.Nat.{ℕ, _+_, _-_, _*_, _≤_, _<_}
 use native.Mathlib.Nat.{le-refl, le-of-lt}
 use native.Mathlib.Omega.{arith}
@@ -8,12 +8,11 @@ use borrow.Author.Needs.{needs}
 use denote.Ref.{now}
 use Rattle.table.specs.Cell.{View, wide}
 use Rattle.sums.specs.declared.Stats.{Stats}
-use Rattle.sums.specs.Box.{statsOf, minAt, maxAt}
-use Rattle.sums.proofs.Laws.{slabTo}
+use Rattle.sums.specs.Box.{boxSum, statsOf, minAt, maxAt, slabTo}
 use Rattle.spread.specs.declared.Walk.{Walk}
-use Rattle.spread.specs.Walk.{outerOf, innerOf, walkOf}
+use Rattle.spread.specs.Walk.{outerOf, innerOf, startOf, walkOf}
 use Rattle.spread.proofs.Sides.{Exact, Less}
-use Rattle.spread.proofs.Cross.{Reads, crossSum, rowTo, none-before, box-reads, row-start, row, slab-start, slab-covers, slab-is}
+use Rattle.spread.proofs.Cross.{Reads, crossSum, rowTo, none-before, box-reads, row-start, row, slab-start, slab}
 use Rattle.spread.proofs.sums_before.Statement.{statement}
 use Rattle.spread.proofs.sums_before.Tie as tie
 
@@ -66,29 +65,28 @@ module _ (s : tie.Start) where
     inner-some : 0 < innerEnd
     inner-some = omega (arith, s .pre .0 .1 .some (innerOf (s .args .dimension)))
 
+    place : (named : Walk → ℕ) (i k : ℕ) → named (walkOf (s .args .g) (s .args .x) (s .args .dimension)) ≡ startOf (s .args .g) (s .args .dimension) i k
+        → i ≤ outerEnd → k ≤ innerEnd → 0 < i → 0 < k → At (named (s .args .walk)) (ends i k)
+    unfolding walkOf
+    place named i k e I K i0 k0 =
+        subst (λ (w : Walk). Reads (now (s .args .work)) (named w + w .step * (s .args .bin - 1)) (ends i k)) (sym (s .pre .1))
+        (rw e (box-reads (s .pre .0 .0) (s .pre .0 .1) (s .args .dimension) (s .args .bin) i k (s .pre .0 .2) I K h i0 k0))
+
     corner : At (s .args .walk .corner) (ends outerEnd innerEnd)
     unfolding walkOf
-    corner =
-        subst (λ (w : Walk). Reads (now (s .args .work)) (w .corner + w .step * (s .args .bin - 1)) (ends outerEnd innerEnd)) (sym (s .pre .1))
-        (box-reads (s .pre .0 .0) (s .pre .0 .1) (s .args .dimension) (s .args .bin) outerEnd innerEnd (s .pre .0 .2) (le-refl outerEnd) (le-refl innerEnd) h outer-some inner-some)
+    corner = place (λ w. w .corner) outerEnd innerEnd refl (le-refl outerEnd) (le-refl innerEnd) outer-some inner-some
 
     above : 0 < outer → At (s .args .walk .above) (ends outer innerEnd)
     unfolding walkOf
-    above o =
-        subst (λ (w : Walk). Reads (now (s .args .work)) (w .above + w .step * (s .args .bin - 1)) (ends outer innerEnd)) (sym (s .pre .1))
-        (box-reads (s .pre .0 .0) (s .pre .0 .1) (s .args .dimension) (s .args .bin) outer innerEnd (s .pre .0 .2) outer-low (le-refl innerEnd) h o inner-some)
+    above o = place (λ w. w .above) outer innerEnd refl outer-low (le-refl innerEnd) o inner-some
 
     left : 0 < inner → At (s .args .walk .left) (ends outerEnd inner)
     unfolding walkOf
-    left i =
-        subst (λ (w : Walk). Reads (now (s .args .work)) (w .left + w .step * (s .args .bin - 1)) (ends outerEnd inner)) (sym (s .pre .1))
-        (box-reads (s .pre .0 .0) (s .pre .0 .1) (s .args .dimension) (s .args .bin) outerEnd inner (s .pre .0 .2) (le-refl outerEnd) inner-low h outer-some i)
+    left i = place (λ w. w .left) outerEnd inner refl (le-refl outerEnd) inner-low outer-some i
 
     diagonal : 0 < outer → 0 < inner → At (s .args .walk .diagonal) (ends outer inner)
     unfolding walkOf
-    diagonal o i =
-        subst (λ (w : Walk). Reads (now (s .args .work)) (w .diagonal + w .step * (s .args .bin - 1)) (ends outer inner)) (sym (s .pre .1))
-        (box-reads (s .pre .0 .0) (s .pre .0 .1) (s .args .dimension) (s .args .bin) outer inner (s .pre .0 .2) outer-low inner-low h o i)
+    diagonal o i = place (λ w. w .diagonal) outer inner refl outer-low inner-low o i
 
   -- what is made of them
   less-row : (e : ℕ) {upper lower : Stats} → Exact upper (ends e innerEnd) → Exact lower (ends e inner) → Less upper lower (rows e)
@@ -97,7 +95,13 @@ module _ (s : tie.Start) where
   edge-row : s .args .walk .inner ≡ 0 → (e : ℕ) {upper : Stats} → Exact upper (ends e innerEnd) → Exact upper (rows e)
   edge-row z e = row-start view (s .pre .0 .1) (s .args .dimension) (s .args .bin) e (sym inner-is ∙ z)
 
-  edge-slab : s .args .walk .outer ≡ 0 → {upper : Stats} → Exact upper (rows outerEnd) → upper ≡ statsOf (s .args .g) view (slabTo (s .args .x) (s .args .dimension) (s .args .bin))
+  abbrev slab-sums : ℕ → ℕ
+  slab-sums = boxSum (s .args .g) view (slabTo (s .args .x) (s .args .dimension) (s .args .bin))
+
+  less-slab : {upper lower : Stats} → Exact upper (rows outerEnd) → Exact lower (rows outer) → Less upper lower slab-sums
+  less-slab = slab view (s .pre .0 .1) (s .args .dimension) (s .args .bin)
+
+  edge-slab : s .args .walk .outer ≡ 0 → {upper : Stats} → Exact upper (rows outerEnd) → Exact upper slab-sums
   edge-slab z = slab-start view (s .pre .0 .1) (s .args .dimension) (s .args .bin) (sym outer-is ∙ z)
 
 -- ---- no bins
@@ -152,7 +156,8 @@ module _ (k : tie.Then2) where
   corner-row = edge-row from-edge (k .if2 .taken) (outerEnd from-edge) (the-corner (k .before .before))
 
 returns-2 : tie.Need-returns-2
-returns-2 c = edge-slab (from-edge (c .before .before)) (c .if3 .taken) (corner-row (c .before .before))
+unfolding statsOf
+returns-2 c = edge-slab (from-edge (c .before .before)) (c .if3 .taken) (corner-row (c .before .before)) .is
 
 module _ (k : tie.Else3) where
   abbrev from-outer : tie.Start
@@ -174,13 +179,15 @@ module _ (k : tie.After-record-at2) where
   above-row : Exact (k .record-at2 .result) (rows from-above (outer from-above))
   above-row = edge-row from-above (k .before .before .before .before .if2 .taken) (outer from-above) (above-edge (k .before .before) .exact (k .record-at2 .ensures))
 
+  above-slab : Less (k .before .before .before .before .before .before .record-at .result) (k .record-at2 .result) (slab-sums from-above)
+  above-slab = less-slab from-above (corner-row (k .before .before .before .before)) above-row
+
 less-requires : tie.Need-less-requires
-less-requires c κs = slab-covers (view (from-above c)) (from-above c .pre .0 .1) (from-above c .args .dimension) (from-above c .args .bin) (corner-row (c .before .before .before .before)) (above-row c)
+less-requires c κs = above-slab c .covers
 
 returns-3 : tie.Need-returns-3
-returns-3 c =
-    let s = from-above (c .before) in
-    slab-is (view s) (s .pre .0 .1) (s .args .dimension) (s .args .bin) (corner-row (c .before .before .before .before .before)) (above-row (c .before)) (c .less .ensures)
+unfolding statsOf
+returns-3 c = above-slab (c .before) .exact (c .less .ensures) .is
 
 -- ---- any other box
 module _ (k : tie.Else2) where
@@ -217,7 +224,8 @@ module _ (k : tie.After-less2) where
   the-row = first-row (k .before) .exact (k .less2 .ensures)
 
 returns-4 : tie.Need-returns-4
-returns-4 c = edge-slab (from-row (c .before .before)) (c .if4 .taken) (the-row (c .before .before))
+unfolding statsOf
+returns-4 c = edge-slab (from-row (c .before .before)) (c .if4 .taken) (the-row (c .before .before)) .is
 
 module _ (k : tie.Else4) where
   abbrev from-both : tie.Start
@@ -269,15 +277,15 @@ module _ (k : tie.After-less3) where
   row-above : Exact (k .less3 .result) (rows from-second (outer from-second))
   row-above = second-row (k .before) .exact (k .less3 .ensures)
 
+  the-slab : Less (k .before .before .before .before .before .before .before .less2 .result) (k .less3 .result) (slab-sums from-second)
+  the-slab = less-slab from-second (the-row (k .before .before .before .before .before .before .before)) row-above
+
 less-requires-4 : tie.Need-less-requires-4
-less-requires-4 c κs =
-    let s = from-second c in
-    slab-covers (view s) (s .pre .0 .1) (s .args .dimension) (s .args .bin) (the-row (c .before .before .before .before .before .before .before)) (row-above c)
+less-requires-4 c κs = the-slab c .covers
 
 returns-5 : tie.Need-returns-5
-returns-5 c =
-    let s = from-second (c .before) in
-    slab-is (view s) (s .pre .0 .1) (s .args .dimension) (s .args .bin) (the-row (c .before .before .before .before .before .before .before .before)) (row-above (c .before)) (c .less4 .ensures)
+unfolding statsOf
+returns-5 c = the-slab (c .before) .exact (c .less4 .ensures) .is
 
 pub sums-before-spec : {M : Type 1} → statement M
 sums-before-spec =
