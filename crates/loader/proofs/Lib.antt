@@ -7,3 +7,4 @@ pub mod Laws
 pub mod Order
 pub mod Worked
 pub mod Ran
+pub mod Batches

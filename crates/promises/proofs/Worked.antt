@@ -13,6 +13,7 @@ use Rattle.grid.specs.Grid.{choose, shiftAt, gridWith, gridOf, gridAnswer, onGr
 use Rattle.table.specs.Cell.{wide, wideList}
 use Rattle.table.specs.Sound.{between, inBounds, spanAt, binSound, total, sound}
 use Rattle.loader.specs.Load.{share, adds, sumOver, weightOf, loaded, weightedAt, batchOf, loadNumberOn, loadNumber, loadLater}
+use Rattle.loader.proofs.Order.{tableOf}
 use Rattle.sums.specs.Box.{minAt, maxAt, sum3, binSum, boxSum, statsOf, lowSide, highSide}
 use Rattle.sums.specs.Moments.{belowSum, momentsOf}
 use Rattle.spread.specs.Spread.{quotientOf, oneBin, spreadOf, scoreOf}
@@ -40,9 +41,9 @@ unfolding loadsOf tableAfter positionIn lentTo outcome times empties plain weigh
     lib.Ieee.ofInt lib.Ieee.mul lib.Ieee.add lib.Ieee.sub lib.Ieee.div lib.Ieee.neg lib.Ieee.lt lib.Ieee.le lib.Ieee.round lib.Ieee.size lib.Ieee.span lib.Ieee.climb lib.Ieee.units lib.Ieee.odd lib.Ieee.sum lib.Ieee.eq lib.Count.trailingZeros
 worked = refl
 
--- the example of the listing program: what its four pixels add to a table of zeros
-pub four-added : wideList (binsOf grid8) (loaded grid8 (batchOf fourPixels false []) (λ p j. 0)) ≡ fourTable
-unfolding fourPixels fourTable listFrom binOf choose shiftAt binsOf placeOf binAt colourPlace colourAt wideList share adds sumOver loaded weightedAt batchOf
+-- the example of the listing program: the table of its four pixels
+pub four-added : tableOf grid8 (batchOf fourPixels false []) ≡ fourTable
+unfolding fourPixels fourTable tableOf listFrom binOf choose shiftAt binsOf placeOf binAt colourPlace colourAt wideList share adds sumOver loaded weightedAt batchOf
 four-added = refl
 
 -- what holds of the whole table holds of each case in it
