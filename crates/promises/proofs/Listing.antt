@@ -1,7 +1,8 @@
--- The listing program (document 01, "The listing program"): its example, and that a refusal is all that is written.
+-- The listing program (document 01, "The listing program"): its example, that a refusal is all that is written, and that the batches
+-- in which its input comes are no matter.
 -- Assumes nothing.
-use mathlib.Core.Path.{_≡_, refl, sym, ap, subst, _∙_}
-use mathlib.Core.Bool.{Bool, true, false, cond, true≢false}
+use mathlib.Core.Path.{_≡_, refl, sym, ap, _∙_}
+use mathlib.Core.Bool.{true, false, cond, true≢false}
 use mathlib.Core.List.{List, [], _∷_, _++_, append-assoc, append-nil}
 use Prim.Native.Nat.{ℕ, zero, suc, _+_, _-_, _*_, _/_, _%_, _≤_, _<_}
 use native.Mathlib.Nat.{lt-of-not-le}
@@ -12,7 +13,6 @@ use lib.Dec.{ltb, lit<, lit≤}
 use lib.ListN.{length, getD, replicate, length-replicate, length-append, List·getD-append}
 use lib.Pow.{areBytes}
 use lib.Seq.{getD-append-add}
-use Rattle.grid.specs.declared.Grid.{Grid}
 use Rattle.grid.specs.declared.Chosen.the-variants.{Of}
 use Rattle.grid.specs.Answer.{whenDone}
 use Rattle.grid.specs.Range.{listFrom, sumFrom}
@@ -26,7 +26,6 @@ use Rattle.table.proofs.Cells.{wide-at}
 use Rattle.loader.specs.Load.{Weighted, weightOf, batchOf, loadNumber, loadLater}
 use Rattle.loader.proofs.Loading.{AllBytes}
 use Rattle.loader.proofs.Parts.{batch-weight, all-bytes-of}
-use Rattle.loader.proofs.Calls.{load-not-threes, load-length, load-unsound, load-over, load-done}
 use Rattle.loader.proofs.Order.{tableOf, bytes-append, weight-append, table-holds, table-total, table-sound, empty-table}
 use Rattle.loader.proofs.Batches.{batch-none, batch-append, load-stray, load-fits, load-passes}
 use Rattle.sums.specs.Box.{minAt, maxAt, sum3, binSum, boxSum, statsOf, lowSide, highSide}
@@ -51,34 +50,6 @@ use Rattle.promises.proofs.Worked.{four-added}
 is-grid8 : gridOf 8 8 8 ≡ Of grid8
 unfolding choices shiftIn shiftOf gridWith gridOf
 is-grid8 = refl
-
--- no load of the program's gives 1 or 2
-data Number (n : ℕ) : Type 0 where
-  none : n ≡ 0 → Number n
-  high : 3 ≤ n → Number n
-
-load-number : (t bytes : List ℕ) → Number (partNumber t bytes)
-unfolding partNumber
-load-number t bytes = threes (ℕ-discrete (length bytes % 3) 0)
-  where
-    gives : {n m : ℕ} → 3 ≤ n → n ≡ m → Number m
-    gives h e = high (omega arith)
-
-    fits : (whole : length bytes % 3 ≡ 0) (lent : length t ≡ 5 * binsOf grid8) → sound limit grid8 (wide t) ≡ true → Dec (total grid8 (wide t) + weightOf (batchOf bytes false []) ≤ limit) → Number (loadNumber 8 8 8 t bytes false [])
-    fits whole lent s (yes h) = none (sym (load-done 8 8 8 t bytes false [] is-grid8 whole refl lent s h refl .0))
-    fits whole lent s (no h) = gives (lit≤ tt) (load-over 8 8 8 t bytes false [] is-grid8 whole refl lent s (lt-of-not-le h) .0)
-
-    judged : (whole : length bytes % 3 ≡ 0) (lent : length t ≡ 5 * binsOf grid8) (b : Bool) → sound limit grid8 (wide t) ≡ b → Number (loadNumber 8 8 8 t bytes false [])
-    judged whole lent true e = fits whole lent e (decLe _ _)
-    judged whole lent false e = gives (lit≤ tt) (load-unsound 8 8 8 t bytes false [] is-grid8 whole refl lent e .0)
-
-    lengths : (whole : length bytes % 3 ≡ 0) → Dec (length t ≡ 5 * binsOf grid8) → Number (loadNumber 8 8 8 t bytes false [])
-    lengths whole (yes e) = judged whole e _ refl
-    lengths whole (no n) = gives (lit≤ tt) (load-length 8 8 8 t bytes false [] is-grid8 whole refl n .0)
-
-    threes : Dec (length bytes % 3 ≡ 0) → Number (loadNumber 8 8 8 t bytes false [])
-    threes (yes e) = lengths e (ℕ-discrete (length t) (5 * binsOf grid8))
-    threes (no n) = gives (lit≤ tt) (load-not-threes 8 8 8 t bytes false [] is-grid8 n .0)
 
 -- ---- one load of a whole input
 pixels : (bytes : List ℕ) → weightOf (batchOf bytes false []) ≡ length bytes / 3
@@ -259,42 +230,6 @@ only-refused batches {n} e =
     let s = afterAll atFirst batches in
     text-refused (s .number) (s .table) (λ z. not-both z e) ∙ ap refusedOf e
 
-lower-number : (n m : ℕ) → Number n → Number m → Number (lowerOf n m)
-unfolding lowerOf
-lower-number zero m p q = q
-lower-number (suc n) zero p q = p
-lower-number (suc n) (suc m) (none e) q = absurd (omega arith)
-lower-number (suc n) (suc m) (high h) (none e) = absurd (omega arith)
-lower-number (suc n) (suc m) (high h) (high l) = high (omega arith)
-
-all-numbers : (s : Progress) → Number (s .number) → (batches : List (List ℕ)) → Number (afterAll s batches .number)
-unfolding afterAll afterBatch
-all-numbers s p [] = p
-all-numbers s p (b ∷ bs) = all-numbers (afterBatch s b) (lower-number (s .number) _ p (load-number (s .table) b)) bs
-
-lower-3 : {n : ℕ} → Number n → lowerOf n 3 ≡ 3
-lower-3 {n} (none e) = sym (lower-first n 3 e)
-lower-3 {n} (high h) = go (decLe n 3)
-  where
-    go : Dec (n ≤ 3) → lowerOf n 3 ≡ 3
-    go (yes l) = let e : n ≡ 3 = omega arith in sym (lower-same n 3 (λ z. omega arith) l) ∙ e
-    go (no l) = sym (lower-other n 3 (λ z. omega arith) (lt-of-not-le l))
-
-after-last : (s : Progress) (batches : List (List ℕ)) (last : List ℕ) → afterAll s (batches ++ last ∷ []) ≡ afterBatch (afterAll s batches) last
-unfolding afterAll
-after-last s [] last = refl
-after-last s (b ∷ bs) last = after-last (afterBatch s b) bs last
-
--- "stray bytes at the end give 3", whatever came before them
-pub stray-bytes : (batches : List (List ℕ)) (last : List ℕ) → (length last % 3 ≡ 0 → ⊥) → writtenFor (batches ++ last ∷ []) ≡ refused3
-unfolding refused3 refusedOf refusedWord newline decimalOf digitsWithin atFirst afterBatch partNumber
-stray-bytes batches last n =
-    only-refused (batches ++ last ∷ [])
-    (ap (λ (s : Progress). s .number) (after-last atFirst batches last) ∙ is-3 (afterAll atFirst batches) (all-numbers atFirst (none refl) batches))
-  where
-    is-3 : (s : Progress) → Number (s .number) → afterBatch s last .number ≡ 3
-    is-3 s p = ap (lowerOf (s .number)) (sym (load-not-threes 8 8 8 (s .table) last false [] is-grid8 n .0)) ∙ lower-3 p
-
 -- "no input gives 8"
 pub no-input : writtenFor ([] ∷ []) ≡ refused8
 unfolding refused8 refusedOf refusedWord newline decimalOf digitsWithin
@@ -354,13 +289,20 @@ module _ (s : Progress) (seen : List ℕ) (r : Reached s seen) (whole : length s
   was : length seen / 3 ≤ limit → (s .number ≡ 0) × (s .table ≡ tableOf grid8 (batchOf seen false []))
   was h = let e = r .number ∙ all-fit seen whole h .0 in (e, r .table e ∙ all-fit seen whole h .1)
 
+  was-7 : limit < length seen / 3 → s .number ≡ 7
+  was-7 h = r .number ∙ all-over seen whole h
+
   stray : (length batch % 3 ≡ 0 → ⊥) → Reached next (seen ++ batch)
   stray n =
       let l = load-stray 8 8 8 is-grid8 (r .colours) (r .bytes) (r .few) batch [] n in
       refusal 2
-      (loads (r .holds) (l .0) ∙ lower-3 (subst Number (sym (r .number)) (load-number emptyTable seen)))
+      (loads (r .holds) (l .0) ∙ sym (lower (decLe (length seen / 3) limit)))
       (all-stray (seen ++ batch) (λ e. n (omega (arith, size))))
       (r .colours) (r .bytes) (r .few) (leaves (r .holds) (l .1))
+    where
+      lower : Dec (length seen / 3 ≤ limit) → 3 ≡ lowerOf (s .number) 3
+      lower (yes h) = lower-first (s .number) 3 (was h .0)
+      lower (no h) = lower-other (s .number) 3 (λ z. omega arith) (omega (arith, was-7 (lt-of-not-le h)))
 
   module _ (in-threes : length batch % 3 ≡ 0) where
     both-whole : length (seen ++ batch) % 3 ≡ 0
@@ -400,20 +342,17 @@ module _ (s : Progress) (seen : List ℕ) (r : Reached s seen) (whole : length s
       over-before : limit < length seen / 3 → Reached next (seen ++ batch)
       over-before k = go (decLe (weightOf (r .colours) + length batch / 3) limit)
         where
-          was-7 : s .number ≡ 7
-          was-7 = r .number ∙ all-over seen whole k
-
           go : Dec (weightOf (r .colours) + length batch / 3 ≤ limit) → Reached next (seen ++ batch)
           go (yes f) =
               let l = load-fits 8 8 8 is-grid8 (r .colours) (r .bytes) (r .few) batch [] in-threes f in
               refusal 6
-              (loads (r .holds) (l .0) ∙ sym (lower-second (s .number) 0 refl) ∙ was-7)
+              (loads (r .holds) (l .0) ∙ sym (lower-second (s .number) 0 refl) ∙ was-7 k)
               over-all
               (r .colours ++ batchOf batch false []) (bytes-append (r .colours) (batchOf batch false []) (r .bytes) more) (omega (arith, weight-append (r .colours) (batchOf batch false []), pixels batch)) (leaves (r .holds) (l .1))
           go (no f) =
               let l = load-passes 8 8 8 is-grid8 (r .colours) (r .bytes) (r .few) batch [] in-threes (lt-of-not-le f) in
               refusal 6
-              (loads (r .holds) (l .0) ∙ sym (lower-same (s .number) 7 (λ z. not-both z was-7) (omega (arith, was-7))) ∙ was-7)
+              (loads (r .holds) (l .0) ∙ sym (lower-same (s .number) 7 (λ z. not-both z (was-7 k)) (omega (arith, was-7 k))) ∙ was-7 k)
               over-all
               (r .colours) (r .bytes) (r .few) (leaves (r .holds) (l .1))
 
@@ -447,6 +386,11 @@ reached-all s seen r w (b ∷ bs) y =
     rw (← append-assoc seen b (readIn bs))
     (reached-all (afterBatch s b) (seen ++ b) (reaches s seen r w b (y .1)) (omega (arith, length-append seen b, w, y .0)) bs (y .2))
 
+after-last : (s : Progress) (batches : List (List ℕ)) (last : List ℕ) → afterAll s (batches ++ last ∷ []) ≡ afterBatch (afterAll s batches) last
+unfolding afterAll
+after-last s [] last = refl
+after-last s (b ∷ bs) last = after-last (afterBatch s b) bs last
+
 same-text : (n m : ℕ) (t u : List ℕ) → n ≡ m → (n ≡ 0 → t ≡ u) → textOf n t ≡ textOf m u
 same-text zero m t u e f = λ i. textOf (e i) (f refl i)
 same-text (suc n) m t u e f = text-refused (suc n) t (λ z. not-both z refl) ∙ ap refusedOf e ∙ sym (text-refused m u (λ z. not-both z (sym e)))
@@ -458,3 +402,11 @@ any-batches batches last w are =
     let before = reached-all atFirst [] reached-first refl batches w in
     let r = reaches (afterAll atFirst batches) (readIn batches) (before .0) (before .1) last are in
     ap (λ (s : Progress). textOf (s .number) (s .table)) (after-last atFirst batches last) ∙ same-text _ _ _ _ (r .number) (r .table)
+
+-- "stray bytes at the end give 3"
+pub stray-bytes : (batches : List (List ℕ)) (last : List ℕ) → WholePixels batches → ((k : ℕ) → getD last k 0 < 256) → (length last % 3 ≡ 0 → ⊥) → writtenFor (batches ++ last ∷ []) ≡ refused3
+unfolding refused3 refusedOf refusedWord newline decimalOf digitsWithin afterAll afterBatch atFirst lowerOf
+stray-bytes batches last w are n =
+    let before : length (readIn batches) % 3 ≡ 0 = reached-all atFirst [] reached-first refl batches w .1 in
+    any-batches batches last w are
+    ∙ only-refused ((readIn batches ++ last) ∷ []) (all-stray (readIn batches ++ last) (λ e. n (omega (arith, length-append (readIn batches) last, before))))
