@@ -16,11 +16,11 @@ unfoldable pub emptyTable : List ℕ
 emptyTable = replicate (5 * (8 * 8 * 8)) 0
 
 -- the number of a load of some bytes without weights, and the table then
-unfoldable pub loadsTo : List ℕ → List ℕ → ℕ
-loadsTo t bytes = loadNumber 8 8 8 t bytes false []
+unfoldable pub partNumber : List ℕ → List ℕ → ℕ
+partNumber t bytes = loadNumber 8 8 8 t bytes false []
 
-unfoldable pub leftBy : List ℕ → List ℕ → List ℕ
-leftBy t bytes = loadLater 8 8 8 t bytes false []
+unfoldable pub partLater : List ℕ → List ℕ → List ℕ
+partLater t bytes = loadLater 8 8 8 t bytes false []
 
 -- the lower of two numbers, of which 0 is none
 unfoldable pub lowerOf : ℕ → ℕ → ℕ
@@ -29,12 +29,12 @@ lowerOf (suc n) zero = suc n
 lowerOf (suc n) (suc m) = min (suc n) (suc m)
 
 -- a batch whose first bytes are filled: the lowest number so far, and that another one may follow where it is full
-unfoldable pub loadedWith : List ℕ → List ℕ → ℕ → ℕ → Loaded
-loadedWith t batch filled lowest =
-    record { number = lowerOf lowest (loadsTo t (take filled batch)); more = eqb filled (length batch) }
+unfoldable pub batchAnswer : List ℕ → List ℕ → ℕ → ℕ → Loaded
+batchAnswer t batch filled lowest =
+    record { number = lowerOf lowest (partNumber t (take filled batch)); more = eqb filled (length batch) }
 
-unfoldable pub tableWith : List ℕ → List ℕ → ℕ → List ℕ
-tableWith t batch filled = leftBy t (take filled batch)
+unfoldable pub batchLater : List ℕ → List ℕ → ℕ → List ℕ
+batchLater t batch filled = partLater t (take filled batch)
 
 -- ---- ".. k=16": the text for the table that was loaded
 -- what a cut is lent, as long as it has to be

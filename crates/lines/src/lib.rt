@@ -8,7 +8,7 @@ ghost use Prim.Native.Nat.{_+_, _*_, _%_, _≤_, _<_};
 ghost use lib.ListN.{length};
 ghost use Rattle.lines.specs.Text.{decimalOf, fieldOf, headOf, lineOf, lineAt, totalOf, listingOf, refusedOf, withText, lineRoom, Lent};
 ghost use Rattle.lines.specs.Put.{Put};
-ghost use Rattle.lines.specs.Listing.{lowerOf, emptyTable, loadedWith, tableWith, cutText, textOf, textRoom, Filled};
+ghost use Rattle.lines.specs.Listing.{lowerOf, emptyTable, batchAnswer, batchLater, cutText, textOf, textRoom, Filled};
 
 // ---- Loading
 
@@ -41,8 +41,8 @@ pub struct Loaded {
 // Loads the filled front of a batch. A refusal does not end the input: what follows may have a lower number.
 pub fn load_batch(table: &mut [u64], batch: &[u8], filled: usize, lowest: u8) -> Loaded
     requires { ⌜ Filled (now batch) filled ⌝ }
-    ensures { λ r. ⌜ r ≡ loadedWith (now (table .entry)) (now (batch .entry)) filled lowest ⌝ }
-    ensures { λ r. ⌜ now (table .exit) ≡ tableWith (now (table .entry)) (now (batch .entry)) filled ⌝ }
+    ensures { λ r. ⌜ r ≡ batchAnswer (now (table .entry)) (now (batch .entry)) filled lowest ⌝ }
+    ensures { λ r. ⌜ now (table .exit) ≡ batchLater (now (table .entry)) (now (batch .entry)) filled ⌝ }
 {
     let number = load(8, 8, 8, table, &batch[0..filled], false, &[0; 0]);
     Loaded {

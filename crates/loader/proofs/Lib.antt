@@ -8,3 +8,4 @@ pub mod Order
 pub mod Worked
 pub mod Ran
 pub mod Weightless
+pub mod Batches

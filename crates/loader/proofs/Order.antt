@@ -24,7 +24,7 @@ use Rattle.table.proofs.Soundness.{zeros-sound, zeros-total, sound-same, total-
 use Rattle.loader.proofs.Loading.{AllBytes, over-append, over-perm, load-total, load-sound}
 use Rattle.loader.proofs.Parts.{all-bytes-of}
 
-bytes-append : (cs ds : List Weighted) → AllBytes cs → AllBytes ds → AllBytes (cs ++ ds)
+pub bytes-append : (cs ds : List Weighted) → AllBytes cs → AllBytes ds → AllBytes (cs ++ ds)
 bytes-append [] ds b c = c
 bytes-append (x ∷ cs) ds b c = (b .0, bytes-append cs ds (b .1) c)
 
@@ -41,7 +41,7 @@ module _ (g : Grid) where
   append-at cs ds p j = omega (arith, over-append cs ds (λ c. adds g c p j))
 
   -- a batch loaded into the table of some colours, and two such tables merged
-  load-table : (cs ds : List Weighted) → wideList (binsOf g) (loaded g ds (wide (tableOf g cs))) ≡ tableOf g (cs ++ ds)
+  pub load-table : (cs ds : List Weighted) → wideList (binsOf g) (loaded g ds (wide (tableOf g cs))) ≡ tableOf g (cs ++ ds)
   unfolding tableOf loaded
   load-table cs ds =
       holds-list
@@ -99,7 +99,7 @@ module _ (b1 b2 b3 : ℕ) {g : Grid} (e : gridOf b1 b2 b3 ≡ chosen.Of g) where
   bins-are = let c = chose b1 b2 b3 g e in λ i. c .one i * c .two i * c .three i
 
   -- zeros, as a caller lends them
-  empty-table : replicate (5 * (b1 * b2 * b3)) 0 ≡ tableOf g []
+  pub empty-table : replicate (5 * (b1 * b2 * b3)) 0 ≡ tableOf g []
   unfolding tableOf loaded sumOver
   empty-table =
       holds-list

@@ -8,9 +8,9 @@ use Rattle.grid.specs.Answer.{refuse, whenDone}
 use Rattle.grid.specs.Range.{listFrom, sumFrom, allFrom}
 use Rattle.grid.specs.Size.{choices, shiftIn, shiftOf, binOf, spanOf}
 use Rattle.grid.specs.Grid.{choose, shiftAt, gridWith, gridOf, gridAnswer, onGrid, numberOn, binsOf, placeOf, binAt, colourPlace, colourAt}
-use Rattle.table.specs.Cell.{zeros, wide, wideList}
+use Rattle.table.specs.Cell.{wide, wideList}
 use Rattle.table.specs.Sound.{between, inBounds, spanAt, binSound, total, sound}
-use Rattle.loader.specs.Load.{share, adds, sumOver, weightOf, loaded, weightedAt, batchOf, loadNumberOn, loadNumber, loadLater}
+use Rattle.loader.specs.Load.{share, adds, sumOver, weightOf, loaded, tableOf, weightedAt, batchOf, loadNumberOn, loadNumber, loadLater}
 use Rattle.sums.specs.Box.{minAt, maxAt, sum3, binSum, boxSum, statsOf, lowSide, highSide}
 use Rattle.sums.specs.Moments.{belowSum, momentsOf}
 use Rattle.spread.specs.Spread.{quotientOf, oneBin, spreadOf, scoreOf}
@@ -42,7 +42,7 @@ worked = refl
 pub each-worked : {c : Case} → List·Memᴰ c cases → outcome c ≡ c .expected
 each-worked m = each outcome (λ c. c .expected) cases worked m
 
--- the example of the listing program: what its four pixels add to a table of zeros
-pub four-added : wideList (binsOf grid8) (loaded grid8 (batchOf fourPixels false []) zeros) ≡ fourTable
-unfolding fourPixels fourTable listFrom binOf choose shiftAt binsOf placeOf binAt colourPlace colourAt wideList share adds sumOver loaded weightedAt batchOf
+-- the example of the listing program: the table of its four pixels
+pub four-added : tableOf grid8 (batchOf fourPixels false []) ≡ fourTable
+unfolding fourPixels fourTable tableOf listFrom binOf choose shiftAt binsOf placeOf binAt colourPlace colourAt wideList share adds sumOver loaded weightedAt batchOf
 four-added = refl

@@ -1,10 +1,11 @@
 -- The listing program over its whole input (document 01, "The listing program"), by the definitions of the contracts of `lines`: what
 -- was read so far, batch by batch, and what is then written. Definitions only.
+use mathlib.Core.Path.{_≡_}
 use mathlib.Core.List.{List, [], _∷_, _++_}
-use Prim.Native.Nat.{ℕ}
-use lib.ListN.{replicate}
+use Prim.Native.Nat.{ℕ, _%_, _<_}
+use lib.ListN.{length, getD, replicate}
 use Rattle.grid.specs.declared.Grid.{Grid}
-use Rattle.lines.specs.Listing.{emptyTable, loadsTo, leftBy, lowerOf, textOf}
+use Rattle.lines.specs.Listing.{emptyTable, partNumber, partLater, lowerOf, textOf}
 
 -- between two batches: the lowest number of the loads so far, 0 where none was refused, and the table
 pub record Progress : Type 0 where
@@ -15,7 +16,7 @@ unfoldable pub atFirst : Progress
 atFirst = record { number = 0; table = emptyTable }
 
 unfoldable pub afterBatch : Progress → List ℕ → Progress
-afterBatch s batch = record { number = lowerOf (s .number) (loadsTo (s .table) batch); table = leftBy (s .table) batch }
+afterBatch s batch = record { number = lowerOf (s .number) (partNumber (s .table) batch); table = partLater (s .table) batch }
 
 unfoldable pub afterAll : Progress → List (List ℕ) → Progress
 afterAll s [] = s
@@ -24,6 +25,17 @@ afterAll s (batch ∷ rest) = afterAll (afterBatch s batch) rest
 -- the text that is written for an input that came in these batches
 unfoldable pub writtenFor : List (List ℕ) → List ℕ
 writtenFor batches = let s = afterAll atFirst batches in textOf (s .number) (s .table)
+
+-- ---- "in batches"
+-- batches of bytes that split no pixel
+abbrev pub WholePixels : List (List ℕ) → Type 0
+WholePixels [] = Unit {0}
+WholePixels (batch ∷ rest) = (length batch % 3 ≡ 0) × ((k : ℕ) → getD batch k 0 < 256) × WholePixels rest
+
+-- what was read in these batches
+unfoldable pub readIn : List (List ℕ) → List ℕ
+readIn [] = []
+readIn (batch ∷ rest) = batch ++ readIn rest
 
 -- ---- document 01's example
 -- "four pixels, one black and then three white"

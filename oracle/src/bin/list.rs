@@ -17,7 +17,9 @@ fn main() {
     };
     let k = PaletteSize::new(16).expect("k");
     let judge = original([8, 8, 8]).expect("a grid of the judge");
-    let answer = (judge.told)(&input, k, true, &[]).expect("some pixels").answer;
+    let answer = (judge.told)(&input, k, true, &[])
+        .expect("some pixels")
+        .answer;
 
     println!("boxes {} total {}", answer.palette.len(), input.total());
     for (i, ([r, g, b], n)) in answer.palette.iter().zip(&answer.counts).enumerate() {

@@ -8,7 +8,7 @@ use borrow.Author.Needs.{needs}
 use denote.Ref.{now}
 use lib.Dec.{eqb}
 use lib.ListN.{length, take}
-use Rattle.lines.specs.Listing.{lowerOf, loadsTo, leftBy, loadedWith, tableWith}
+use Rattle.lines.specs.Listing.{lowerOf, partNumber, partLater, batchAnswer, batchLater}
 use Rattle.lines.proofs.load_batch.Statement.{statement}
 use Rattle.lines.proofs.load_batch.Tie as tie
 
@@ -34,13 +34,13 @@ same-length : tie.Need-same-length
 same-length c = search needs
 
 returns : tie.Need-returns
-unfolding loadsTo leftBy loadedWith tableWith
+unfolding partNumber partLater batchAnswer batchLater
 returns c =
     let a = c .before .before .before .before .before .before .before .before .before .args in
     let load = c .before .before .before .load .ensures in
     let front : ℕ → List ℕ = λ n. take n (now (a .batch)) in
-    let number = c .lower .ensures ∙ ap (lowerOf (a .lowest)) (load .0 ∙ ap (λ (n : ℕ). loadsTo (now (a .table)) (front n)) (sub-zero (a .filled))) in
-    (λ i. record { number = number i; more = eqb (a .filled) (length (now (a .batch))) }, load .1 ∙ ap (λ (n : ℕ). leftBy (now (a .table)) (front n)) (sub-zero (a .filled)))
+    let number = c .lower .ensures ∙ ap (lowerOf (a .lowest)) (load .0 ∙ ap (λ (n : ℕ). partNumber (now (a .table)) (front n)) (sub-zero (a .filled))) in
+    (λ i. record { number = number i; more = eqb (a .filled) (length (now (a .batch))) }, load .1 ∙ ap (λ (n : ℕ). partLater (now (a .table)) (front n)) (sub-zero (a .filled)))
 
 pub load-batch-spec : {M : Type 1} → statement M
 load-batch-spec =
