@@ -1,11 +1,12 @@
 /*
  * Seluvava: a colour quantizer by Wu's method of 1992.
  *
- * PROVED is, of the code in the archive: what each call answers and what every lent buffer holds afterwards, refusals
- * too; that it reads and writes nothing else; and that it ends without a fault, whatever the numbers and the contents.
- * MEASURED is how much stack a call takes, and that flush modes change no answer (tests/). BY HAND stand the
- * declarations below, which no proof reads: the tests in C go by them, and the archive exports just these names.
- * WHAT A CALLER SEES TO stands under LENT BUFFERS and ROUNDING: no call can test it.
+ * PROVED is, of the source that the archive is compiled from: what each call answers and what every lent buffer holds
+ * afterwards, refusals too; that it reads and writes nothing else; and that it ends without a fault, whatever the
+ * numbers and the contents. The compiler behind the proof is believed. MEASURED is how much stack a call takes, and
+ * that flush modes change no answer (tests/). BY HAND stand the declarations below, which no proof reads: the tests in C
+ * go by them, and the archive exports just these names. WHAT A CALLER SEES TO stands under LENT BUFFERS and ROUNDING:
+ * no call can test it.
  *
  * load counts colours into a table, merge adds a second table into a first, cut makes of a table a palette of at
  * most 256 colours and a map to it, and map and paint take the pixels of a frame to that palette.
@@ -75,7 +76,7 @@ size_t seluvava_numbers(size_t b1, size_t b2, size_t b3);
 /*
  * Load: adds colours to a table. A colour c1, c2, c3 of weight w adds, in its bin, w to n, w * c to each sum and
  * w * (c1*c1 + c2*c2 + c3*c3) to the squares. Weight 0 adds nothing; no colours at all change nothing. In whatever
- * order and batches the same colours are loaded, the table is the same.
+ * order and batches the same colours are loaded, the table is the same, as long as none is refused.
  *
  *   table     5 * bins numbers, sound. Changed.
  *   colours   three bytes per colour.
@@ -120,8 +121,8 @@ struct seluvava_cut_answer {
  *   boxes     at least 6 * k bytes. Box i's bins, from 6 * i on: r0, r1, g0, g1, b0, b1, where r0 is the first bin in
  *             the first dimension and r1 the first that is not, and so on.
  *   spreads   at least k. Box i's spread, at place i: squares - (c1*c1 + c2*c2 + c3*c3) / n of its sums, each whole
- *             number first turned into double, each operation rounded once; 0.0 for a box of one bin, or one found
- *             impossible to cut; infinity at k = 1.
+ *             number first turned into double, each operation rounded once, so that it can lie slightly below 0;
+ *             0.0 for a box of one bin, or one found impossible to cut; infinity at k = 1.
  *
  * Of palette, counts, boxes and spreads, places past the last box stay as they were.
  * Answers 0, 1, 2, 5, 6, 8.

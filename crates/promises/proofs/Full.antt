@@ -53,7 +53,7 @@ module _ (b1 b2 b3 k : ℕ) (t : List ℕ) (b : Buffers) {g : Grid} (e : gridOf 
           some = omega (arith, some, table-total g a (leaves p) bytes);
         }))
 
-    -- as many boxes as the smaller of k and the occupied bins, at every total from 1 on; document 01 asks for those up to 200,000
+    -- as many boxes as the smaller of k and the occupied bins, at every total from 1 on; demand 3 asks for those up to 200,000
     pub full-loaded : Lends g k b → 0 < weightOf (leaves p) → cutRecord b1 b2 b3 k t b .boxes ≡ min k (occupiedBins g t)
     full-loaded l some =
         let fits = ran-table b1 b2 b3 e p y ran in

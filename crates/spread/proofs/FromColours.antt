@@ -216,7 +216,7 @@ module _ {g : Grid} (a : Accepted g) (cs : List Weighted) (b : AllBytes cs) wher
             (two-colours (p .member) (q .member) (unlike (p .binned) (q .binned) n))));
       }
 
-  -- and of the totals of document 01
+  -- and of totals up to 200,000, which demand 3 asks for
   pub few-colours : weightOf cs ≤ 200000 → SpreadsAbove g (loaded g cs zeros)
   few-colours few = from-colours (le-trans few (lit≤ tt))
 
