@@ -16,7 +16,8 @@ ghost use Rattle.lines.specs.Listing.{lowerOf, emptyTable, batchAnswer, 
 pub fn empty_table() -> [u64; 2560]
     ensures { λ r. ⌜ r ≡ emptyTable ⌝ }
 {
-    [0; 2560]
+    let zeros = [0; 2560];
+    zeros
 }
 
 // The lower of two numbers, of which 0 is none.
