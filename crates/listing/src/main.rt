@@ -5,6 +5,7 @@ use libc::STDIN_FILENO;
 use libc::STDOUT_FILENO;
 ghost use Prim.Native.Nat.{_+_, _≤_};
 ghost use lib.ListN.{length};
+ghost use Rattle.lines.specs.Reading.{progress, Came, AllCame};
 
 // ---- Reading
 
@@ -57,7 +58,9 @@ struct Progress {
 }
 
 // Loads the next 16,384 pixels. A batch that is not full is the last one, and so is one whose reading failed.
-fn load_next(table: &mut [u64], lowest: u8) -> Progress {
+fn load_next(table: &mut [u64], lowest: u8) -> Progress
+    ensures { λ r. ⌜ Came (progress lowest (now (table .entry))) (progress (r .number) (now (table .exit))) (r .more) ⌝ }
+{
     let mut space = [0; 49152];
     let batch = fill(&mut space);
     let loaded = lines::load_batch(table, &space, batch.bytes, lowest);
@@ -70,8 +73,14 @@ fn load_next(table: &mut [u64], lowest: u8) -> Progress {
 
 // Loads all of the input, past a refusal too, since stray bytes at its end give a lower number than a total that
 // is too large. A proved loop has to end, so it counts its turns down, from a number that no run uses up.
-fn load_all(table: &mut [u64]) -> Progress {
-    let mut so_far = load_next(table, 0);
+fn load_all(table: &mut [u64]) -> Progress
+    ensures { λ r. ⌜ AllCame (progress 0 (now (table .entry))) (progress (r .number) (now (table .exit))) (r .more) ⌝ }
+{
+    let mut so_far = Progress {
+        number: 0,
+        more: true,
+        failed: false,
+    };
     let mut turns = u64::MAX;
     while turns > 0 && so_far.more {
         so_far = load_next(table, so_far.number);

@@ -43,7 +43,9 @@ use Rattle.cutter.proofs.Laws.{record-number, cut-says, cut-accepts}
 use Rattle.lines.specs.Text.{digitsWithin, decimalOf, boxesWord, totalWord, refusedWord, newline, headOf, fieldOf, lineOf, linesOf, totalOf, listingOf, refusedOf}
 use Rattle.lines.specs.Listing.{emptyTable, partNumber, partLater, lowerOf, lentZeros, cutText, textOf}
 use Rattle.lines.proofs.Texts.{lower-first, lower-second, lower-other, lower-same, text-refused, text-cut, cut-refused}
-use Rattle.promises.specs.Listing.{Progress, atFirst, afterBatch, afterAll, writtenFor, WholePixels, readIn, grid8, fourPixels, fourTable, threeLines, refused3, refused8}
+use Rattle.lines.specs.Reading.{Progress, afterBatch, afterAll, AllCame}
+use Rattle.lines.proofs.Reading.{after-last}
+use Rattle.promises.specs.Listing.{atFirst, writtenFor, WholePixels, readIn, grid8, fourPixels, fourTable, threeLines, refused3, refused8}
 use Rattle.promises.proofs.Worked.{four-added}
 
 -- ---- a load on the program's grid
@@ -386,11 +388,6 @@ reached-all s seen r w (b ∷ bs) y =
     rw (← append-assoc seen b (readIn bs))
     (reached-all (afterBatch s b) (seen ++ b) (reaches s seen r w b (y .1)) (omega (arith, length-append seen b, w, y .0)) bs (y .2))
 
-after-last : (s : Progress) (batches : List (List ℕ)) (last : List ℕ) → afterAll s (batches ++ last ∷ []) ≡ afterBatch (afterAll s batches) last
-unfolding afterAll
-after-last s [] last = refl
-after-last s (b ∷ bs) last = after-last (afterBatch s b) bs last
-
 same-text : (n m : ℕ) (t u : List ℕ) → n ≡ m → (n ≡ 0 → t ≡ u) → textOf n t ≡ textOf m u
 same-text zero m t u e f = λ i. textOf (e i) (f refl i)
 same-text (suc n) m t u e f = text-refused (suc n) t (λ z. not-both z refl) ∙ ap refusedOf e ∙ sym (text-refused m u (λ z. not-both z (sym e)))
@@ -402,6 +399,11 @@ any-batches batches last w are =
     let before = reached-all atFirst [] reached-first refl batches w in
     let r = reaches (afterAll atFirst batches) (readIn batches) (before .0) (before .1) last are in
     ap (λ (s : Progress). textOf (s .number) (s .table)) (after-last atFirst batches last) ∙ same-text _ _ _ _ (r .number) (r .table)
+
+-- and that is the text which the program's loop over its input leads to: "in batches", of which only the last can split a pixel
+pub came-written : {s : Progress} (c : AllCame atFirst s false) → textOf (s .number) (s .table) ≡ writtenFor (c .batches ++ c .last ∷ [])
+unfolding writtenFor
+came-written c = ap (λ (s : Progress). textOf (s .number) (s .table)) (c .loaded)
 
 -- "stray bytes at the end give 3"
 pub stray-bytes : (batches : List (List ℕ)) (last : List ℕ) → WholePixels batches → ((k : ℕ) → getD last k 0 < 256) → (length last % 3 ≡ 0 → ⊥) → writtenFor (batches ++ last ∷ []) ≡ refused3

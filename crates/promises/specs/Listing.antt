@@ -5,22 +5,12 @@ use mathlib.Core.List.{List, [], _∷_, _++_}
 use Prim.Native.Nat.{ℕ, _%_, _<_}
 use lib.ListN.{length, getD, replicate}
 use Rattle.grid.specs.declared.Grid.{Grid}
-use Rattle.lines.specs.Listing.{emptyTable, partNumber, partLater, lowerOf, textOf}
+use Rattle.lines.specs.Listing.{emptyTable, textOf}
+use Rattle.lines.specs.Reading.{Progress, progress, afterAll}
 
--- between two batches: the lowest number of the loads so far, 0 where none was refused, and the table
-pub record Progress : Type 0 where
-  pub number : ℕ
-  pub table : List ℕ
-
+-- before anything is read
 unfoldable pub atFirst : Progress
-atFirst = record { number = 0; table = emptyTable }
-
-unfoldable pub afterBatch : Progress → List ℕ → Progress
-afterBatch s batch = record { number = lowerOf (s .number) (partNumber (s .table) batch); table = partLater (s .table) batch }
-
-unfoldable pub afterAll : Progress → List (List ℕ) → Progress
-afterAll s [] = s
-afterAll s (batch ∷ rest) = afterAll (afterBatch s batch) rest
+atFirst = progress 0 emptyTable
 
 -- the text that is written for an input that came in these batches
 unfoldable pub writtenFor : List (List ℕ) → List ℕ
