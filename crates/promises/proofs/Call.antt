@@ -19,7 +19,6 @@ use Rattle.cutter.specs.Cut.{boundsOf, listOf, cutNumber, cutRecord, cutLater}
 use Rattle.cutter.proofs.Few.{few, all-places}
 use Rattle.cutter.proofs.Fronts.{length-filled, filled-at, filled-past}
 use Rattle.cutter.proofs.Laws.{record-number}
-use Rattle.seluvava.specs.declared.CutAnswer.{CutAnswer}
 use Rattle.seluvava.specs.Cut.{Lent, boxBytes, spreadOf, told, roomNumber, callNumber, cutAnswer, callLater}
 use Rattle.seluvava.proofs.Boxes.{six, one, told-length}
 use Rattle.seluvava.proofs.Calls.{roomy, room-on, room-enough, in-stages, call-kept, call-has}

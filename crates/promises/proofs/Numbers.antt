@@ -11,7 +11,6 @@ use native.Mathlib.Omega.{arith}
 use borrow.Author.Tests.{eqb-true, eq-eqb, ne-eqb, leb-true, leb-false, le-leb, lt-leb}
 use lib.Dec.{eqb, leb, ltb}
 use lib.ListN.{length}
-use Rattle.grid.specs.declared.Grid.{Grid}
 use Rattle.grid.specs.declared.Chosen.{Chosen}
 use Rattle.grid.specs.declared.Chosen.the-variants as chosen
 use Rattle.grid.specs.Answer.{refuse}
@@ -30,7 +29,7 @@ use Rattle.mapper.specs.Band.{allBelow, bandNumber}
 use Rattle.mapper.specs.Map.{mapNumberOn, mapNumber, mapLater}
 use Rattle.mapper.specs.Paint.{paintNumberOn, paintNumber, paintLater}
 use Rattle.mapper.proofs.Laws.{map-refused, map-says, map-accepts, paint-refused, paint-says, paint-accepts}
-use Rattle.seluvava.specs.Cut.{Lent, hasRoom, allLong, callNumberOn, callNumber}
+use Rattle.seluvava.specs.Cut.{Lent, hasRoom, allLong, callNumberOn, callNumber, cutAnswer}
 use Rattle.promises.specs.Numbers.{Tests, applies, lowestFrom, lowestOf, noGrid, onBins, loadTests, loadApplies, mergeTests, mergeApplies, cutTests, cutApplies, callApplies, bandTests, mapApplies, paintApplies, OnGrid, CanLoad, CanMerge, CanMap, CanPaint}
 
 -- ---- a chain of refusals whose numbers do not descend gives the lowest that applies
@@ -130,8 +129,8 @@ module _ (b1 b2 b3 : ℕ) where
       go (chosen.Of g) = refl
       go chosen.Refused = refl
 
-  pub call-lowest : (k : ℕ) (t : List ℕ) (l : Lent) → callNumber b1 b2 b3 k t l ≡ lowestOf (callApplies b1 b2 b3 k t l)
-  unfolding callNumber callNumberOn allLong callApplies cutTests chain ascends noGrid onBins numberOn onGrid gridAnswer refuse
+  pub call-lowest : (k : ℕ) (t : List ℕ) (l : Lent) → cutAnswer b1 b2 b3 k t l .number ≡ lowestOf (callApplies b1 b2 b3 k t l)
+  unfolding cutAnswer callNumber callNumberOn allLong callApplies cutTests chain ascends noGrid onBins numberOn onGrid gridAnswer refuse
   call-lowest k t l = go (gridOf b1 b2 b3) ∙ lowest (cutTests (gridOf b1 b2 b3) k t (l .buffers) room) 1 (omega arith) refl
     where
       room : Bool

@@ -145,11 +145,13 @@ module _ (b1 b2 b3 k : ℕ) (t : List ℕ) (l : Lent) where
   abbrev Ends : CutAnswer → Lent → Type 0
   Ends r e = (r ≡ cutAnswer b1 b2 b3 k t l) × (e ≡ callLater b1 b2 b3 k t l)
 
+  -- the boxes of a record written out, beside its buffers
+  abbrev written : CutRecord → Buffers → Lent
+  written r b = lent b (filled 6 boxBytes (told r) (l .boxes)) (filled 1 spreadOf (told r) (l .spreads))
+
   -- what a cut with room leaves behind
   abbrev cut : Lent
-  cut =
-      let r = cutRecord b1 b2 b3 k t (l .buffers) in
-      lent (cutLater b1 b2 b3 k t (l .buffers)) (filled 6 boxBytes (told r) (l .boxes)) (filled 1 spreadOf (told r) (l .spreads))
+  cut = written (cutRecord b1 b2 b3 k t (l .buffers)) (cutLater b1 b2 b3 k t (l .buffers))
 
   -- "A refusal .. writes nothing", and tells of no box
   pub call-kept : {n : ℕ} → callNumber b1 b2 b3 k t l ≡ suc n → (cutAnswer b1 b2 b3 k t l ≡ told-of (suc n) 0) × (callLater b1 b2 b3 k t l ≡ l)
@@ -189,12 +191,12 @@ module _ (b1 b2 b3 k : ℕ) (t : List ℕ) (l : Lent) where
             let kept = call-kept {n = m} (same ∙ q) in
             let none = cut-refuses b1 b2 b3 k t (l .buffers) q in (
               ap answer-of (none .0) ∙ sym (kept .0),
-              (λ i. lent (none .1 i) ((ap (λ (r : CutRecord). filled 6 boxBytes (told r) (l .boxes)) (none .0) ∙ filled-none 6 boxBytes six (l .boxes)) i) ((ap (λ (r : CutRecord). filled 1 spreadOf (told r) (l .spreads)) (none .0) ∙ filled-none 1 spreadOf one (l .spreads)) i)) ∙ sym (kept .1),
+              (λ i. written (none .0 i) (none .1 i)) ∙ (λ i. lent (l .buffers) (filled-none 6 boxBytes six (l .boxes) i) (filled-none 1 spreadOf one (l .spreads) i)) ∙ sym (kept .1),
             )
 
     pub call-done : n ≡ 0 → {r : CutRecord} → r ≡ cutRecord b1 b2 b3 k t (l .buffers) → {b : Buffers} {boxes : List ℕ} {spreads : List Float} → b ≡ cutLater b1 b2 b3 k t (l .buffers) → boxes ≡ filled 6 boxBytes (told r) (l .boxes) → spreads ≡ filled 1 spreadOf (told r) (l .spreads) → Ends (answer-of r) (lent b boxes spreads)
     call-done z q later p s =
         let ends = cut-ends z in (
           ap answer-of q ∙ ends .0,
-          (λ i. lent (later i) ((p ∙ ap (λ (r : CutRecord). filled 6 boxBytes (told r) (l .boxes)) q) i) ((s ∙ ap (λ (r : CutRecord). filled 1 spreadOf (told r) (l .spreads)) q) i)) ∙ ends .1,
+          (λ i. lent (later i) (p i) (s i)) ∙ ap (λ (r : CutRecord). written r (cutLater b1 b2 b3 k t (l .buffers))) q ∙ ends .1,
         )

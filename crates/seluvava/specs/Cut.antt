@@ -29,7 +29,7 @@ lent b boxes spreads = record { buffers = b; boxes = boxes; spreads = spreads }
 unfoldable pub hasRoom : ℕ → ℕ → ℕ → Bool
 hasRoom k boxes spreads = leb (6 * k) boxes && leb k spreads
 
--- "a lent length is wrong": one of those that every cut is lent, or there is no room for the boxes
+-- no "lent length is wrong": those that every cut is lent are right, and there is room for the boxes
 unfoldable pub allLong : Grid → ℕ → ℕ → Lent → Bool
 allLong g k table l = longEnough g k table (lengthsOf (l .buffers)) && hasRoom k (length (l .boxes)) (length (l .spreads))
 
