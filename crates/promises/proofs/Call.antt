@@ -95,7 +95,7 @@ module _ (b1 b2 b3 k : ℕ) (t : List ℕ) (l : Lent) where
   unfolding whenDone
   cut-number e = is-number ∙ in-stages b1 b2 b3 k t l ∙ rw e refl
 
-  pub call-is-cut : (number ≡ 0) ↔ ((cutNumber b1 b2 b3 k t (l .buffers) ≡ 0) × Room k l)
+  pub call-is-cut : (cutAnswer b1 b2 b3 k t l .number ≡ 0) ↔ ((cutNumber b1 b2 b3 k t (l .buffers) ≡ 0) × Room k l)
   call-is-cut = (
     λ e.
         let enough = roomy b1 b2 b3 k (length (l .boxes)) (length (l .spreads)) (has-room e) in
@@ -109,10 +109,10 @@ module _ (b1 b2 b3 k : ℕ) (t : List ℕ) (l : Lent) where
   )
 
   -- "zero boxes", and nothing is written
-  pub refused-call : {n : ℕ} → number ≡ suc n → (cutAnswer b1 b2 b3 k t l ≡ record { number = suc n; boxes = 0 }) × (callLater b1 b2 b3 k t l ≡ l)
+  pub refused-call : {n : ℕ} → cutAnswer b1 b2 b3 k t l .number ≡ suc n → (cutAnswer b1 b2 b3 k t l ≡ record { number = suc n; boxes = 0 }) × (callLater b1 b2 b3 k t l ≡ l)
   refused-call e = call-kept b1 b2 b3 k t l (sym is-number ∙ e)
 
-  pub call-tells : number ≡ 0 → TellsCut r (cutLater b1 b2 b3 k t (l .buffers)) l (cutAnswer b1 b2 b3 k t l) (callLater b1 b2 b3 k t l)
+  pub call-tells : cutAnswer b1 b2 b3 k t l .number ≡ 0 → TellsCut (cutRecord b1 b2 b3 k t (l .buffers)) (cutLater b1 b2 b3 k t (l .buffers)) l (cutAnswer b1 b2 b3 k t l) (callLater b1 b2 b3 k t l)
   call-tells e =
       let enough = roomy b1 b2 b3 k (length (l .boxes)) (length (l .spreads)) (has-room e) in
       let has = call-has b1 b2 b3 k t l (sym is-number ∙ e) in
