@@ -6,11 +6,12 @@ use mathlib.Core.Bool.{Bool, true, false, not, _&&_}
 use mathlib.Core.List.{List}
 use Prim.Native.Nat.{ℕ, suc, _+_, _*_, _/_, _%_, _≤_, _<_}
 use borrow.Author.Tests.{eqb-true, ltb-false, not-false}
-use lib.Dec.{eqb}
+use lib.Dec.{eqb, ltb}
 use lib.ListN.{length, getD}
 use Rattle.grid.specs.declared.Grid.{Grid}
 use Rattle.grid.specs.declared.Chosen.the-variants as chosen
-use Rattle.grid.specs.Grid.{gridOf, binsOf}
+use Rattle.grid.specs.Answer.{refuse}
+use Rattle.grid.specs.Grid.{gridOf, onGrid, numberOn, binsOf}
 use Rattle.grid.proofs.Ends.{passed, call-refused, call-done, same-length}
 use Rattle.grid.proofs.Range.{and-left, and-right}
 use Rattle.grid.proofs.Places.{chose}
@@ -41,6 +42,16 @@ module _ (b1 b2 b3 : ℕ) (t colours : List ℕ) (given : Bool) (weights : List 
   unfolding loadNumber loadLater
   load-refused e =
       call-refused (gridOf b1 b2 b3) (λ g. loadNumberOn limit g t colours given weights) (λ g. wideList (binsOf g) (loaded g (batchOf colours given weights) (wide t))) t e
+
+  -- its tests on an accepted grid, in their order
+  pub load-tests : {g : Grid} → gridOf b1 b2 b3 ≡ chosen.Of g → number
+      ≡ refuse (not (eqb (length colours % 3) 0)) 3
+      (refuse (given && not (eqb (length weights) (length colours / 3))) 4
+      (refuse (not (eqb (length t) (5 * binsOf g))) 5
+      (refuse (not (sound limit g (wide t))) 6
+      (refuse (ltb limit (total g (wide t) + weightOf (batchOf colours given weights))) 7 0))))
+  unfolding loadNumber loadNumberOn numberOn onGrid
+  load-tests e = rw e refl
 
   -- what a load that is done tells
   pub record LoadDone : Type 0 where
@@ -105,6 +116,13 @@ module _ (b1 b2 b3 : ℕ) (t s : List ℕ) where
   unfolding mergeNumber mergeLater
   merge-refused e =
       call-refused (gridOf b1 b2 b3) (λ g. mergeNumberOn limit g t s) (λ g. wideList (binsOf g) (merged (wide t) (wide s))) t e
+
+  pub merge-tests : {g : Grid} → gridOf b1 b2 b3 ≡ chosen.Of g → merge-number
+      ≡ refuse (not (eqb (length t) (5 * binsOf g) && eqb (length s) (5 * binsOf g))) 5
+      (refuse (not (sound limit g (wide t) && sound limit g (wide s))) 6
+      (refuse (ltb limit (total g (wide t) + total g (wide s))) 7 0))
+  unfolding mergeNumber mergeNumberOn numberOn onGrid
+  merge-tests e = rw e refl
 
   -- what a merge that is done tells
   pub record MergeDone : Type 0 where

@@ -4,6 +4,7 @@ pub mod Answers
 pub mod Numbers
 pub mod Loading
 pub mod Tiling
+pub mod Call
 pub mod Full
 pub mod Order
 pub mod Mapping

@@ -2,6 +2,7 @@ pub mod Cases
 pub mod Answers
 pub mod Numbers
 pub mod Tiling
+pub mod Call
 pub mod Full
 pub mod Order
 pub mod Mapping
