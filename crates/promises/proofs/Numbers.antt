@@ -37,7 +37,7 @@ unfoldable chain : Tests → ℕ
 chain [] = 0
 chain (x ∷ xs) = refuse (x .1) (x .0) (chain xs)
 
--- from n to 9
+-- numbers from n to 9, none lower than the one before
 unfoldable ascends : ℕ → Tests → Bool
 ascends n [] = true
 ascends n (x ∷ xs) = leb n (x .0) && (leb (x .0) 9 && ascends (x .0) xs)
