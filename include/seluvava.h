@@ -1,13 +1,19 @@
 /*
- * Seluvava: a colour quantizer by Wu's method of 1992. Every call is proved to do what stands here, but for how much
- * stack it takes, which is measured.
+ * Seluvava: a colour quantizer by Wu's method of 1992.
+ *
+ * PROVED is, of the source that the archive is compiled from: what each call answers and what every lent buffer holds
+ * afterwards, refusals too; that it reads and writes nothing else; and that it ends without a fault, whatever the
+ * numbers and the contents. The compiler behind the proof is believed. MEASURED is how much stack a call takes, and
+ * that flush modes change no answer (tests/). BY HAND stand the declarations below, which no proof reads: the tests in C
+ * go by them, and the archive exports just these names. WHAT A CALLER SEES TO stands under LENT BUFFERS and ROUNDING:
+ * no call can test it.
  *
  * load counts colours into a table, merge adds a second table into a first, cut makes of a table a palette of at
  * most 256 colours and a map to it, and map and paint take the pixels of a frame to that palette.
  *
  * GRID. Each call is told three sizes, one for each component of a colour, each from 2, 4, 8, 16, 32, 64, 128.
  * The bin of component c at size s is c * s / 256, rounded down. With sizes b1, b2, b3, bin (r, g, b) stands at place
- * (r * b2 + g) * b3 + b. The choice of the Rust crate quantette for RGB is 16, 32, 16.
+ * (r * b2 + g) * b3 + b. The choice of the Rust crate quantette for RGB is SELUVAVA_RGB: 16, 32, 16.
  *
  * TABLE. Five numbers per bin, from 5 * place on: weight n, three component sums, the sum of squared components.
  * An empty table is all zeros. A table is sound if, in each bin, every component sum lies between n * low and
@@ -21,6 +27,11 @@
  * nobody else writes to a buffer, or reads one that is not const, before the call returns. A buffer of length 0 is
  * never looked at, so its pointer may be NULL; 0 is a length like any other, accepted or refused as each call says.
  * Buffers that are const are only read: they may overlap each other, and any number of calls may read them at once.
+ *
+ * ROUNDING. A cut works in double, each operation rounded once to nearest, as every C program begins. A caller that
+ * has changed the rounding mode (fesetround) sets it back to FE_TONEAREST before a cut: in another mode its boxes may
+ * be others. Of the other calls none works in double. The flush modes of the processor, flush-to-zero and
+ * denormals-are-zero, may be as they like: no spread and no score is so small.
  *
  * NEEDS. No call keeps anything, allocates, waits or fails in any other way than by its number. A stack of 64 KiB is
  * enough for each, as tests/stack.c measures. Of a C library the archive takes memcpy and memset and nothing else; a
@@ -53,6 +64,9 @@
 extern "C" {
 #endif
 
+/* The three sizes for RGB, as every call takes them: 8,192 bins. */
+#define SELUVAVA_RGB 16, 32, 16
+
 /* How many bins a grid has: b1 * b2 * b3, or 0 where a size is not among the seven. */
 size_t seluvava_bins(size_t b1, size_t b2, size_t b3);
 
@@ -62,7 +76,7 @@ size_t seluvava_numbers(size_t b1, size_t b2, size_t b3);
 /*
  * Load: adds colours to a table. A colour c1, c2, c3 of weight w adds, in its bin, w to n, w * c to each sum and
  * w * (c1*c1 + c2*c2 + c3*c3) to the squares. Weight 0 adds nothing; no colours at all change nothing. In whatever
- * order and batches the same colours are loaded, the table is the same.
+ * order and batches the same colours are loaded, the table is the same, as long as none is refused.
  *
  *   table     5 * bins numbers, sound. Changed.
  *   colours   three bytes per colour.
@@ -106,8 +120,9 @@ struct seluvava_cut_answer {
  *   map       bins bytes. At the place of each bin the index i of its box.
  *   boxes     at least 6 * k bytes. Box i's bins, from 6 * i on: r0, r1, g0, g1, b0, b1, where r0 is the first bin in
  *             the first dimension and r1 the first that is not, and so on.
- *   spreads   at least k. Box i's spread, at place i: squares - (c1*c1 + c2*c2 + c3*c3) / n of its sums, each
- *             operation rounded once; 0.0 for a box of one bin, or one found impossible to cut; infinity at k = 1.
+ *   spreads   at least k. Box i's spread, at place i: squares - (c1*c1 + c2*c2 + c3*c3) / n of its sums, each whole
+ *             number first turned into double, each operation rounded once, so that it can lie slightly below 0;
+ *             0.0 for a box of one bin, or one found impossible to cut; infinity at k = 1.
  *
  * Of palette, counts, boxes and spreads, places past the last box stay as they were.
  * Answers 0, 1, 2, 5, 6, 8.
@@ -127,7 +142,7 @@ seluvava_cut(size_t b1, size_t b2, size_t b3, size_t k,
  * `pixels` pixels from pixel `first` on. It must end inside the frame or at its end, and may have no pixels.
  *
  *   map       bins bytes, all of them below `colours`, used by the band or not.
- *   colours   the palette's length in colours, 1..256; after a cut the number of boxes.
+ *   colours   the palette's length in colours; after a cut the number of boxes. Outside 1..256 it gives 5.
  *   frame     three bytes per pixel.
  *   indices   one byte per pixel of the frame. Changed in the band; the rest stays.
  *
@@ -144,7 +159,7 @@ uint8_t seluvava_map(size_t b1, size_t b2, size_t b3,
  * Paint: replaces each pixel of a band by the palette's colour at its index. Band and map are as above.
  *
  *   map       bins bytes, all of them below the palette's length in colours, used by the band or not.
- *   palette   3..768 bytes, a multiple of three; after a cut the first 3 * boxes bytes.
+ *   palette   3..768 bytes, a multiple of three, or 5 is given; after a cut the first 3 * boxes bytes.
  *   frame     three bytes per pixel. Changed in the band; the rest stays.
  *
  * Answers 0, 1, 3, 5, 9.

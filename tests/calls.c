@@ -1,6 +1,7 @@
 /*
  * Every call of seluvava.h, held to document 01: the worked boxes P1 to P10, every number of every call, alone and two
- * at a time, lengths one off, NULL with length 0, bands, and batches and frames of every length up to 200.
+ * at a time, lengths one off, NULL with length 0, bands, and batches and frames of every length up to 200; and all of it
+ * once more with the processor's flush modes set.
  * What a lent buffer must hold afterwards is said here once more, in C, by the same rules.
  */
 #define _DEFAULT_SOURCE
@@ -608,20 +609,27 @@ static void ask_sizes(void)
     }
 }
 
+static void ask_all(void)
+{
+    for (size_t i = 0; i < COUNT(worked); i++) ask_worked(&worked[i]);
+    for (enum call call = LOAD; call < CALLS; call++) ask_changed(call);
+    ask_empty();
+    ask_plain();
+    for (size_t i = 0; i < COUNT(bands); i++)
+        ask_band(bands[i].frame, bands[i].first, bands[i].pixels, bands[i].number);
+    for (size_t pixels = 0; pixels <= PIXELS; pixels++) ask_length(pixels);
+}
+
 int main(void)
 {
     now("start");
     make_pages();
     watch();
-    for (way = EXACT; way < WAYS; way++) {
-        for (size_t i = 0; i < COUNT(worked); i++) ask_worked(&worked[i]);
-        for (enum call call = LOAD; call < CALLS; call++) ask_changed(call);
-        ask_empty();
-        ask_plain();
-        for (size_t i = 0; i < COUNT(bands); i++)
-            ask_band(bands[i].frame, bands[i].first, bands[i].pixels, bands[i].number);
-        for (size_t pixels = 0; pixels <= PIXELS; pixels++) ask_length(pixels);
-    }
+    for (way = EXACT; way < WAYS; way++) ask_all();
+    way = EXACT;
+    flush(true);
+    ask_all();
+    flush(false);
     ask_sizes();
     printf("calls: %zu checks\n", checks);
     return 0;

@@ -9,6 +9,7 @@
 #include <stdlib.h>
 #include <string.h>
 #include <unistd.h>
+#include <xmmintrin.h>
 
 #define COUNT(array) (sizeof(array) / sizeof((array)[0]))
 
@@ -62,6 +63,13 @@ static void watch(void)
     action.sa_handler = touched;
     action.sa_flags = SA_ONSTACK;
     need(sigaction(SIGSEGV, &action, NULL) == 0, "a signal");
+}
+
+/* Sets the processor's flush-to-zero and denormals-are-zero, or clears both. */
+static inline void flush(bool on)
+{
+    const unsigned both = 0x8040;
+    _mm_setcsr(on ? _mm_getcsr() | both : _mm_getcsr() & ~both);
 }
 
 #endif

@@ -42,6 +42,7 @@ pub struct ColourBox {
     pub max: [u8; 3],
     /// The squared distances of the colours from their mean, added up, as computed in `f64`; the box with the largest
     /// is cut next. It is 0 for a box of one bin, or one that the cut tried to divide and could not; infinity at k = 1.
+    /// Where the exact sum is 0 or nearly so, rounding can put it slightly below 0 or above.
     pub spread: f64,
 }
 

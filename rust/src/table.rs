@@ -4,7 +4,7 @@ use std::fmt;
 /// The colours that were counted, by the bins of a grid.
 ///
 /// Colours are loaded in as many batches as wanted, and tables of one grid can be merged, so that each worker has a
-/// table of its own. The order of loads and merges makes no difference. [`cut`](Table::cut) then makes a palette.
+/// table of its own. As long as none is refused, the order of loads and merges makes no difference. [`cut`](Table::cut) then makes a palette.
 ///
 /// A bin has five numbers, together: the weight of its colours, the sums of red, green and blue, and the sum of the
 /// squares of all three. Bin (r, g, b) of a grid B1, B2, B3 is the one at place (r·B2 + g)·B3 + b.

@@ -9,7 +9,7 @@ use Rattle.grid.specs.declared.Grid.{Grid}
 use Rattle.grid.specs.declared.Chosen.{Chosen}
 use Rattle.grid.specs.declared.Chosen.the-variants as chosen
 use Rattle.grid.specs.Answer.{whenDone}
-use Rattle.grid.specs.Grid.{gridOf, onGrid}
+use Rattle.grid.specs.Grid.{gridOf, gridAnswer, onGrid}
 use Rattle.grid.proofs.Range.{length-list}
 use Rattle.table.specs.Cell.{wide}
 use Rattle.table.specs.Sound.{limit}
@@ -31,7 +31,7 @@ module _ (k : ℕ) (least : 1 ≤ k) (most : k ≤ 256) (t : List ℕ) where
   unfolding cutRecord onGrid refusedRecord
   few-cut b1 b2 b3 b = go (gridOf b1 b2 b3)
     where
-      go : (c : Chosen) → onGrid c (refusedRecord 1) (λ g. recordOn g k t (lengthsOf b)) .boxes ≤ k
+      go : (c : Chosen) → onGrid c (refusedRecord (gridAnswer c .number)) (λ g. recordOn g k t (lengthsOf b)) .boxes ≤ k
       go (chosen.Of g) = few-on g (lengthsOf b)
       go chosen.Refused = omega arith
 
@@ -51,6 +51,6 @@ module _ (k : ℕ) (t : List ℕ) where
   unfolding cutRecord onGrid refusedRecord
   all-places b1 b2 b3 b e = rw e (go (gridOf b1 b2 b3))
     where
-      go : (c : Chosen) → length (onGrid c (refusedRecord 1) (λ g. recordOn g k t (lengthsOf b)) .places) ≡ 256
+      go : (c : Chosen) → length (onGrid c (refusedRecord (gridAnswer c .number)) (λ g. recordOn g k t (lengthsOf b)) .places) ≡ 256
       go (chosen.Of g) = places-on g (lengthsOf b)
       go chosen.Refused = refl

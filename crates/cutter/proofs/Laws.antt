@@ -35,7 +35,7 @@ module _ (b1 b2 b3 k : ℕ) (t : List ℕ) (b : Buffers) where
       of zero r e = e
       of (suc n) r e = refl
 
-      go : (c : Chosen) → onGrid c (refusedRecord 1) (λ g. whenDone (cutNumberOn limit g k t (lengthsOf b)) (doneRecord (boxesOf g (wide t) k)) (refusedRecord (cutNumberOn limit g k t (lengthsOf b)))) .number
+      go : (c : Chosen) → onGrid c (refusedRecord (gridAnswer c .number)) (λ g. whenDone (cutNumberOn limit g k t (lengthsOf b)) (doneRecord (boxesOf g (wide t) k)) (refusedRecord (cutNumberOn limit g k t (lengthsOf b)))) .number
           ≡ onGrid c (gridAnswer c .number) (λ g. cutNumberOn limit g k t (lengthsOf b))
       go (chosen.Of g) = of (cutNumberOn limit g k t (lengthsOf b)) (doneRecord (boxesOf g (wide t) k)) refl
       go chosen.Refused = refl
@@ -49,7 +49,7 @@ module _ (b1 b2 b3 k : ℕ) (t : List ℕ) (b : Buffers) where
       of m x y e = rw e refl
 
       go : (c : Chosen) → onGrid c (gridAnswer c .number) (λ g. cutNumberOn limit g k t (lengthsOf b)) ≡ suc n
-          → (onGrid c (refusedRecord 1) (λ g. whenDone (cutNumberOn limit g k t (lengthsOf b)) (doneRecord (boxesOf g (wide t) k)) (refusedRecord (cutNumberOn limit g k t (lengthsOf b)))) ≡ refusedRecord (suc n))
+          → (onGrid c (refusedRecord (gridAnswer c .number)) (λ g. whenDone (cutNumberOn limit g k t (lengthsOf b)) (doneRecord (boxesOf g (wide t) k)) (refusedRecord (cutNumberOn limit g k t (lengthsOf b)))) ≡ refusedRecord (suc n))
           × (onGrid c b (λ g. whenDone (cutNumberOn limit g k t (lengthsOf b)) (laterOn g k t b) b) ≡ b)
       go (chosen.Of g) e = (of (cutNumberOn limit g k t (lengthsOf b)) _ _ e ∙ ap refusedRecord e, of (cutNumberOn limit g k t (lengthsOf b)) _ _ e)
       go chosen.Refused e = (ap refusedRecord e, refl)

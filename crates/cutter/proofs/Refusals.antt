@@ -11,7 +11,7 @@ use lib.ListN.{length}
 use Rattle.grid.specs.declared.Grid.{Grid}
 use Rattle.grid.specs.declared.Chosen.the-variants as chosen
 use Rattle.grid.specs.Answer.{refuse, whenDone}
-use Rattle.grid.specs.Grid.{gridOf, onGrid, binsOf}
+use Rattle.grid.specs.Grid.{gridOf, gridAnswer, onGrid, binsOf}
 use Rattle.grid.proofs.Range.{and-left, and-right}
 use Rattle.grid.proofs.Ends.{refused-keeps, passed}
 use Rattle.table.specs.Cell.{wide}
@@ -116,7 +116,7 @@ module _ (b1 b2 b3 k : ℕ) (t : List ℕ) (b : Buffers) where
   Ends r e = (r ≡ cutRecord b1 b2 b3 k t b) × (e ≡ cutLater b1 b2 b3 k t b)
 
   pub cut-no-grid : gridOf b1 b2 b3 ≡ chosen.Refused → {r : CutRecord} → r ≡ refusedRecord 1 → Ends r b
-  unfolding cutRecord cutLater onGrid
+  unfolding cutRecord cutLater onGrid gridAnswer
   cut-no-grid e q = (q ∙ rw e refl, rw e refl)
 
   module _ {g : Grid} (e : gridOf b1 b2 b3 ≡ chosen.Of g) where

@@ -7,9 +7,9 @@ use lib.Dec.{eqb, leb}
 use lib.ListN.{length, getD, take, replicate}
 use Rattle.grid.specs.declared.Grid.{Grid}
 use Rattle.grid.specs.Answer.{refuse, whenDone}
-use Rattle.grid.specs.Grid.{gridOf, onGrid, numberOn, binsOf}
+use Rattle.grid.specs.Grid.{gridOf, gridAnswer, onGrid, numberOn, binsOf}
 use Rattle.table.specs.Cell.{View, wide, wideList}
-use Rattle.table.specs.Sound.{limit, total, sound}
+use Rattle.table.specs.Sound.{limit, total, sound, unsoundNumber}
 use Rattle.sums.specs.declared.Bounds.{Bounds}
 use Rattle.sums.specs.Box.{boxSum, Within}
 use Rattle.sums.specs.Moments.{momentsOf}
@@ -49,7 +49,7 @@ unfoldable pub cutNumberOn : ℕ → Grid → ℕ → List ℕ → Lengths → �
 cutNumberOn most g k t l =
     refuse (not (leb 1 k && leb k 256)) 2
     (refuse (not (longEnough g k (length t) l)) 5
-    (refuse (not (sound most g (wide t))) 6
+    (refuse (not (sound most g (wide t))) unsoundNumber
     (refuse (eqb (total g (wide t)) 0) 8 0)))
 
 unfoldable pub cutNumber : ℕ → ℕ → ℕ → ℕ → List ℕ → Buffers → ℕ
@@ -67,7 +67,7 @@ unfoldable pub recordOn : Grid → ℕ → List ℕ → Lengths → CutRecord
 recordOn g k t l = let n = cutNumberOn limit g k t l in whenDone n (doneRecord (boxesOf g (wide t) k)) (refusedRecord n)
 
 unfoldable pub cutRecord : ℕ → ℕ → ℕ → ℕ → List ℕ → Buffers → CutRecord
-cutRecord b1 b2 b3 k t b = onGrid (gridOf b1 b2 b3) (refusedRecord 1) (λ g. recordOn g k t (lengthsOf b))
+cutRecord b1 b2 b3 k t b = let c = gridOf b1 b2 b3 in onGrid c (refusedRecord (gridAnswer c .number)) (λ g. recordOn g k t (lengthsOf b))
 
 -- ---- what was lent, afterwards
 -- the box of a place of the record

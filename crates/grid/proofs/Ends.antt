@@ -5,16 +5,12 @@ use mathlib.Core.Bool.{Bool, true, false}
 use mathlib.Core.List.{List}
 use Prim.Native.Nat.{ℕ, zero, suc}
 use native.Mathlib.Omega.{arith}
-use lib.Dec.{eqb}
 use lib.ListN.{length}
 use Rattle.grid.specs.declared.Grid.{Grid}
 use Rattle.grid.specs.declared.Chosen.{Chosen}
 use Rattle.grid.specs.declared.Chosen.the-variants as chosen
 use Rattle.grid.specs.Answer.{refuse, whenDone}
-use Rattle.grid.specs.declared.Shift.{Shift}
-use Rattle.grid.specs.declared.Shift.the-variants as shift
-use Rattle.grid.specs.Size.{shiftOf, shiftAnswer}
-use Rattle.grid.specs.Grid.{gridWith, gridOf, gridAnswer, onGrid, numberOn}
+use Rattle.grid.specs.Grid.{gridAnswer, onGrid, numberOn}
 
 -- ---- what the code shows of a call
 module _ {A : Type 0} (c : Chosen) (f : Grid → ℕ) (done : Grid → A) (kept : A) where
@@ -73,18 +69,3 @@ call-done chosen.Refused f done t e = absurd (never e)
 pub same-length : (n : ℕ) (t e : List ℕ) → ((m : ℕ) → n ≡ suc m → e ≡ t) → (n ≡ 0 → length e ≡ length t) → length e ≡ length t
 same-length zero t e r d = d refl
 same-length (suc n) t e r d = ap length (r n refl)
-
--- ---- the number that a grid gets is that of its first refused size
-pub grid-told : (b1 b2 b3 : ℕ) → gridAnswer (gridOf b1 b2 b3) .number
-    ≡ refuse (eqb (shiftAnswer (shiftOf b1) .number) 1) 1
-    (refuse (eqb (shiftAnswer (shiftOf b2) .number) 1) 1
-    (refuse (eqb (shiftAnswer (shiftOf b3) .number) 1) 1 0))
-unfolding gridOf gridWith gridAnswer shiftAnswer refuse
-grid-told b1 b2 b3 = go (shiftOf b1) (shiftOf b2) (shiftOf b3)
-  where
-    go : (a b c : Shift) → gridAnswer (gridWith b1 b2 b3 a b c) .number
-        ≡ refuse (eqb (shiftAnswer a .number) 1) 1 (refuse (eqb (shiftAnswer b .number) 1) 1 (refuse (eqb (shiftAnswer c .number) 1) 1 0))
-    go (shift.By x) (shift.By y) (shift.By z) = refl
-    go (shift.By x) (shift.By y) shift.Refused = refl
-    go (shift.By x) shift.Refused c = refl
-    go shift.Refused b c = refl

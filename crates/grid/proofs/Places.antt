@@ -10,8 +10,8 @@ use lib.ListN.{getD}
 use Rattle.grid.specs.declared.Grid.{Grid}
 use Rattle.grid.specs.declared.Rgb.{Rgb}
 use Rattle.grid.specs.declared.Shift.{Shift}
-use Rattle.grid.specs.Size.{shiftOf, binOf}
-use Rattle.grid.specs.Grid.{choose, sizeAt, shiftAt, componentAt, gridWith, gridOf, Accepted, binsOf, placeOf, binAt, Inside, colourPlace, strideAt, stepsOf, StepsOf}
+use Rattle.grid.specs.Size.{choices, shiftIn, shiftOf, binOf}
+use Rattle.grid.specs.Grid.{choose, sizeAt, shiftAt, componentAt, gridWith, gridOf, rgbGrid, Accepted, binsOf, placeOf, binAt, Inside, colourPlace, strideAt, stepsOf, StepsOf}
 use Rattle.grid.specs.declared.Shift.the-variants as shift
 use Rattle.grid.specs.declared.Chosen.the-variants as chosen
 use Rattle.grid.proofs.Range.{list-at}
@@ -53,6 +53,11 @@ chose-with b1 b2 b3 g shift.Refused y z p q r e = absurd (refused-never g e)
 pub chose : (b1 b2 b3 : ℕ) (g : Grid) → gridOf b1 b2 b3 ≡ chosen.Of g → Chose b1 b2 b3 g
 unfolding gridOf
 chose b1 b2 b3 g e = chose-with b1 b2 b3 g (shiftOf b1) (shiftOf b2) (shiftOf b3) refl refl refl e
+
+-- "`rgb()` is 16, 32, 16"
+pub rgb-accepted : gridOf 16 32 16 ≡ chosen.Of rgbGrid
+unfolding gridOf gridWith shiftOf shiftIn choices rgbGrid
+rgb-accepted = refl
 
 module _ {g : Grid} (a : Accepted g) where
   pub sized-at : (d : ℕ) → Sized (sizeAt g d) (shiftAt g d)

@@ -40,6 +40,10 @@ gridWith b1 b2 b3 shift.Refused t u = chosen.Refused
 unfoldable pub gridOf : ℕ → ℕ → ℕ → Chosen
 gridOf b1 b2 b3 = gridWith b1 b2 b3 (shiftOf b1) (shiftOf b2) (shiftOf b3)
 
+-- "`rgb()` is 16, 32, 16": the grid that gridOf answers for these (`rgb-accepted`)
+unfoldable pub rgbGrid : Grid
+rgbGrid = record { s1 = 4; s2 = 3; s3 = 4; b1 = 16; b2 = 32; b3 = 16 }
+
 -- the number and the values of each case
 unfoldable pub gridAnswer : Chosen → Answer
 gridAnswer (chosen.Of g) =

@@ -4,7 +4,7 @@ ghost use Prim.Native.Nat.{_+_, _*_, _≤_, _<_};
 ghost use lib.ListN.{length};
 ghost use Rattle.grid.specs.Range.{listFrom, sumFrom};
 ghost use Rattle.grid.specs.Size.{shiftOf, binOf, spanOf, InSize};
-ghost use Rattle.grid.specs.Grid.{gridOf, binsOf, placeOf, colourAt, stepsOf, Accepted, Inside};
+ghost use Rattle.grid.specs.Grid.{gridOf, rgbGrid, binsOf, placeOf, colourAt, stepsOf, Accepted, Inside};
 ghost use Rattle.grid.specs.OneColour.{sameColour, oneColour, differs};
 
 // What a size is answered with.
@@ -37,6 +37,22 @@ pub struct Grid {
     pub b1: usize,
     pub b2: usize,
     pub b3: usize,
+}
+
+impl Grid {
+    // The grid for RGB (`BinnerU8x3::rgb`).
+    pub fn rgb() -> Grid
+        ensures { λ r. ⌜ r ≡ rgbGrid ⌝ }
+    {
+        Grid {
+            s1: 4,
+            s2: 3,
+            s3: 4,
+            b1: 16,
+            b2: 32,
+            b3: 16,
+        }
+    }
 }
 
 // What three sizes are answered with.

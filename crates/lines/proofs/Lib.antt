@@ -1,3 +1,4 @@
 pub mod Decimal
 pub mod Putting
-pub mod Example
+pub mod Texts
+pub mod Reading

@@ -1,2 +1,4 @@
 pub mod Text
 pub mod Put
+pub mod Listing
+pub mod Reading

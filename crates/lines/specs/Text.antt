@@ -32,7 +32,7 @@ refusedWord = 114 ∷ 101 ∷ 102 ∷ 117 ∷ 115 ∷ 101 ∷ 100 ∷ 32 ∷ []
 unfoldable pub newline : List ℕ
 newline = 10 ∷ []
 
--- "boxes B total T"
+-- the first line: the number of boxes, and the total
 unfoldable pub headOf : ℕ → ℕ → List ℕ
 headOf boxes total = boxesWord ++ decimalOf boxes ++ totalWord ++ decimalOf total ++ newline
 

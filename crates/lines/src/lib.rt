@@ -1,10 +1,56 @@
-// The text that the listing program writes, put into a lent buffer.
+// What the listing program does between reading and writing: it loads its input batch by batch, and puts the text for
+// what was loaded into a lent buffer.
+use cutter::cut;
+use loader::load;
 ghost use mathlib.Core.Path.{_≡_};
 ghost use mathlib.Core.List.{[], _∷_};
 ghost use Prim.Native.Nat.{_+_, _*_, _%_, _≤_, _<_};
 ghost use lib.ListN.{length};
 ghost use Rattle.lines.specs.Text.{decimalOf, fieldOf, headOf, lineOf, lineAt, totalOf, listingOf, refusedOf, withText, lineRoom, Lent};
 ghost use Rattle.lines.specs.Put.{Put};
+ghost use Rattle.lines.specs.Listing.{lowerOf, emptyTable, batchAnswer, batchLater, cutText, textOf, textRoom, Filled};
+
+// ---- Loading
+
+// A table that nothing was loaded into.
+pub fn empty_table() -> [u64; 2560]
+    ensures { λ r. ⌜ r ≡ emptyTable ⌝ }
+{
+    let zeros = [0; 2560];
+    zeros
+}
+
+// The lower of two numbers, of which 0 is none.
+fn lower(number: u8, other: u8) -> u8
+    ensures { λ r. ⌜ r ≡ lowerOf number other ⌝ }
+{
+    if number == 0 {
+        return other;
+    }
+    if other == 0 {
+        return number;
+    }
+    if other < number { other } else { number }
+}
+
+// The lowest number that a load has given so far, 0 where none was refused, and whether another batch may follow.
+pub struct Loaded {
+    pub number: u8,
+    pub more: bool,
+}
+
+// Loads the filled front of a batch. A refusal does not end the input: what follows may have a lower number.
+pub fn load_batch(table: &mut [u64], batch: &[u8], filled: usize, lowest: u8) -> Loaded
+    requires { ⌜ Filled (now batch) filled ⌝ }
+    ensures { λ r. ⌜ r ≡ batchAnswer (now (table .entry)) (now (batch .entry)) filled lowest ⌝ }
+    ensures { λ r. ⌜ now (table .exit) ≡ batchLater (now (table .entry)) (now (batch .entry)) filled ⌝ }
+{
+    let number = load(8, 8, 8, table, &batch[0..filled], false, &[0; 0]);
+    Loaded {
+        number: lower(lowest, number),
+        more: filled == batch.len(),
+    }
+}
 
 // ---- Parts of a line: each is put from place `at` on, and the place behind it is answered
 
@@ -119,10 +165,10 @@ fn total(boxes: usize, counts: &[u32]) -> u64
     sum
 }
 
-// ---- The text
+// ---- The whole text
 
 // Puts the whole listing at the start of a buffer, and answers its length.
-pub fn listing(boxes: usize, palette: &[u8], counts: &[u32], out: &mut [u8]) -> usize
+fn listing(boxes: usize, palette: &[u8], counts: &[u32], out: &mut [u8]) -> usize
     requires { ⌜ Lent boxes (now palette) (now counts) (now out) ⌝ }
     ensures { λ r. ⌜ r ≡ length (listingOf boxes (now (palette .entry)) (now (counts .entry))) ⌝ }
     ensures { λ r. ⌜ now (out .exit) ≡ withText (listingOf boxes (now (palette .entry)) (now (counts .entry))) (now (out .entry)) ⌝ }
@@ -138,7 +184,7 @@ pub fn listing(boxes: usize, palette: &[u8], counts: &[u32], out: &mut [u8]) -> 
 }
 
 // Puts the line of a refusal at the start of a buffer, and answers its length.
-pub fn refused(refusal: u8, out: &mut [u8]) -> usize
+fn refused(refusal: u8, out: &mut [u8]) -> usize
     requires { ⌜ lineRoom ≤ length (now out) ⌝ }
     ensures { λ r. ⌜ r ≡ length (refusedOf refusal) ⌝ }
     ensures { λ r. ⌜ now (out .exit) ≡ withText (refusedOf refusal) (now (out .entry)) ⌝ }
@@ -147,4 +193,45 @@ pub fn refused(refusal: u8, out: &mut [u8]) -> usize
     let first = word(out, 0, b"refused ");
     let last = number(out, first, refusal as u64);
     byte(out, last, b'\n')
+}
+
+// The text of a table that was loaded without a refusal.
+fn cut_text(table: &[u64], out: &mut [u8]) -> usize
+    requires { ⌜ textRoom ≤ length (now out) ⌝ }
+    ensures { λ r. ⌜ r ≡ length (cutText (now (table .entry))) ⌝ }
+    ensures { λ r. ⌜ now (out .exit) ≡ withText (cutText (now (table .entry))) (now (out .entry)) ⌝ }
+    ensures { λ r. ⌜ r ≤ length (now (out .exit)) ⌝ }
+{
+    let mut work = [0; 2560];
+    let mut palette = [0; 48];
+    let mut counts = [0; 16];
+    let mut map = [0; 512];
+    let done = cut(
+        8,
+        8,
+        8,
+        16,
+        table,
+        &mut work,
+        &mut palette,
+        &mut counts,
+        &mut map,
+    );
+    if done.number != 0 {
+        return refused(done.number, out);
+    }
+    listing(done.boxes, &palette, &counts, out)
+}
+
+// Puts the program's whole text at the start of a buffer, and answers its length.
+pub fn text(table: &[u64], lowest: u8, out: &mut [u8]) -> usize
+    requires { ⌜ textRoom ≤ length (now out) ⌝ }
+    ensures { λ r. ⌜ r ≡ length (textOf lowest (now (table .entry))) ⌝ }
+    ensures { λ r. ⌜ now (out .exit) ≡ withText (textOf lowest (now (table .entry))) (now (out .entry)) ⌝ }
+    ensures { λ r. ⌜ r ≤ length (now (out .exit)) ⌝ }
+{
+    if lowest != 0 {
+        return refused(lowest, out);
+    }
+    cut_text(table, out)
 }

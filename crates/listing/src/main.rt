@@ -1,9 +1,11 @@
-// Lists the palette of the colours on standard input, which are bare RGB triples: grid 8, 8, 8 and k = 16.
+// Lists the palette of the colours on standard input, which are bare RGB triples. This file reads and writes; what is
+// loaded and what is said of it is the crate `lines`.
 use libc::STDERR_FILENO;
 use libc::STDIN_FILENO;
 use libc::STDOUT_FILENO;
 ghost use Prim.Native.Nat.{_+_, _≤_};
 ghost use lib.ListN.{length};
+ghost use Rattle.lines.specs.Reading.{progress, Came, AllCame};
 
 // ---- Reading
 
@@ -55,37 +57,33 @@ struct Progress {
     failed: bool,
 }
 
-// The lower of two numbers, of which 0 is none.
-fn lower(number: u8, other: u8) -> u8 {
-    if number == 0 {
-        return other;
-    }
-    if other == 0 {
-        return number;
-    }
-    if other < number { other } else { number }
-}
-
 // Loads the next 16,384 pixels. A batch that is not full is the last one, and so is one whose reading failed.
-fn load_batch(table: &mut [u64], so_far: u8) -> Progress {
+fn load_next(table: &mut [u64], lowest: u8) -> Progress
+    ensures { λ r. ⌜ Came (progress lowest (now (table .entry))) (progress (r .number) (now (table .exit))) (r .more) ⌝ }
+{
     let mut space = [0; 49152];
     let batch = fill(&mut space);
-    let n = batch.bytes;
-    let number = loader::load(8, 8, 8, table, &space[0..n], false, &[0; 1]);
+    let loaded = lines::load_batch(table, &space, batch.bytes, lowest);
     Progress {
-        number: lower(so_far, number),
-        more: n == 49152,
+        number: loaded.number,
+        more: loaded.more,
         failed: batch.failed,
     }
 }
 
 // Loads all of the input, past a refusal too, since stray bytes at its end give a lower number than a total that
 // is too large. A proved loop has to end, so it counts its turns down, from a number that no run uses up.
-fn load_all(table: &mut [u64]) -> Progress {
-    let mut so_far = load_batch(table, 0);
+fn load_all(table: &mut [u64]) -> Progress
+    ensures { λ r. ⌜ AllCame (progress 0 (now (table .entry))) (progress (r .number) (now (table .exit))) (r .more) ⌝ }
+{
+    let mut so_far = Progress {
+        number: 0,
+        more: true,
+        failed: false,
+    };
     let mut turns = u64::MAX;
     while turns > 0 && so_far.more {
-        so_far = load_batch(table, so_far.number);
+        so_far = load_next(table, so_far.number);
         turns = turns - 1;
     }
     so_far
@@ -105,47 +103,14 @@ fn write(text: &[u8]) {
     }
 }
 
-fn refuse(number: u8) {
-    let mut text = [0; 128];
-    let n = lines::refused(number, &mut text);
-    write(&text[0..n]);
-}
-
-fn list(table: &[u64]) {
-    let mut work = [0; 2560];
-    let mut palette = [0; 48];
-    let mut counts = [0; 16];
-    let mut map = [0; 512];
-    let done = cutter::cut(
-        8,
-        8,
-        8,
-        16,
-        table,
-        &mut work,
-        &mut palette,
-        &mut counts,
-        &mut map,
-    );
-    if done.number != 0 {
-        refuse(done.number);
-        return;
-    }
-    let mut text = [0; 2176];
-    let n = lines::listing(done.boxes, &palette, &counts, &mut text);
-    write(&text[0..n]);
-}
-
 fn main() {
-    let mut table = [0; 2560];
+    let mut table = lines::empty_table();
     let input = load_all(&mut table);
     if input.failed {
         complain(b"standard input could not be read");
         return;
     }
-    if input.number != 0 {
-        refuse(input.number);
-        return;
-    }
-    list(&table);
+    let mut text = [0; 2176];
+    let n = lines::text(&table, input.number, &mut text);
+    write(&text[0..n]);
 }

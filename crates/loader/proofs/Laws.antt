@@ -1,16 +1,17 @@
 -- What a caller of load and merge may use without seeing inside their definitions: a refusal leaves all as it was, lengths
 -- stay, and where the number is 0 the grid is accepted, the tables were sound, the total fits, and each number is known.
 -- Assumes nothing.
-use mathlib.Core.Path.{_≡_, sym, _∙_}
-use mathlib.Core.Bool.{Bool}
+use mathlib.Core.Path.{_≡_, refl, sym, _∙_}
+use mathlib.Core.Bool.{Bool, true, false, not, _&&_}
 use mathlib.Core.List.{List}
-use Prim.Native.Nat.{ℕ, suc, _+_, _*_, _≤_, _<_}
+use Prim.Native.Nat.{ℕ, suc, _+_, _*_, _/_, _%_, _≤_, _<_}
 use borrow.Author.Tests.{eqb-true, ltb-false, not-false}
-use lib.Dec.{eqb}
+use lib.Dec.{eqb, ltb}
 use lib.ListN.{length, getD}
 use Rattle.grid.specs.declared.Grid.{Grid}
 use Rattle.grid.specs.declared.Chosen.the-variants as chosen
-use Rattle.grid.specs.Grid.{gridOf, binsOf}
+use Rattle.grid.specs.Answer.{refuse}
+use Rattle.grid.specs.Grid.{gridOf, onGrid, numberOn, binsOf}
 use Rattle.grid.proofs.Ends.{passed, call-refused, call-done, same-length}
 use Rattle.grid.proofs.Range.{and-left, and-right}
 use Rattle.grid.proofs.Places.{chose}
@@ -23,6 +24,11 @@ use Rattle.table.proofs.Soundness.{Sound, sound-same, total-same}
 use Rattle.loader.proofs.Loading.{held-sound, held-total}
 use Rattle.loader.proofs.Parts.{all-bytes-of}
 use Rattle.loader.proofs.Merging.{merge-sound, merge-total}
+use Rattle.loader.proofs.Calls.{pairs, load-done, merge-done}
+
+-- no 4: as many weights as colours where they are given
+in-pairs : (given : Bool) (n m : ℕ) → (given && not (eqb n m)) ≡ false → given ≡ true → n ≡ m
+in-pairs given n m e y = eqb-true n m (not-false _ (sym (rw y refl) ∙ e))
 
 -- ---- load
 module _ (b1 b2 b3 : ℕ) (t colours : List ℕ) (given : Bool) (weights : List ℕ) where
@@ -37,10 +43,22 @@ module _ (b1 b2 b3 : ℕ) (t colours : List ℕ) (given : Bool) (weights : List 
   load-refused e =
       call-refused (gridOf b1 b2 b3) (λ g. loadNumberOn limit g t colours given weights) (λ g. wideList (binsOf g) (loaded g (batchOf colours given weights) (wide t))) t e
 
+  -- its tests on an accepted grid, in their order
+  pub load-tests : {g : Grid} → gridOf b1 b2 b3 ≡ chosen.Of g → number
+      ≡ refuse (not (eqb (length colours % 3) 0)) 3
+      (refuse (given && not (eqb (length weights) (length colours / 3))) 4
+      (refuse (not (eqb (length t) (5 * binsOf g))) 5
+      (refuse (not (sound limit g (wide t))) 6
+      (refuse (ltb limit (total g (wide t) + weightOf (batchOf colours given weights))) 7 0))))
+  unfolding loadNumber loadNumberOn numberOn onGrid
+  load-tests e = rw e refl
+
   -- what a load that is done tells
   pub record LoadDone : Type 0 where
     pub g : Grid
     pub chosen : gridOf b1 b2 b3 ≡ chosen.Of g
+    pub threes : length colours % 3 ≡ 0
+    pub paired : given ≡ true → length weights ≡ length colours / 3
     pub lent : length t ≡ 5 * binsOf g
     pub sound-before : Sound limit g (wide t)
     pub under : total g (wide t) + weightOf (batchOf colours given weights) ≤ limit
@@ -50,19 +68,26 @@ module _ (b1 b2 b3 : ℕ) (t colours : List ℕ) (given : Bool) (weights : List 
   unfolding loadNumber loadLater loadNumberOn
   load-says e =
       let c = call-done (gridOf b1 b2 b3) (λ g. loadNumberOn limit g t colours given weights) (λ g. wideList (binsOf g) (loaded g (batchOf colours given weights) (wide t))) t e in
-      let four = passed _ 2 _ (c .number) .1 in
-      let five = passed _ 3 _ four .1 in
-      let six = passed _ 4 _ five in
+      let four = passed _ 2 _ (c .number) in
+      let five = passed _ 3 _ (four .1) in
+      let six = passed _ 4 _ (five .1) in
       let seven = passed _ 5 _ (six .1) in
       let last = passed _ 6 0 (seven .1) in
       record {
         g = c .g;
         chosen = c .is;
+        threes = eqb-true (length colours % 3) 0 (not-false _ (four .0));
+        paired = in-pairs given (length weights) (length colours / 3) (five .0);
         lent = eqb-true (length t) (5 * binsOf (c .g)) (not-false _ (six .0));
         sound-before = record { holds = not-false _ (seven .0) };
         under = ltb-false limit (total (c .g) (wide t) + weightOf (batchOf colours given weights)) (last .0);
         holds = rw (c .later) (list-holds (binsOf (c .g)) (loaded (c .g) (batchOf colours given weights) (wide t)));
       }
+
+  -- and the other way round: "none is given otherwise"
+  pub load-accepts : {g : Grid} → gridOf b1 b2 b3 ≡ chosen.Of g → length colours % 3 ≡ 0 → (given ≡ true → length weights ≡ length colours / 3) → length t ≡ 5 * binsOf g → sound limit g (wide t) ≡ true → total g (wide t) + weightOf (batchOf colours given weights) ≤ limit → number ≡ 0
+  load-accepts e threes paired lent is-sound under =
+      sym (load-done b1 b2 b3 t colours given weights e threes (pairs given (length weights) (length colours / 3) paired) lent is-sound under refl .0)
 
   pub load-length : length later ≡ length t
   load-length = same-length number t later (λ m e. load-refused e) (λ e. let d = load-says e in d .holds .lent ∙ sym (d .lent))
@@ -92,6 +117,13 @@ module _ (b1 b2 b3 : ℕ) (t s : List ℕ) where
   merge-refused e =
       call-refused (gridOf b1 b2 b3) (λ g. mergeNumberOn limit g t s) (λ g. wideList (binsOf g) (merged (wide t) (wide s))) t e
 
+  pub merge-tests : {g : Grid} → gridOf b1 b2 b3 ≡ chosen.Of g → merge-number
+      ≡ refuse (not (eqb (length t) (5 * binsOf g) && eqb (length s) (5 * binsOf g))) 5
+      (refuse (not (sound limit g (wide t) && sound limit g (wide s))) 6
+      (refuse (ltb limit (total g (wide t) + total g (wide s))) 7 0))
+  unfolding mergeNumber mergeNumberOn numberOn onGrid
+  merge-tests e = rw e refl
+
   -- what a merge that is done tells
   pub record MergeDone : Type 0 where
     pub g : Grid
@@ -120,6 +152,9 @@ module _ (b1 b2 b3 : ℕ) (t s : List ℕ) where
         under = ltb-false limit (total (c .g) (wide t) + total (c .g) (wide s)) (last .0);
         holds = rw (c .later) (list-holds (binsOf (c .g)) (merged (wide t) (wide s)));
       }
+
+  pub merge-accepts : {g : Grid} → gridOf b1 b2 b3 ≡ chosen.Of g → length t ≡ 5 * binsOf g → length s ≡ 5 * binsOf g → sound limit g (wide t) ≡ true → sound limit g (wide s) ≡ true → total g (wide t) + total g (wide s) ≤ limit → merge-number ≡ 0
+  merge-accepts e first second one two under = sym (merge-done b1 b2 b3 t s e first second one two under refl .0)
 
   pub merge-length : length merge-later ≡ length t
   merge-length = same-length merge-number t merge-later (λ m e. merge-refused e) (λ e. let d = merge-says e in d .holds .lent ∙ sym (d .lent .0))

@@ -7,3 +7,5 @@ pub mod Laws
 pub mod Order
 pub mod Worked
 pub mod Ran
+pub mod Weightless
+pub mod Batches

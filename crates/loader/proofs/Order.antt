@@ -14,21 +14,17 @@ use Rattle.grid.specs.declared.Chosen.the-variants as chosen
 use Rattle.grid.specs.Answer.{refuse, whenDone}
 use Rattle.grid.specs.Grid.{gridOf, Accepted, binsOf, onGrid, numberOn}
 use Rattle.grid.proofs.Places.{chose}
-use Rattle.table.specs.Cell.{wide, wideList}
+use Rattle.table.specs.Cell.{zeros, wide, wideList}
 use Rattle.table.specs.Sound.{limit, total, sound}
-use Rattle.loader.specs.Load.{Weighted, sumOver, adds, weightOf, loaded, batchOf, loadNumberOn, loadNumber, loadLater}
+use Rattle.loader.specs.Load.{Weighted, sumOver, adds, weightOf, loaded, tableOf, batchOf, loadNumberOn, loadNumber, loadLater}
 use Rattle.loader.specs.Merge.{merged, mergeNumberOn, mergeNumber, mergeLater}
 use Rattle.loader.specs.Plan.{Batch, Plan, empty, load, merge, Ran, Refused, Table, ranOf, thenLoad, thenMerge, run, leaves, malformed, firstOf, firstMalformed, BytesIn}
 use Rattle.table.proofs.Cells.{Holds, list-holds, holds-list, holds-same, wide-at}
-use Rattle.table.proofs.Soundness.{zeros, zeros-sound, zeros-total, sound-same, total-same}
+use Rattle.table.proofs.Soundness.{zeros-sound, zeros-total, sound-same, total-same}
 use Rattle.loader.proofs.Loading.{AllBytes, over-append, over-perm, load-total, load-sound}
 use Rattle.loader.proofs.Parts.{all-bytes-of}
 
--- the table of a list of colours
-unfoldable pub tableOf : Grid → List Weighted → List ℕ
-tableOf g cs = wideList (binsOf g) (loaded g cs zeros)
-
-bytes-append : (cs ds : List Weighted) → AllBytes cs → AllBytes ds → AllBytes (cs ++ ds)
+pub bytes-append : (cs ds : List Weighted) → AllBytes cs → AllBytes ds → AllBytes (cs ++ ds)
 bytes-append [] ds b c = c
 bytes-append (x ∷ cs) ds b c = (b .0, bytes-append cs ds (b .1) c)
 
@@ -45,7 +41,7 @@ module _ (g : Grid) where
   append-at cs ds p j = omega (arith, over-append cs ds (λ c. adds g c p j))
 
   -- a batch loaded into the table of some colours, and two such tables merged
-  load-table : (cs ds : List Weighted) → wideList (binsOf g) (loaded g ds (wide (tableOf g cs))) ≡ tableOf g (cs ++ ds)
+  pub load-table : (cs ds : List Weighted) → wideList (binsOf g) (loaded g ds (wide (tableOf g cs))) ≡ tableOf g (cs ++ ds)
   unfolding tableOf loaded
   load-table cs ds =
       holds-list
@@ -103,7 +99,7 @@ module _ (b1 b2 b3 : ℕ) {g : Grid} (e : gridOf b1 b2 b3 ≡ chosen.Of g) where
   bins-are = let c = chose b1 b2 b3 g e in λ i. c .one i * c .two i * c .three i
 
   -- zeros, as a caller lends them
-  empty-table : replicate (5 * (b1 * b2 * b3)) 0 ≡ tableOf g []
+  pub empty-table : replicate (5 * (b1 * b2 * b3)) 0 ≡ tableOf g []
   unfolding tableOf loaded sumOver
   empty-table =
       holds-list

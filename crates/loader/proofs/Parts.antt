@@ -117,7 +117,7 @@ unfolding listFrom
 run-bytes i zero c b = tt
 run-bytes i (suc n) c b = (b i, run-bytes (suc i) n c b)
 
-colour-bytes : (colours : List ℕ) → ((k : ℕ) → getD colours k 0 < 256) → (k : ℕ) → Bytes (colourAt colours k)
+pub colour-bytes : (colours : List ℕ) → ((k : ℕ) → getD colours k 0 < 256) → (k : ℕ) → Bytes (colourAt colours k)
 unfolding colourAt
 colour-bytes colours bytes k = record { one = bytes (3 * k); two = bytes (3 * k + 1); three = bytes (3 * k + 2) }
 

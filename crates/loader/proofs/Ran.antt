@@ -12,10 +12,10 @@ use Rattle.grid.specs.Grid.{gridOf, onGrid}
 use Rattle.grid.proofs.Places.{chose}
 use Rattle.table.specs.Cell.{wide}
 use Rattle.table.specs.Sound.{limit, total}
-use Rattle.loader.specs.Load.{Weighted, weightOf, sumOver, batchOf}
+use Rattle.loader.specs.Load.{Weighted, weightOf, sumOver, tableOf, batchOf}
 use Rattle.loader.specs.Plan.{Plan, empty, load, merge, Ran, Refused, Table, ranOf, thenLoad, thenMerge, run, leaves, firstMalformed, BytesIn}
 use Rattle.loader.proofs.Laws.{load-says, merge-says}
-use Rattle.loader.proofs.Order.{tableOf, table-total, weight-append, leaves-bytes, run-is}
+use Rattle.loader.proofs.Order.{table-total, weight-append, leaves-bytes, run-is}
 
 -- ---- how a run ended
 tableIn : Ran → List ℕ → List ℕ

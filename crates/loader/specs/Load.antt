@@ -1,7 +1,8 @@
 -- Loading (document 01, "Load" and "Numbers a caller gets back"). Definitions only.
+use mathlib.Core.Path.{_≡_}
 use mathlib.Core.Bool.{Bool, not, _&&_, cond}
-use mathlib.Core.List.{List, [], _∷_}
-use Prim.Native.Nat.{ℕ, zero, suc, _+_, _*_, _/_, _%_}
+use mathlib.Core.List.{List, [], _∷_, List·Memᴰ}
+use Prim.Native.Nat.{ℕ, zero, suc, _+_, _*_, _/_, _%_, _<_}
 use lib.Dec.{eqb, ltb}
 use lib.ListN.{length, getD}
 use Rattle.grid.specs.declared.Grid.{Grid}
@@ -9,8 +10,8 @@ use Rattle.grid.specs.declared.Rgb.{Rgb}
 use Rattle.grid.specs.Answer.{refuse, whenDone}
 use Rattle.grid.specs.Range.{listFrom}
 use Rattle.grid.specs.Grid.{gridOf, onGrid, numberOn, binsOf, colourAt, colourPlace}
-use Rattle.table.specs.Cell.{View, wide, wideList}
-use Rattle.table.specs.Sound.{limit, total, sound}
+use Rattle.table.specs.Cell.{View, zeros, wide, wideList}
+use Rattle.table.specs.Sound.{limit, total, sound, unsoundNumber}
 
 -- a colour with a weight as large as wanted
 pub record Weighted : Type 0 where
@@ -41,6 +42,17 @@ weightOf cs = sumOver cs (λ c. c .weight)
 unfoldable pub loaded : Grid → List Weighted → View → View
 loaded g cs v p j = v p j + sumOver cs (λ c. adds g c p j)
 
+-- the table of a list of colours: an empty one with them loaded
+unfoldable pub tableOf : Grid → List Weighted → List ℕ
+tableOf g cs = wideList (binsOf g) (loaded g cs zeros)
+
+-- a colour of weight above 0 among them, at a place
+pub record ColourAt (g : Grid) (cs : List Weighted) (p : ℕ) : Type 0 where
+  pub colour : Weighted
+  pub among-them : List·Memᴰ colour cs
+  pub weighs : 0 < colour .weight
+  pub there : colourPlace g (colour .colour) ≡ p
+
 -- colour i of a batch: "its weight (.. 1 when none is given, whatever list is lent)"
 unfoldable pub weightedAt : List ℕ → Bool → List ℕ → ℕ → Weighted
 weightedAt colours given weights i =
@@ -56,7 +68,7 @@ loadNumberOn most g t colours given weights =
     refuse (not (eqb (length colours % 3) 0)) 3
     (refuse (given && not (eqb (length weights) (length colours / 3))) 4
     (refuse (not (eqb (length t) (5 * binsOf g))) 5
-    (refuse (not (sound most g (wide t))) 6
+    (refuse (not (sound most g (wide t))) unsoundNumber
     (refuse (ltb most (total g (wide t) + weightOf (batchOf colours given weights))) 7 0))))
 
 unfoldable pub loadNumber : ℕ → ℕ → ℕ → List ℕ → List ℕ → Bool → List ℕ → ℕ

@@ -8,7 +8,7 @@ use Rattle.grid.specs.declared.Grid.{Grid}
 use Rattle.grid.specs.Answer.{refuse, whenDone}
 use Rattle.grid.specs.Grid.{gridOf, onGrid, numberOn, binsOf}
 use Rattle.table.specs.Cell.{View, wide, wideList}
-use Rattle.table.specs.Sound.{limit, total, sound}
+use Rattle.table.specs.Sound.{limit, total, sound, unsoundNumber}
 
 -- "Merge adds a second table into a first, number by number"
 unfoldable pub merged : View → View → View
@@ -18,7 +18,7 @@ merged v u p j = v p j + u p j
 unfoldable pub mergeNumberOn : ℕ → Grid → List ℕ → List ℕ → ℕ
 mergeNumberOn most g t s =
     refuse (not (eqb (length t) (5 * binsOf g) && eqb (length s) (5 * binsOf g))) 5
-    (refuse (not (sound most g (wide t) && sound most g (wide s))) 6
+    (refuse (not (sound most g (wide t) && sound most g (wide s))) unsoundNumber
     (refuse (ltb most (total g (wide t) + total g (wide s))) 7 0))
 
 unfoldable pub mergeNumber : ℕ → ℕ → ℕ → List ℕ → List ℕ → ℕ

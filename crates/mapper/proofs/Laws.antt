@@ -174,6 +174,15 @@ module _ (b1 b2 b3 : ℕ) (map palette frame : List ℕ) (first pixels : ℕ) wh
       (record { threes = threes; lent = lent; some = omega (arith, some); few = omega (arith, few); is-fit = eq-eqb _ _ whole; inside = inside; below = below })) refl in
       (sym (ends .0), sym (ends .1))
 
+  -- 9 is given for an entry that is not below the palette's length, and for nothing else
+  pub paint-not-9 : allBelow (length palette / 3) map ≡ true → paint-number ≡ 9 → ⊥
+  unfolding paintNumber paintNumberOn numberOn onGrid gridAnswer
+  paint-not-9 below = go (gridOf b1 b2 b3) (λ g. band-not-9 g map (length palette / 3) (eqb (length palette % 3) 0) (length frame) first pixels below)
+    where
+      go : (c : Chosen) → ((g : Grid) → paintNumberOn g map palette frame first pixels ≡ 9 → ⊥) → numberOn c (λ g. paintNumberOn g map palette frame first pixels) ≡ 9 → ⊥
+      go (chosen.Of g) on e = on g e
+      go chosen.Refused on e = omega arith
+
   pub paint-length : length paint-later ≡ length frame
   paint-length =
       same-length paint-number frame paint-later (λ m e. paint-refused e)

@@ -11,6 +11,7 @@ use Rattle.cutter.specs.declared.CutRecord.{CutRecord}
 use Rattle.cutter.specs.Cut.{Buffers, buffers}
 use Rattle.grid.proofs.shift_of as shift-of
 use Rattle.grid.proofs.grid_of as grid-of
+use Rattle.grid.proofs.Grid.rgb as rgb
 use Rattle.grid.proofs.bin_of as bin-of
 use Rattle.grid.proofs.span_of as span-of
 use Rattle.grid.proofs.bins as bins
@@ -26,7 +27,6 @@ use Rattle.table.proofs.weigh as weigh
 use Rattle.loader.proofs.load as load
 use Rattle.loader.proofs.merge as merge
 use Rattle.sums.proofs.moments as moments
-use Rattle.sums.proofs.box_cell as box-cell
 use Rattle.sums.proofs.stats_of as stats-of
 use Rattle.sums.proofs.box_sum as box-sum
 use Rattle.spread.proofs.spread as spread
@@ -42,8 +42,10 @@ use Rattle.rounds.proofs.cut_boxes as cut-boxes
 use Rattle.cutter.proofs.front as front
 use Rattle.mapper.proofs.map as map
 use Rattle.mapper.proofs.paint as paint
-use Rattle.lines.proofs.listing as listing
-use Rattle.lines.proofs.refused as refused
+use Rattle.lines.specs.declared.Loaded.{Loaded}
+use Rattle.lines.proofs.empty_table as empty-table
+use Rattle.lines.proofs.load_batch as load-batch
+use Rattle.lines.proofs.text as text
 use Rattle.cutter.proofs.cut as cut
 use Rattle.seluvava.specs.declared.CutAnswer.{CutAnswer}
 use Rattle.seluvava.specs.Cut.{Lent, lent}
@@ -65,6 +67,9 @@ shift-of-determined κs a r s x y p q = determined p q
 
 pub grid-of-determined : Determines 0 grid-of.Kinds.ps grid-of.Kinds.r grid-of.Reads.Learnt (λ κs r e. r)
 grid-of-determined κs a r s x y p q = determined p q
+
+pub rgb-determined : Determines 0 rgb.Kinds.ps rgb.Kinds.r rgb.Reads.Learnt (λ κs r e. r)
+rgb-determined κs a r s x y p q = determined p q
 
 pub bin-of-determined : Determines 0 bin-of.Kinds.ps bin-of.Kinds.r bin-of.Reads.Learnt (λ κs r e. r)
 bin-of-determined κs a r s x y p q = determined p q
@@ -113,9 +118,6 @@ merge-determined κs a r s x y p q = both (determined (p .0) (q .0)) (determined
 -- ---- sums
 pub moments-determined : Determines 2 moments.Kinds.ps moments.Kinds.r moments.Reads.Learnt (λ κs r e. now (e .1 .1 .0))
 moments-determined κs a r s x y p q = determined p q
-
-pub box-cell-determined : Determines 2 box-cell.Kinds.ps box-cell.Kinds.r box-cell.Reads.Learnt (λ κs r e. r)
-box-cell-determined κs a r s x y p q = determined p q
 
 pub stats-of-determined : Determines 0 stats-of.Kinds.ps stats-of.Kinds.r stats-of.Reads.Learnt (λ κs r e. r)
 stats-of-determined κs a r s x y p q = determined p q
@@ -171,11 +173,14 @@ pub paint-determined : Determines {A = ℕ × List ℕ} 3 paint.Kinds.ps paint.K
 paint-determined κs a r s x y p q = both (determined (p .0) (q .0)) (determined (p .1) (q .1))
 
 -- ---- lines
-pub listing-determined : Determines {A = ℕ × List ℕ} 3 listing.Kinds.ps listing.Kinds.r listing.Reads.Learnt (λ κs r e. (r, now (e .1 .1 .1 .0)))
-listing-determined κs a r s x y p q = both (determined (p .0) (q .0)) (determined (p .1 .0) (q .1 .0))
+pub empty-table-determined : Determines 0 empty-table.Kinds.ps empty-table.Kinds.r empty-table.Reads.Learnt (λ κs r e. r)
+empty-table-determined κs a r s x y p q = determined p q
 
-pub refused-determined : Determines {A = ℕ × List ℕ} 1 refused.Kinds.ps refused.Kinds.r refused.Reads.Learnt (λ κs r e. (r, now (e .1 .0)))
-refused-determined κs a r s x y p q = both (determined (p .0) (q .0)) (determined (p .1 .0) (q .1 .0))
+pub load-batch-determined : Determines {A = Loaded × List ℕ} 2 load-batch.Kinds.ps load-batch.Kinds.r load-batch.Reads.Learnt (λ κs r e. (r, now (e .0)))
+load-batch-determined κs a r s x y p q = both (determined (p .0) (q .0)) (determined (p .1) (q .1))
+
+pub text-determined : Determines {A = ℕ × List ℕ} 2 text.Kinds.ps text.Kinds.r text.Reads.Learnt (λ κs r e. (r, now (e .1 .1 .0)))
+text-determined κs a r s x y p q = both (determined (p .0) (q .0)) (determined (p .1 .0) (q .1 .0))
 
 -- ---- seluvava
 pub exported-bins-determined : Determines 0 exported-bins.Kinds.ps exported-bins.Kinds.r exported-bins.Reads.Learnt (λ κs r e. r)

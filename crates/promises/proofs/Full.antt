@@ -10,11 +10,11 @@ use Rattle.grid.specs.declared.Chosen.the-variants.{Of}
 use Rattle.grid.specs.Grid.{gridOf, binsOf}
 use Rattle.grid.proofs.Places.{chose}
 use Rattle.table.specs.Cell.{wide}
-use Rattle.loader.specs.Load.{weightOf}
+use Rattle.loader.specs.Load.{weightOf, ColourAt}
 use Rattle.loader.specs.Plan.{Plan, Table, run, leaves, BytesIn}
 use Rattle.loader.proofs.Order.{table-holds, table-total, table-sound, leaves-bytes}
 use Rattle.loader.proofs.Ran.{ran-table}
-use Rattle.sums.proofs.Loaded.{ColourAt, occupied-colour, colour-occupies}
+use Rattle.sums.proofs.Loaded.{occupied-colour, colour-occupies}
 use Rattle.spread.specs.Spread.{SpreadsAbove}
 use Rattle.spread.proofs.FromColours.{table-above}
 use Rattle.rounds.specs.Loop.{boxesOf}
@@ -29,8 +29,8 @@ module _ (b1 b2 b3 k : ℕ) (t : List ℕ) (b : Buffers) {g : Grid} (e : gridOf 
   unfolding doneRecord boxesOf occupiedBins
   full-above n spreads =
       let d = cut-says b1 b2 b3 k t b e n in
-      rw (d .hands, ← occupied-whole g (wide t))
-      (full (record { holds = d .can .is-sound }) (d .accepted) (d .can .some) spreads k (d .can .least) (d .can .most))
+      rw (d .hands)
+      (full (record { holds = d .can .is-sound }) (d .accepted) (d .can .some) spreads k (d .can .least) (d .can .most) ∙ ap (min k) (occupied-whole g (wide t)))
 
   module _ (p : Plan) (y : BytesIn p) (ran : run b1 b2 b3 p ≡ Table t) where
     -- a cut of what was loaded is done, if anything was
@@ -53,7 +53,7 @@ module _ (b1 b2 b3 k : ℕ) (t : List ℕ) (b : Buffers) {g : Grid} (e : gridOf 
           some = omega (arith, some, table-total g a (leaves p) bytes);
         }))
 
-    -- as many boxes as the smaller of k and the occupied bins, at every total from 1 on; document 01 asks for those up to 200,000
+    -- as many boxes as the smaller of k and the occupied bins, at every total from 1 on; demand 3 asks for those up to 200,000
     pub full-loaded : Lends g k b → 0 < weightOf (leaves p) → cutRecord b1 b2 b3 k t b .boxes ≡ min k (occupiedBins g t)
     full-loaded l some =
         let fits = ran-table b1 b2 b3 e p y ran in

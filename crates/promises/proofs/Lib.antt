@@ -1,6 +1,14 @@
+pub mod Each
 pub mod Worked
+pub mod Answers
+pub mod Numbers
+pub mod Loading
 pub mod Tiling
+pub mod Call
 pub mod Full
 pub mod Order
-pub mod Determined
 pub mod Mapping
+pub mod Criterion
+pub mod Sign
+pub mod Listing
+pub mod Determined

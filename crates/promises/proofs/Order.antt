@@ -1,17 +1,17 @@
 -- Demand 3, the order: the same weighted colours, in any order, in any batches, into one table or several merged in any order, give
--- the same boxes, palette, counts and map, and every pixel the same index.
+-- the same table, and so the same boxes, palette, counts and map, and every pixel the same index.
 -- Assumes nothing.
-use mathlib.Core.Path.{_≡_, sym, _∙_}
+use mathlib.Core.Path.{_≡_, refl, sym, _∙_}
 use mathlib.Core.List.{List, Perm}
-use Prim.Native.Nat.{ℕ, _≤_}
+use Prim.Native.Nat.{ℕ, suc, _≤_}
 use lib.ListN.{getD}
 use Rattle.grid.specs.declared.Grid.{Grid}
 use Rattle.grid.specs.declared.Chosen.the-variants.{Of}
 use Rattle.grid.specs.Grid.{gridOf, colourPlace}
 use Rattle.table.specs.Sound.{limit}
-use Rattle.loader.specs.Load.{weightOf}
-use Rattle.loader.specs.Plan.{Plan, Table, run, leaves, firstMalformed, BytesIn}
-use Rattle.loader.proofs.Order.{tableOf, table-perm, any-order}
+use Rattle.loader.specs.Load.{weightOf, tableOf}
+use Rattle.loader.specs.Plan.{Plan, Table, Refused, ranOf, run, leaves, firstMalformed, BytesIn}
+use Rattle.loader.proofs.Order.{table-perm, run-is, any-order, malformed-refused}
 use Rattle.loader.proofs.Ran.{ran-table}
 use Rattle.cutter.specs.Cut.{Buffers, cutRecord, cutLater}
 use Rattle.promises.specs.Order.{SameCut, CutAlike}
@@ -29,10 +29,12 @@ same-cut g b1 b2 b3 k b e =
     }
 
 module _ (b1 b2 b3 : ℕ) {g : Grid} (e : gridOf b1 b2 b3 ≡ Of g) (p q : Plan) (y : BytesIn p) (z : BytesIn q) (π : Perm (leaves p) (leaves q)) where
-  -- plans that ran to tables
+  -- plans that ran to tables ran to the same table
+  pub ran-same : {t s : List ℕ} → run b1 b2 b3 p ≡ Table t → run b1 b2 b3 q ≡ Table s → t ≡ s
+  ran-same r u = ran-table b1 b2 b3 e p y r .1 ∙ table-perm g π ∙ sym (ran-table b1 b2 b3 e q z u .1)
+
   pub ran-alike : {t s : List ℕ} → run b1 b2 b3 p ≡ Table t → run b1 b2 b3 q ≡ Table s → (k : ℕ) (b : Buffers) → SameCut g b1 b2 b3 k b t s
-  ran-alike r u k b =
-      same-cut g b1 b2 b3 k b (ran-table b1 b2 b3 e p y r .1 ∙ table-perm g π ∙ sym (ran-table b1 b2 b3 e q z u .1))
+  ran-alike r u k b = same-cut g b1 b2 b3 k b (ran-same r u)
 
   -- and with no malformed batch and a total that fits, both do
   pub any-order-cuts : firstMalformed p ≡ 0 → firstMalformed q ≡ 0 → weightOf (leaves p) ≤ limit → CutAlike g b1 b2 b3 p q
@@ -43,5 +45,15 @@ module _ (b1 b2 b3 : ℕ) {g : Grid} (e : gridOf b1 b2 b3 ≡ Of g) (p q : Plan)
         second = tableOf g (leaves p);
         first-ran = ran .0;
         second-ran = ran .1 ∙ ran .0;
+        same = refl;
         alike = ran-alike (ran .0) (ran .1 ∙ ran .0);
       }
+
+module _ (b1 b2 b3 : ℕ) {g : Grid} (e : gridOf b1 b2 b3 ≡ Of g) (p : Plan) (y : BytesIn p) (h : weightOf (leaves p) ≤ limit) where
+  -- how a plan whose total fits ends: refused with the number of its first malformed batch, or else with the table of its colours
+  pub plan-ends : run b1 b2 b3 p ≡ ranOf (firstMalformed p) (tableOf g (leaves p))
+  plan-ends = run-is b1 b2 b3 e p y h
+
+  -- a plan with a malformed batch is refused with that batch's number
+  pub malformed-is-refused : {n : ℕ} → firstMalformed p ≡ suc n → run b1 b2 b3 p ≡ Refused (suc n)
+  malformed-is-refused m = malformed-refused b1 b2 b3 e p y h m

@@ -16,10 +16,10 @@ use Rattle.grid.proofs.Range.{sum-same}
 use Rattle.grid.proofs.Places.{Bytes, colour-place-lt}
 use Rattle.table.specs.Cell.{wide}
 use Rattle.table.specs.Sound.{total}
-use Rattle.loader.specs.Load.{Weighted, sumOver}
+use Rattle.loader.specs.Load.{Weighted, sumOver, tableOf}
 use Rattle.loader.specs.Plan.{Plan, Table, run, leaves, BytesIn}
 use Rattle.loader.proofs.Loading.{AllBytes, share-weight, over-none, over-more}
-use Rattle.loader.proofs.Order.{tableOf, table-holds, leaves-bytes}
+use Rattle.loader.proofs.Order.{table-holds, leaves-bytes}
 use Rattle.loader.proofs.Ran.{ran-table}
 use Rattle.sums.specs.declared.Bounds.{Bounds}
 use Rattle.sums.specs.Box.{Within}

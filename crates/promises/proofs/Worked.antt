@@ -1,17 +1,16 @@
 -- "Cases P1 to P10 are proved as one table under one statement": each comes out as document 01 says, computed on the
 -- definitions that the contracts of load and cut cite.
 -- Assumes nothing.
-use mathlib.Core.Path.{_≡_, refl, sym, ap, _∙_}
-use mathlib.Core.Logic.{inl, inr}
-use mathlib.Core.List.{List, [], _∷_, map, List·Memᴰ, List·Memᴰ·not-nil, List·Memᴰ·cases-cons}
-use lib.ListN.{getD, drop}
+use mathlib.Core.Path.{_≡_, refl}
+use mathlib.Core.Bool.{false}
+use mathlib.Core.List.{[], map, List·Memᴰ}
 use Rattle.grid.specs.Answer.{refuse, whenDone}
 use Rattle.grid.specs.Range.{listFrom, sumFrom, allFrom}
 use Rattle.grid.specs.Size.{choices, shiftIn, shiftOf, binOf, spanOf}
 use Rattle.grid.specs.Grid.{choose, shiftAt, gridWith, gridOf, gridAnswer, onGrid, numberOn, binsOf, placeOf, binAt, colourPlace, colourAt}
 use Rattle.table.specs.Cell.{wide, wideList}
 use Rattle.table.specs.Sound.{between, inBounds, spanAt, binSound, total, sound}
-use Rattle.loader.specs.Load.{share, adds, sumOver, weightOf, loaded, weightedAt, batchOf, loadNumberOn, loadNumber, loadLater}
+use Rattle.loader.specs.Load.{share, adds, sumOver, weightOf, loaded, tableOf, weightedAt, batchOf, loadNumberOn, loadNumber, loadLater}
 use Rattle.sums.specs.Box.{minAt, maxAt, sum3, binSum, boxSum, statsOf, lowSide, highSide}
 use Rattle.sums.specs.Moments.{belowSum, momentsOf}
 use Rattle.spread.specs.Spread.{quotientOf, oneBin, spreadOf, scoreOf}
@@ -22,7 +21,9 @@ use Rattle.cutter.specs.Fronts.{flat, filled}
 use Rattle.cutter.specs.Palette.{meanOf, colourOf, countOf, bytesOf, itsColour, itsCount, paletteLater, countsLater}
 use Rattle.cutter.specs.Map.{lies, holds, indexFrom, mapOf}
 use Rattle.cutter.specs.Cut.{longEnough, cutNumberOn, cutNumber, refusedRecord, doneRecord, recordOn, cutRecord, boundsOf, listOf, boxList, laterOn, cutLater}
-use Rattle.promises.specs.Cases.{Case, Outcome, loadsOf, tableAfter, positionIn, lentTo, outcome, times, empties, plain, weighted, loadGives, at, nowhere, box, recordWith, done, refusedWith, blackWhite, blackWhiteTable, blackWhiteMoments, reds, redsTable, redsMoments, fullCell, sizeOne, cases}
+use Rattle.promises.specs.Cases.{Case, loadsOf, tableAfter, positionIn, lentTo, outcome, times, empties, plain, weighted, loadGives, at, nowhere, box, recordWith, done, refusedWith, blackWhite, blackWhiteTable, blackWhiteMoments, reds, redsTable, redsMoments, fullCell, sizeOne, cases}
+use Rattle.promises.specs.Listing.{grid8, fourPixels, fourTable}
+use Rattle.promises.proofs.Each.{each}
 
 pub worked : map outcome cases ≡ map (λ c. c .expected) cases
 unfolding loadsOf tableAfter positionIn lentTo outcome times empties plain weighted loadGives at nowhere box recordWith done refusedWith blackWhite blackWhiteTable blackWhiteMoments reds redsTable redsMoments fullCell sizeOne cases
@@ -38,14 +39,10 @@ unfolding loadsOf tableAfter positionIn lentTo outcome times empties plain weigh
     lib.Ieee.ofInt lib.Ieee.mul lib.Ieee.add lib.Ieee.sub lib.Ieee.div lib.Ieee.neg lib.Ieee.lt lib.Ieee.le lib.Ieee.round lib.Ieee.size lib.Ieee.span lib.Ieee.climb lib.Ieee.units lib.Ieee.odd lib.Ieee.sum lib.Ieee.eq lib.Count.trailingZeros
 worked = refl
 
--- what holds of the whole table holds of each case in it
-one-of : (xs : List Case) → map outcome xs ≡ map (λ c. c .expected) xs → {c : Case} → List·Memᴰ c xs → outcome c ≡ c .expected
-one-of [] e m = absurd (List·Memᴰ·not-nil m)
-one-of (x ∷ xs) e {c} m =
-    elim (List·Memᴰ·cases-cons m) [
-      | inl same ↦ ap outcome same ∙ ap (λ (l : List Outcome). getD l 0 (outcome x)) e ∙ ap (λ (d : Case). d .expected) (sym same)
-      | inr later ↦ one-of xs (ap (drop 1) e) later
-    ]
-
 pub each-worked : {c : Case} → List·Memᴰ c cases → outcome c ≡ c .expected
-each-worked m = one-of cases worked m
+each-worked m = each outcome (λ c. c .expected) cases worked m
+
+-- the example of the listing program: the table of its four pixels
+pub four-added : tableOf grid8 (batchOf fourPixels false []) ≡ fourTable
+unfolding fourPixels fourTable tableOf listFrom binOf choose shiftAt binsOf placeOf binAt colourPlace colourAt wideList share adds sumOver loaded weightedAt batchOf
+four-added = refl

@@ -50,7 +50,7 @@ tableAfter b1 b2 b3 t (b ∷ bs) = tableAfter b1 b2 b3 (loadLater b1 b2 b3 t (b 
 
 -- no position
 unfoldable pub nowhere : Told
-nowhere = record { values = []; scores = [] }
+nowhere = record { number = 0; values = []; scores = [] }
 
 -- the best position to cut the whole grid
 unfoldable pub positionIn : ℕ → ℕ → ℕ → List ℕ → Told
@@ -96,7 +96,7 @@ loadGives number table = record { number = number; table = table }
 
 -- dimension and bin, with the score
 unfoldable pub at : ℕ → ℕ → Float → Told
-at dimension bin score = record { values = dimension ∷ bin ∷ []; scores = score ∷ [] }
+at dimension bin score = record { number = 0; values = dimension ∷ bin ∷ []; scores = score ∷ [] }
 
 -- a box of three ranges, with its spread
 unfoldable pub box : ℕ × ℕ → ℕ × ℕ → ℕ × ℕ → Float → BoxSpread

@@ -6,8 +6,8 @@ use contract.Lifetimes.{Lfts}
 use denote.Triple.Clauses.{AtExit}
 use borrow.Fn.Kinds.{PK, RK, Dens, resT, endedOf, Out}
 
--- "any two results allowed by its statement are equal": whatever the arguments, two results and two ends of the parameters that the
--- contract allows are the same to whoever sees so much of them
+-- "any two results allowed by its statement are equal": whatever the arguments, what the contract allows as result and as the parameters
+-- at exit is the same in what `seen` takes of it, which is the result and each later content of what may be written
 abbrev pub Determines : {A : Type 0} (n : ℕ) (ps : List (PK n)) (r : RK n) → Out n ps r → ((κs : Lfts n) → resT r κs .Denot → AtExit (endedOf n ps r) κs → A) → Type 0
 Determines n ps r allowed seen =
     (κs : Lfts n) (a : Dens κs ps) (x y : resT r κs .Denot) (e f : AtExit (endedOf n ps r) κs)

@@ -1,5 +1,11 @@
 pub mod Cases
+pub mod Answers
+pub mod Numbers
 pub mod Tiling
+pub mod Call
 pub mod Full
 pub mod Order
+pub mod Mapping
+pub mod Criterion
 pub mod Determined
+pub mod Listing

@@ -19,10 +19,11 @@ pub record SameCut (g : Grid) (b1 b2 b3 k : ℕ) (b : Buffers) (t s : List ℕ) 
   pub work : cutLater b1 b2 b3 k t b .work ≡ cutLater b1 b2 b3 k s b .work
   pub pixel : (c : Rgb) → getD (cutLater b1 b2 b3 k t b .map) (colourPlace g c) 0 ≡ getD (cutLater b1 b2 b3 k s b .map) (colourPlace g c) 0
 
--- two plans that run to tables, which are cut alike for every k and whatever is lent
+-- two plans that run to the same table, which is cut alike for every k and whatever is lent
 pub record CutAlike (g : Grid) (b1 b2 b3 : ℕ) (p q : Plan) : Type 0 where
   pub first : List ℕ
   pub second : List ℕ
   pub first-ran : run b1 b2 b3 p ≡ Table first
   pub second-ran : run b1 b2 b3 q ≡ Table second
+  pub same : first ≡ second
   pub alike : (k : ℕ) (b : Buffers) → SameCut g b1 b2 b3 k b first second

@@ -41,7 +41,7 @@ module _ {g : Grid} (v : View) {x : Bounds} (w : Within g x) {d i : ℕ} {s : Fl
   low-box = let a = answered g v x q .1 .inside in low-within w d i (a .0) (a .1)
 
   pub high-box : Within g (highSide x d i)
-  high-box = let a = answered g v x q .1 .inside in high-within w d i (a .0) (a .1)
+  high-box = let a = answered g v x q .1 .inside in high-within w d i (a .1)
 
 -- the two tests of a spread
 pub above-0 : (s : Float) → lt zeroOf s ≡ true → eq s s ≡ goesOn s

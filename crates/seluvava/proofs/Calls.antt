@@ -1,11 +1,12 @@
 -- What the definitions of the calls come to: the sizes of a grid, the room for the boxes, the answer of a cut.
 -- Assumes nothing.
 use mathlib.Core.Path.{_≡_, refl, sym, ap, _∙_}
+use mathlib.Core.Bool.{Bool, true, false, not, _&&_}
 use mathlib.Core.List.{List}
 use Prim.Native.Nat.{ℕ, zero, suc, _*_, _≤_, _<_}
 use native.Mathlib.Omega.{arith}
 use borrow.Author.Tests.{le-leb, lt-leb, leb-true, not-false}
-use lib.Dec.{leb}
+use lib.Dec.{eqb, leb}
 use lib.ListN.{length}
 use lib.Ieee.{Float}
 use Rattle.grid.specs.declared.Grid.{Grid}
@@ -15,16 +16,18 @@ use Rattle.grid.specs.Answer.{refuse, whenDone}
 use Rattle.grid.specs.Grid.{gridOf, gridAnswer, onGrid, numberOn, binsOf}
 use Rattle.grid.proofs.Places.{chose, bins-high}
 use Rattle.grid.proofs.Range.{and-left, and-right}
-use Rattle.grid.proofs.Ends.{refused-keeps, passed}
+use Rattle.grid.proofs.Ends.{passed}
+use Rattle.table.specs.Cell.{wide}
+use Rattle.table.specs.Sound.{limit, total, sound, unsoundNumber}
 use Rattle.cutter.specs.declared.CutRecord.{CutRecord}
 use Rattle.cutter.specs.Fronts.{filled}
-use Rattle.cutter.specs.Cut.{Buffers, refusedRecord, cutRecord, cutLater}
+use Rattle.cutter.specs.Cut.{Buffers, lengthsOf, longEnough, cutNumberOn, cutNumber, refusedRecord, cutRecord, cutLater}
 use Rattle.cutter.proofs.Fronts.{filled-none}
 use Rattle.cutter.proofs.Laws.{record-number, cut-refuses}
 use Rattle.seluvava.specs.declared.CutAnswer.{CutAnswer}
 use Rattle.seluvava.specs.Sizes.{binsFor}
 use Rattle.seluvava.proofs.Boxes.{six, one}
-use Rattle.seluvava.specs.Cut.{Lent, lent, hasRoom, roomOn, roomNumber, callRecord, answerOf, cutAnswer, boxBytes, spreadOf, told, callLater}
+use Rattle.seluvava.specs.Cut.{Lent, lent, hasRoom, allLong, callNumberOn, callNumber, cutAnswer, boxBytes, spreadOf, told, callLater, roomOn, roomNumber}
 
 module _ (b1 b2 b3 : ℕ) where
   -- ---- sizes
@@ -109,40 +112,91 @@ roomy b1 b2 b3 k boxes spreads = go (gridOf b1 b2 b3)
     go chosen.Refused e = absurd (never e)
 
 -- ---- the call: what it answers, and what it leaves behind
+abbrev told-of : ℕ → ℕ → CutAnswer
+told-of number boxes = record { number = number; boxes = boxes }
+
+abbrev answer-of : CutRecord → CutAnswer
+answer-of r = told-of (r .number) (r .boxes)
+
+-- 2, and 5 for any of the lengths: those of one kind may be asked for before the others
+stages : (size long room : Bool) (rest : ℕ) → refuse (not size) 2 (refuse (not (long && room)) 5 rest) ≡ whenDone (refuse (not size) 2 (refuse (not room) 5 0)) (refuse (not size) 2 (refuse (not long) 5 rest)) (refuse (not size) 2 (refuse (not room) 5 0))
+unfolding refuse whenDone
+stages false long room rest = refl
+stages true true true rest = refl
+stages true true false rest = refl
+stages true false true rest = refl
+stages true false false rest = refl
+
 module _ (b1 b2 b3 k : ℕ) (t : List ℕ) (l : Lent) where
+  abbrev room : ℕ
+  room = roomNumber b1 b2 b3 k (length (l .boxes)) (length (l .spreads))
+
+  -- the number of the call is that of the room, and where that is 0 the number of the cut
+  pub in-stages : callNumber b1 b2 b3 k t l ≡ whenDone room (cutNumber b1 b2 b3 k t (l .buffers)) room
+  unfolding callNumber callNumberOn allLong cutNumber cutNumberOn roomNumber roomOn numberOn onGrid gridAnswer whenDone
+  in-stages = go (gridOf b1 b2 b3)
+    where
+      go : (c : Chosen) → numberOn c (λ g. callNumberOn g k t l) ≡ whenDone (numberOn c (λ g. roomOn k (length (l .boxes)) (length (l .spreads)))) (numberOn c (λ g. cutNumberOn limit g k t (lengthsOf (l .buffers)))) (numberOn c (λ g. roomOn k (length (l .boxes)) (length (l .spreads))))
+      go (chosen.Of g) =
+          stages (leb 1 k && leb k 256) (longEnough g k (length t) (lengthsOf (l .buffers))) (hasRoom k (length (l .boxes)) (length (l .spreads)))
+          (refuse (not (sound limit g (wide t))) unsoundNumber (refuse (eqb (total g (wide t)) 0) 8 0))
+      go chosen.Refused = refl
+
   abbrev Ends : CutAnswer → Lent → Type 0
   Ends r e = (r ≡ cutAnswer b1 b2 b3 k t l) × (e ≡ callLater b1 b2 b3 k t l)
 
+  -- the boxes of a record written out, beside its buffers
+  abbrev written : CutRecord → Buffers → Lent
+  written r b = lent b (filled 6 boxBytes (told r) (l .boxes)) (filled 1 spreadOf (told r) (l .spreads))
+
   -- what a cut with room leaves behind
   abbrev cut : Lent
-  cut =
-      let r = cutRecord b1 b2 b3 k t (l .buffers) in
-      lent (cutLater b1 b2 b3 k t (l .buffers)) (filled 6 boxBytes (told r) (l .boxes)) (filled 1 spreadOf (told r) (l .spreads))
+  cut = written (cutRecord b1 b2 b3 k t (l .buffers)) (cutLater b1 b2 b3 k t (l .buffers))
 
-  module _ {n : ℕ} (e : n ≡ roomNumber b1 b2 b3 k (length (l .boxes)) (length (l .spreads))) where
-    pub call-refused : (n ≡ 0 → ⊥) → Ends (record { number = n; boxes = 0 }) l
-    unfolding cutAnswer callRecord callLater answerOf refusedRecord
-    call-refused h = (
-      ap answerOf (refused-keeps n h (refusedRecord n) _) ∙ ap (λ (m : ℕ). answerOf (whenDone m (cutRecord b1 b2 b3 k t (l .buffers)) (refusedRecord m))) e,
-      refused-keeps n h l cut ∙ ap (λ (m : ℕ). whenDone m cut l) e,
-    )
+  -- "A refusal .. writes nothing", and tells of no box
+  pub call-kept : {n : ℕ} → callNumber b1 b2 b3 k t l ≡ suc n → (cutAnswer b1 b2 b3 k t l ≡ told-of (suc n) 0) × (callLater b1 b2 b3 k t l ≡ l)
+  unfolding cutAnswer callLater whenDone
+  call-kept e = (rw e refl, rw e refl)
 
-    pub call-done : n ≡ 0 → {r : CutRecord} → r ≡ cutRecord b1 b2 b3 k t (l .buffers) → {b : Buffers} {boxes : List ℕ} {spreads : List Float} → b ≡ cutLater b1 b2 b3 k t (l .buffers) → boxes ≡ filled 6 boxBytes (told r) (l .boxes) → spreads ≡ filled 1 spreadOf (told r) (l .spreads) → Ends (record { number = r .number; boxes = r .boxes }) (lent b boxes spreads)
-    unfolding cutAnswer answerOf callRecord callLater whenDone
-    call-done z q later p s = (ap answerOf q ∙ rw (← e, z) refl, (λ i. lent (later i) ((p ∙ ap (λ (r : CutRecord). filled 6 boxBytes (told r) (l .boxes)) q) i) ((s ∙ ap (λ (r : CutRecord). filled 1 spreadOf (told r) (l .spreads)) q) i)) ∙ rw (← e, z) refl)
+  -- and a call that is done has the boxes of the record
+  pub call-has : callNumber b1 b2 b3 k t l ≡ 0 → (cutAnswer b1 b2 b3 k t l ≡ told-of 0 (cutRecord b1 b2 b3 k t (l .buffers) .boxes)) × (callLater b1 b2 b3 k t l ≡ cut)
+  unfolding cutAnswer callLater whenDone
+  call-has e = (rw e refl, rw e refl)
 
-  cut-kept : (n : ℕ) → (cutRecord b1 b2 b3 k t (l .buffers) ≡ refusedRecord (suc n)) × (cutLater b1 b2 b3 k t (l .buffers) ≡ l .buffers) → (cutRecord b1 b2 b3 k t (l .buffers) .boxes ≡ 0) × (cut ≡ l)
-  unfolding told refusedRecord
-  cut-kept n (e, f) = (
-    ap (λ (r : CutRecord). r .boxes) e,
-    (λ i. lent (f i) ((ap (λ (r : CutRecord). filled 6 boxBytes (told r) (l .boxes)) e ∙ filled-none 6 boxBytes six (l .boxes)) i) ((ap (λ (r : CutRecord). filled 1 spreadOf (told r) (l .spreads)) e ∙ filled-none 1 spreadOf one (l .spreads)) i)),
-  )
+  -- ---- what the code shows of it, stage by stage
+  module _ {n : ℕ} (e : n ≡ room) where
+    pub call-refused : (n ≡ 0 → ⊥) → Ends (told-of n 0) l
+    unfolding whenDone
+    call-refused h = go n refl
+      where
+        go : (m : ℕ) → n ≡ m → Ends (told-of n 0) l
+        go zero z = absurd (h z)
+        go (suc m) z =
+            let kept = call-kept {n = m} (in-stages ∙ rw (← e, z) refl) in
+            (ap (λ (i : ℕ). told-of i 0) z ∙ sym (kept .0), sym (kept .1))
 
-  -- "a refusal writes nothing", and tells of no box
-  pub call-kept : {n : ℕ} → cutAnswer b1 b2 b3 k t l .number ≡ suc n → (cutAnswer b1 b2 b3 k t l .boxes ≡ 0) × (callLater b1 b2 b3 k t l ≡ l)
-  unfolding cutAnswer answerOf callRecord callLater whenDone refusedRecord
-  call-kept {n} = go (roomNumber b1 b2 b3 k (length (l .boxes)) (length (l .spreads)))
-    where
-      go : (m : ℕ) → whenDone m (cutRecord b1 b2 b3 k t (l .buffers)) (refusedRecord m) .number ≡ suc n → (whenDone m (cutRecord b1 b2 b3 k t (l .buffers)) (refusedRecord m) .boxes ≡ 0) × (whenDone m cut l ≡ l)
-      go zero e = cut-kept n (cut-refuses b1 b2 b3 k t (l .buffers) (sym (record-number b1 b2 b3 k t (l .buffers)) ∙ e))
-      go (suc m) e = (refl, refl)
+    -- where there is room: the cut's number, and its boxes written out
+    cut-ends : n ≡ 0 → Ends (told-of (cutRecord b1 b2 b3 k t (l .buffers) .number) (cutRecord b1 b2 b3 k t (l .buffers) .boxes)) cut
+    unfolding whenDone told refusedRecord
+    cut-ends z = go (cutNumber b1 b2 b3 k t (l .buffers)) refl
+      where
+        same : callNumber b1 b2 b3 k t l ≡ cutNumber b1 b2 b3 k t (l .buffers)
+        same = in-stages ∙ rw (← e, z) refl
+
+        go : (m : ℕ) → cutNumber b1 b2 b3 k t (l .buffers) ≡ m → Ends (told-of (cutRecord b1 b2 b3 k t (l .buffers) .number) (cutRecord b1 b2 b3 k t (l .buffers) .boxes)) cut
+        go zero q =
+            let has = call-has (same ∙ q) in
+            (ap (λ (i : ℕ). told-of i (cutRecord b1 b2 b3 k t (l .buffers) .boxes)) (record-number b1 b2 b3 k t (l .buffers) ∙ q) ∙ sym (has .0), sym (has .1))
+        go (suc m) q =
+            let kept = call-kept {n = m} (same ∙ q) in
+            let none = cut-refuses b1 b2 b3 k t (l .buffers) q in (
+              ap answer-of (none .0) ∙ sym (kept .0),
+              (λ i. written (none .0 i) (none .1 i)) ∙ (λ i. lent (l .buffers) (filled-none 6 boxBytes six (l .boxes) i) (filled-none 1 spreadOf one (l .spreads) i)) ∙ sym (kept .1),
+            )
+
+    pub call-done : n ≡ 0 → {r : CutRecord} → r ≡ cutRecord b1 b2 b3 k t (l .buffers) → {b : Buffers} {boxes : List ℕ} {spreads : List Float} → b ≡ cutLater b1 b2 b3 k t (l .buffers) → boxes ≡ filled 6 boxBytes (told r) (l .boxes) → spreads ≡ filled 1 spreadOf (told r) (l .spreads) → Ends (answer-of r) (lent b boxes spreads)
+    call-done z q later p s =
+        let ends = cut-ends z in (
+          ap answer-of q ∙ ends .0,
+          (λ i. lent (later i) (p i) (s i)) ∙ ap (λ (r : CutRecord). written r (cutLater b1 b2 b3 k t (l .buffers))) q ∙ ends .1,
+        )

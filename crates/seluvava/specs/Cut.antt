@@ -2,15 +2,18 @@
 use mathlib.Core.Bool.{Bool, not, _&&_}
 use mathlib.Core.List.{List, [], _∷_}
 use Prim.Native.Nat.{ℕ, _*_}
-use lib.Dec.{leb}
+use lib.Dec.{eqb, leb}
 use lib.ListN.{length, take}
 use lib.Ieee.{Float}
+use Rattle.grid.specs.declared.Grid.{Grid}
 use Rattle.grid.specs.Answer.{refuse, whenDone}
 use Rattle.grid.specs.Grid.{gridOf, numberOn}
+use Rattle.table.specs.Cell.{wide}
+use Rattle.table.specs.Sound.{limit, total, sound, unsoundNumber}
 use Rattle.rounds.specs.declared.BoxSpread.{BoxSpread}
 use Rattle.cutter.specs.declared.CutRecord.{CutRecord}
 use Rattle.cutter.specs.Fronts.{filled, putFrom}
-use Rattle.cutter.specs.Cut.{Buffers, refusedRecord, cutRecord, cutLater}
+use Rattle.cutter.specs.Cut.{Buffers, lengthsOf, longEnough, cutRecord, cutLater}
 use Rattle.seluvava.specs.declared.CutAnswer.{CutAnswer}
 
 -- what is lent to be written
@@ -26,25 +29,26 @@ lent b boxes spreads = record { buffers = b; boxes = boxes; spreads = spreads }
 unfoldable pub hasRoom : ℕ → ℕ → ℕ → Bool
 hasRoom k boxes spreads = leb (6 * k) boxes && leb k spreads
 
--- the number that arrays of these lengths call for: 5 where the room lacks, after 1 and 2
-unfoldable pub roomOn : ℕ → ℕ → ℕ → ℕ
-roomOn k boxes spreads = refuse (not (leb 1 k && leb k 256)) 2 (refuse (not (hasRoom k boxes spreads)) 5 0)
+-- no "lent length is wrong": those that every cut is lent are right, and there is room for the boxes
+unfoldable pub allLong : Grid → ℕ → ℕ → Lent → Bool
+allLong g k table l = longEnough g k table (lengthsOf (l .buffers)) && hasRoom k (length (l .boxes)) (length (l .spreads))
 
-unfoldable pub roomNumber : ℕ → ℕ → ℕ → ℕ → ℕ → ℕ → ℕ
-roomNumber b1 b2 b3 k boxes spreads = numberOn (gridOf b1 b2 b3) (λ g. roomOn k boxes spreads)
+-- the number of the call on an accepted grid
+unfoldable pub callNumberOn : Grid → ℕ → List ℕ → Lent → ℕ
+callNumberOn g k t l =
+    refuse (not (leb 1 k && leb k 256)) 2
+    (refuse (not (allLong g k (length t) l)) 5
+    (refuse (not (sound limit g (wide t))) unsoundNumber
+    (refuse (eqb (total g (wide t)) 0) 8 0)))
 
--- the record of the cut, where the arrays have the room
-unfoldable pub callRecord : ℕ → ℕ → ℕ → ℕ → List ℕ → Lent → CutRecord
-callRecord b1 b2 b3 k t l =
-    let n = roomNumber b1 b2 b3 k (length (l .boxes)) (length (l .spreads)) in
-    whenDone n (cutRecord b1 b2 b3 k t (l .buffers)) (refusedRecord n)
+unfoldable pub callNumber : ℕ → ℕ → ℕ → ℕ → List ℕ → Lent → ℕ
+callNumber b1 b2 b3 k t l = numberOn (gridOf b1 b2 b3) (λ g. callNumberOn g k t l)
 
--- what is told of a record: its number and the number of boxes
-unfoldable pub answerOf : CutRecord → CutAnswer
-answerOf r = record { number = r .number; boxes = r .boxes }
-
+-- "A refusal returns its number and, from a cut, zero boxes"
 unfoldable pub cutAnswer : ℕ → ℕ → ℕ → ℕ → List ℕ → Lent → CutAnswer
-cutAnswer b1 b2 b3 k t l = answerOf (callRecord b1 b2 b3 k t l)
+cutAnswer b1 b2 b3 k t l =
+    let n = callNumber b1 b2 b3 k t l in
+    record { number = n; boxes = whenDone n (cutRecord b1 b2 b3 k t (l .buffers) .boxes) 0 }
 
 -- ---- what was lent, afterwards
 -- the six bytes of a box: of each dimension where it begins, and where it ends
@@ -54,20 +58,28 @@ boxBytes x = x .r0 ∷ x .r1 ∷ x .g0 ∷ x .g1 ∷ x .b0 ∷ x .b1 ∷ []
 unfoldable pub spreadOf : BoxSpread → List Float
 spreadOf x = x .spread ∷ []
 
--- the boxes that a record tells of; a refusal's tells of none
+-- the boxes that a record tells of
 unfoldable pub told : CutRecord → List BoxSpread
 told r = take (r .boxes) (r .places)
 
+-- "A refusal .. writes nothing"
 unfoldable pub callLater : ℕ → ℕ → ℕ → ℕ → List ℕ → Lent → Lent
 callLater b1 b2 b3 k t l =
     let r = cutRecord b1 b2 b3 k t (l .buffers) in
-    whenDone (roomNumber b1 b2 b3 k (length (l .boxes)) (length (l .spreads)))
+    whenDone (callNumber b1 b2 b3 k t l)
     (record {
       buffers = cutLater b1 b2 b3 k t (l .buffers);
       boxes = filled 6 boxBytes (told r) (l .boxes);
       spreads = filled 1 spreadOf (told r) (l .spreads);
     })
     l
+
+-- ---- what the code asks first: 1, 2, and 5 where there is no room for the boxes
+unfoldable pub roomOn : ℕ → ℕ → ℕ → ℕ
+roomOn k boxes spreads = refuse (not (leb 1 k && leb k 256)) 2 (refuse (not (hasRoom k boxes spreads)) 5 0)
+
+unfoldable pub roomNumber : ℕ → ℕ → ℕ → ℕ → ℕ → ℕ → ℕ
+roomNumber b1 b2 b3 k boxes spreads = numberOn (gridOf b1 b2 b3) (λ g. roomOn k boxes spreads)
 
 -- ---- one box
 unfoldable pub withBoxAt : List ℕ → ℕ → BoxSpread → List ℕ

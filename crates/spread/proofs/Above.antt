@@ -15,8 +15,8 @@ use Rattle.table.specs.Sound.{limit}
 use Rattle.table.proofs.Soundness.{Sound}
 use Rattle.sums.specs.declared.Bounds.{Bounds}
 use Rattle.sums.specs.Box.{boxSum, statsOf, Within}
-use Rattle.spread.specs.Spread.{zeroOf, oneBin, spreadOf}
-use Rattle.spread.proofs.Numbers.{Numbers, exactQ, spreadAt, numbers, spread-is}
+use Rattle.spread.specs.Spread.{exactQ, zeroOf, oneBin, spreadOf}
+use Rattle.spread.proofs.Numbers.{Numbers, spreadAt, numbers, spread-is}
 use Rattle.spread.proofs.Sign.{above-zero}
 use Rattle.spread.proofs.Bound.{Closely, numbers-close}
 

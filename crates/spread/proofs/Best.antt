@@ -23,20 +23,10 @@ use Rattle.spread.specs.declared.Position.{Position}
 use Rattle.spread.specs.declared.Position.the-variants.{At, Nowhere}
 use Rattle.spread.specs.Spread.{scoreOf}
 use Rattle.spread.specs.Cut.{positionOf, positionAt, better, laterWins, bestRun, bestIn, bestCut}
+use Rattle.spread.specs.Best.{Split, Good}
 
 pub never : {A : Type 0} {d i : ℕ} {s : Float} → Nowhere ≡ At d i s → A
 never q = absurd (let z : _≡_ {A = ℕ} 0 1 = cc in omega arith)
-
--- weight on both sides of a position
-pub record Split (g : Grid) (v : View) (x : Bounds) (d bin : ℕ) : Type 0 where
-  pub low : boxSum g v (lowSide x d bin) 0 ≡ 0 → ⊥
-  pub high : boxSum g v (highSide x d bin) 0 ≡ 0 → ⊥
-
--- a position strictly inside the box with weight on both sides, and its score
-pub record Good (g : Grid) (v : View) (x : Bounds) (d bin : ℕ) (score : Float) : Type 0 where
-  pub inside : (minAt x d < bin) × (bin < maxAt x d)
-  pub split : Split g v x d bin
-  pub scored : score ≡ scoreOf (statsOf g v (lowSide x d bin)) (statsOf g v (highSide x d bin))
 
 -- ---- one position
 module _ (g : Grid) (v : View) (x : Bounds) (d bin : ℕ) where

@@ -14,8 +14,8 @@ use lib.Ieee.Exact.{HasValue}
 use lib.Ieee.Scale.{grid, overflow}
 use lib.Ieee.Order.{drop}
 use Rattle.table.specs.Sound.{limit}
-use Rattle.spread.specs.Spread.{whole, squareOf, qOf}
-use Rattle.spread.proofs.Numbers.{Numbers, exactQ, quotAt, spreadAt, weight-value, squares-value}
+use Rattle.spread.specs.Spread.{whole, squareOf, qOf, exactQ}
+use Rattle.spread.proofs.Numbers.{Numbers, quotAt, spreadAt, weight-value, squares-value}
 use Rattle.spread.proofs.Rounding.{Is, is-of, of-whole, mul-of, add-whole, div-whole, less-of, less-under, sub-mul}
 use Rattle.spread.proofs.Error.{F, U, Half, spot, spot-near, drop-le, spot-le, round-value, round-is-at}
 use Rattle.spread.proofs.Near.{E, Near, Multiple, near-add, near-more, near-double, near-cancel, near-scale, again, spot-mul, rounded-or-zero, coarse-or-zero}

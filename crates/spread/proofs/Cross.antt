@@ -1,23 +1,25 @@
 -- Laws of the walk through the bins of one dimension: the four places that it reads hold what inclusion and exclusion
 -- need.
 -- Assumes nothing.
-use mathlib.Core.Path.{_≡_, refl, ap, _∙_}
+use mathlib.Core.Path.{_≡_, refl, sym, ap, subst, _∙_}
 use mathlib.Core.List.{List}
 use Prim.Native.Nat.{ℕ, zero, suc, _+_, _-_, _*_, _≤_, _<_}
 use native.Mathlib.Nat.{add-zero, add-mul, mul-comm, mul-assoc, zero-mul, one-mul, le-trans, le-of-lt}
 use native.Mathlib.Omega.{arith}
+use lib.Dec.{lit<}
 use Rattle.grid.specs.declared.Grid.{Grid}
 use Rattle.grid.specs.Grid.{choose, sizeAt, placeOf, strideAt, Accepted, Inside}
 use Rattle.grid.proofs.Size.{size-low}
 use Rattle.grid.proofs.Places.{one, two, three, place-lt, bins-high}
 use Rattle.table.specs.declared.Cell.{Cell}
-use Rattle.table.specs.Cell.{View, wide, cellOf, minusCell, AtLeast, HasCell}
+use Rattle.table.specs.Cell.{View, wide, numberOf, cellOf}
 use Rattle.sums.specs.declared.Bounds.{Bounds}
-use Rattle.sums.specs.Box.{minAt, maxAt, binSum, boxSum, boxCell, lowSide, highSide, Within}
+use Rattle.sums.specs.declared.Stats.{Stats}
+use Rattle.sums.specs.Box.{minAt, maxAt, binSum, boxSum, statsFrom, statsOf, lowSide, highSide, slabTo, Within}
 use Rattle.sums.specs.Moments.{Worked, Corner, binCell}
-use Rattle.sums.proofs.Corners.{first-from, second-from, third-from, no-first, no-second, no-third, zeros-are, corner-inside, corner-cell, corner-is, from-least, from-is, from-start}
-use Rattle.sums.proofs.Laws.{slabTo}
-use Rattle.spread.specs.Walk.{outerOf, innerOf, startOf}
+use Rattle.sums.proofs.Corners.{first-from, second-from, third-from, no-first, no-second, no-third, zeros-are, corner-inside, corner-cell, corner-number, corner-squares, stats-by, cell-stats}
+use Rattle.spread.specs.Walk.{outerOf, innerOf, startOf, HasRecord}
+use Rattle.spread.proofs.Sides.{Exact, Less, stats-less}
 
 pub outer-rest : (d : ℕ) → (d ≡ 0 → ⊥) → outerOf d ≡ 0
 unfolding outerOf choose
@@ -54,12 +56,16 @@ module _ (g : Grid) (v : View) where
   cross-box x (suc zero) n j = ap (λ (m : ℕ). binSum g v (x .r0) (x .r1 - x .r0) 0 m (x .b0) (x .b1 - x .b0) j) (from-edge n)
   cross-box x (suc (suc d)) n j = ap (λ (m : ℕ). binSum g v (x .r0) (x .r1 - x .r0) (x .g0) (x .g1 - x .g0) 0 m j) (from-edge n)
 
-  -- and zeros before the first
-  pub none-before : (x : Bounds) (d : ℕ) → _≡_ {A = Cell} (record { weight = 0; sum1 = 0; sum2 = 0; sum3 = 0; squares = 0 }) (boxCell g v (slabTo x d 0))
-  unfolding boxCell boxSum binCell lowSide highSide choose
-  none-before x zero = zeros-are g v 0 0 (x .g0) (x .g1 - x .g0) (x .b0) (x .b1 - x .b0) (λ j. no-first g v 0 (x .g0) (x .g1 - x .g0) (x .b0) (x .b1 - x .b0) j)
-  none-before x (suc zero) = zeros-are g v (x .r0) (x .r1 - x .r0) 0 0 (x .b0) (x .b1 - x .b0) (λ j. no-second g v (x .r0) (x .r1 - x .r0) 0 (x .b0) (x .b1 - x .b0) j)
-  none-before x (suc (suc d)) = zeros-are g v (x .r0) (x .r1 - x .r0) (x .g0) (x .g1 - x .g0) 0 0 (λ j. no-third g v (x .r0) (x .r1 - x .r0) (x .g0) (x .g1 - x .g0) 0 j)
+  -- and nothing before the first
+  none : (x : Bounds) (d : ℕ) → _≡_ {A = Cell} (record { weight = 0; sum1 = 0; sum2 = 0; sum3 = 0; squares = 0 }) (cellOf (boxSum g v (slabTo x d 0)))
+  unfolding boxSum binCell lowSide highSide choose
+  none x zero = zeros-are g v 0 0 (x .g0) (x .g1 - x .g0) (x .b0) (x .b1 - x .b0) (λ j. no-first g v 0 (x .g0) (x .g1 - x .g0) (x .b0) (x .b1 - x .b0) j)
+  none x (suc zero) = zeros-are g v (x .r0) (x .r1 - x .r0) 0 0 (x .b0) (x .b1 - x .b0) (λ j. no-second g v (x .r0) (x .r1 - x .r0) 0 (x .b0) (x .b1 - x .b0) j)
+  none x (suc (suc d)) = zeros-are g v (x .r0) (x .r1 - x .r0) (x .g0) (x .g1 - x .g0) 0 0 (λ j. no-third g v (x .r0) (x .r1 - x .r0) (x .g0) (x .g1 - x .g0) 0 j)
+
+  pub none-before : (x : Bounds) (d : ℕ) {y : Stats} → y ≡ statsFrom (numberOf (record { weight = 0; sum1 = 0; sum2 = 0; sum3 = 0; squares = 0 })) → y ≡ statsOf g v (slabTo x d 0)
+  unfolding statsOf
+  none-before x d = cell-stats (boxSum g v (slabTo x d 0)) (none x d)
 
 -- ---- the place of a corner
 along-first : (g : Grid) (m a b : ℕ) → placeOf g 0 a b + g .b2 * g .b3 * m ≡ placeOf g m a b
@@ -110,81 +116,68 @@ module _ {g : Grid} (a : Accepted g) {i k p q : ℕ} (e : p ≡ i - 1) (f : q �
         λ t. placeOf g (e t) (f t) 0,
       )
 
--- what is read at a corner: n bins in dimension d, i and k in the two others
-pub record Reads (g : Grid) (t w : List ℕ) (d n i k : ℕ) : Type 0 where
-  pub low : startOf g d i k + strideAt g d * (n - 1) < 2097152
-  pub has : (p : ℕ) → p ≡ startOf g d i k + strideAt g d * (n - 1) → HasCell w p
-  pub is : (p : ℕ) → p ≡ startOf g d i k + strideAt g d * (n - 1) → {y : Cell} → y ≡ cellOf (wide w p) → y ≡ cellOf (crossSum g (wide t) d n 0 i 0 k)
+-- what is read at a place: the statistics of five numbers
+pub record Reads (w : List ℕ) (p : ℕ) (f : ℕ → ℕ) : Type 0 where
+  pub low : p < 2097152
+  pub has : HasRecord w p
+  pub exact : {y : Stats} → y ≡ statsFrom (wide w p) → Exact y f
 
 module _ {g : Grid} {t w : List ℕ} (worked : Worked g t w) where
-  abbrev corner-at : (r gr b : ℕ) → r ≤ g .b1 → gr ≤ g .b2 → b ≤ g .b3 → Corner g t w r gr b
-  corner-at r gr b h k l = record { worked = worked; one = h; two = k; three = l }
+  -- below r, gr and b
+  at-corner : (r gr b : ℕ) → r ≤ g .b1 → gr ≤ g .b2 → b ≤ g .b3 → 0 < r → 0 < gr → 0 < b → {p : ℕ} → p ≡ placeOf g (r - 1) (gr - 1) (b - 1) → Reads w p (binSum g (wide t) 0 r 0 gr 0 b)
+  at-corner r gr b h k l r0 gr0 b0 {p} at =
+      let c : Corner g t w r gr b = record { worked = worked; one = h; two = k; three = l } in
+      let squares = corner-squares c r0 gr0 b0 in
+      record {
+        low = omega (arith, at, place-lt (corner-inside c r0 gr0 b0), bins-high (worked .table .accepted));
+        has = record { cell = corner-cell c r0 gr0 b0 at; squares = omega (arith, corner-number c r0 gr0 b0 at 4 (lit< tt)) };
+        exact = λ e. record { is = e ∙ stats-by (wide w p) (binSum g (wide t) 0 r 0 gr 0 b) (corner-number c r0 gr0 b0 at); squares = squares };
+      }
 
-  reads : (d n i k : ℕ) → n ≤ sizeAt g d → i ≤ sizeAt g (outerOf d) → k ≤ sizeAt g (innerOf d) → 0 < n → 0 < i → 0 < k → Reads g t w d n i k
-  unfolding startOf strideAt sizeAt outerOf innerOf choose crossSum binCell
-  reads zero n i k N I K n0 i0 k0 =
-      let c : Corner g t w n i k = corner-at n i k N I K in
-      let at = along-first g (n - 1) (i - 1) (k - 1) in
-      record {
-        low = omega (arith, at, place-lt (corner-inside c n0 i0 k0), bins-high (worked .table .accepted));
-        has = λ p e. corner-cell c n0 i0 k0 (e ∙ at);
-        is = λ p e y. corner-is c n0 i0 k0 (e ∙ at) y;
-      }
-  reads (suc zero) n i k N I K n0 i0 k0 =
-      let c : Corner g t w i n k = corner-at i n k I N K in
-      let at = along-second g (n - 1) (i - 1) (k - 1) in
-      record {
-        low = omega (arith, at, place-lt (corner-inside c i0 n0 k0), bins-high (worked .table .accepted));
-        has = λ p e. corner-cell c i0 n0 k0 (e ∙ at);
-        is = λ p e y. corner-is c i0 n0 k0 (e ∙ at) y;
-      }
-  reads (suc (suc d)) n i k N I K n0 i0 k0 =
-      let c : Corner g t w i k n = corner-at i k n I K N in
-      let at = along-third g (n - 1) (i - 1) (k - 1) in
-      record {
-        low = omega (arith, at, place-lt (corner-inside c i0 k0 n0), bins-high (worked .table .accepted));
-        has = λ p e. corner-cell c i0 k0 n0 (e ∙ at);
-        is = λ p e y. corner-is c i0 k0 n0 (e ∙ at) y;
-      }
+  -- below n in dimension d, i and k in the two others
+  reads : (d n i k : ℕ) → n ≤ sizeAt g d → i ≤ sizeAt g (outerOf d) → k ≤ sizeAt g (innerOf d) → 0 < n → 0 < i → 0 < k → Reads w (startOf g d i k + strideAt g d * (n - 1)) (crossSum g (wide t) d n 0 i 0 k)
+  unfolding startOf strideAt sizeAt outerOf innerOf choose crossSum
+  reads zero n i k N I K n0 i0 k0 = at-corner n i k N I K n0 i0 k0 (along-first g (n - 1) (i - 1) (k - 1))
+  reads (suc zero) n i k N I K n0 i0 k0 = at-corner i n k I N K i0 n0 k0 (along-second g (n - 1) (i - 1) (k - 1))
+  reads (suc (suc d)) n i k N I K n0 i0 k0 = at-corner i k n I K N i0 k0 n0 (along-third g (n - 1) (i - 1) (k - 1))
 
   -- the corners of a box
-  pub box-reads : {x : Bounds} → Within g x → (d n i k : ℕ) → n ≤ maxAt x d → i ≤ maxAt x (outerOf d) → k ≤ maxAt x (innerOf d) → 0 < n → 0 < i → 0 < k → Reads g t w d n i k
+  pub box-reads : {x : Bounds} → Within g x → (d n i k : ℕ) → n ≤ maxAt x d → i ≤ maxAt x (outerOf d) → k ≤ maxAt x (innerOf d) → 0 < n → 0 < i → 0 < k → Reads w (startOf g d i k + strideAt g d * (n - 1)) (crossSum g (wide t) d n 0 i 0 k)
   box-reads b d n i k N I K = reads d n i k (le-trans N (b .fits d)) (le-trans I (b .fits (outerOf d))) (le-trans K (b .fits (innerOf d)))
 
 -- ---- inclusion and exclusion: first along the inner dimension, then along the outer
+-- a run of bins that starts at 0, and one that does not
+from-start : (F : ℕ → ℕ → ℕ → ℕ) {s e : ℕ} → s ≡ 0 → {y : Stats} → Exact y (F 0 e) → Exact y (F s (e - s))
+from-start F {s} {e} z {y} p = subst (λ (f : ℕ → ℕ). Exact y f) (λ i. F (sym z i) (same s e z i)) p
+  where
+    same : (s e : ℕ) → s ≡ 0 → e ≡ e - s
+    same s e z = omega arith
+
+from : (F : ℕ → ℕ → ℕ → ℕ) → ((s e j : ℕ) → s ≤ e → F 0 e j ≡ F 0 s j + F s (e - s) j) → {s e : ℕ} → s ≤ e
+    → {upper lower : Stats} → Exact upper (F 0 e) → Exact lower (F 0 s) → Less upper lower (F s (e - s))
+from F split {s} {e} h p q = stats-less (F 0 e) (F 0 s) (F s (e - s)) (λ j. split s e j h) p (q .is)
+
 module _ {g : Grid} (v : View) {x : Bounds} (b : Within g x) (d n : ℕ) where
   -- the bins up to an end of the outer dimension
   abbrev pub rowTo : ℕ → ℕ → ℕ
   rowTo e = crossSum g v d n 0 e (minAt x (innerOf d)) (maxAt x (innerOf d) - minAt x (innerOf d))
 
-  module _ (e : ℕ) {upper : Cell} (p : upper ≡ cellOf (crossSum g v d n 0 e 0 (maxAt x (innerOf d)))) where
-    pub row-start : minAt x (innerOf d) ≡ 0 → upper ≡ cellOf (rowTo e)
-    row-start = from-start (crossSum g v d n 0 e) (inner-from g v d n 0 e) (le-of-lt (b .some (innerOf d))) p
+  pub row-start : (e : ℕ) → minAt x (innerOf d) ≡ 0 → {upper : Stats} → Exact upper (crossSum g v d n 0 e 0 (maxAt x (innerOf d))) → Exact upper (rowTo e)
+  row-start e = from-start (crossSum g v d n 0 e)
 
-    module _ {lower : Cell} (q : lower ≡ cellOf (crossSum g v d n 0 e 0 (minAt x (innerOf d)))) where
-      pub row-least : AtLeast upper lower
-      row-least = from-least (crossSum g v d n 0 e) (inner-from g v d n 0 e) (le-of-lt (b .some (innerOf d))) p q
-
-      pub row-is : {y : Cell} → y ≡ minusCell upper lower → y ≡ cellOf (rowTo e)
-      row-is r = from-is (crossSum g v d n 0 e) (inner-from g v d n 0 e) (le-of-lt (b .some (innerOf d))) p q r
+  pub row : (e : ℕ) {upper lower : Stats} → Exact upper (crossSum g v d n 0 e 0 (maxAt x (innerOf d))) → Exact lower (crossSum g v d n 0 e 0 (minAt x (innerOf d))) → Less upper lower (rowTo e)
+  row e = from (crossSum g v d n 0 e) (inner-from g v d n 0 e) (le-of-lt (b .some (innerOf d)))
 
   abbrev across : ℕ → ℕ → ℕ → ℕ
   across a m = crossSum g v d n a m (minAt x (innerOf d)) (maxAt x (innerOf d) - minAt x (innerOf d))
 
-  abbrev splits : (s e j : ℕ) → s ≤ e → across 0 e j ≡ across 0 s j + across s (e - s) j
-  splits = outer-from g v d n (minAt x (innerOf d)) (maxAt x (innerOf d) - minAt x (innerOf d))
+  the-slab : across (minAt x (outerOf d)) (maxAt x (outerOf d) - minAt x (outerOf d)) ≡ boxSum g v (slabTo x d n)
+  the-slab = λ t j. cross-box g v x d n j t
 
-  is-slab : cellOf (across (minAt x (outerOf d)) (maxAt x (outerOf d) - minAt x (outerOf d))) ≡ boxCell g v (slabTo x d n)
-  unfolding boxCell
-  is-slab = λ t. cellOf (λ j. cross-box g v x d n j t)
+  pub slab-start : minAt x (outerOf d) ≡ 0 → {upper : Stats} → Exact upper (rowTo (maxAt x (outerOf d))) → Exact upper (boxSum g v (slabTo x d n))
+  slab-start z {upper} p = subst (λ (f : ℕ → ℕ). Exact upper f) the-slab (from-start across z p)
 
-  module _ {upper : Cell} (p : upper ≡ cellOf (rowTo (maxAt x (outerOf d)))) where
-    pub slab-start : minAt x (outerOf d) ≡ 0 → upper ≡ boxCell g v (slabTo x d n)
-    slab-start z = from-start across splits (le-of-lt (b .some (outerOf d))) p z ∙ is-slab
-
-    module _ {lower : Cell} (q : lower ≡ cellOf (rowTo (minAt x (outerOf d)))) where
-      pub slab-least : AtLeast upper lower
-      slab-least = from-least across splits (le-of-lt (b .some (outerOf d))) p q
-
-      pub slab-is : {y : Cell} → y ≡ minusCell upper lower → y ≡ boxCell g v (slabTo x d n)
-      slab-is r = from-is across splits (le-of-lt (b .some (outerOf d))) p q r ∙ is-slab
+  pub slab : {upper lower : Stats} → Exact upper (rowTo (maxAt x (outerOf d))) → Exact lower (rowTo (minAt x (outerOf d))) → Less upper lower (boxSum g v (slabTo x d n))
+  slab {upper} {lower} p q =
+      subst (λ (f : ℕ → ℕ). Less upper lower f) the-slab
+      (from across (outer-from g v d n (minAt x (innerOf d)) (maxAt x (innerOf d) - minAt x (innerOf d))) (le-of-lt (b .some (outerOf d))) p q)

@@ -4,7 +4,7 @@ use mathlib.Core.Path.{_≡_, refl, sym, ap, _∙_}
 use Prim.Native.Nat.{ℕ, _+_, _*_, _^_, _≤_, _<_}
 use native.Mathlib.Nat.{le-of-eq, lt-of-le-of-lt, mul-assoc, add-mul, mul-lt-mul-of-pos-right, mul-pos, pos-of-ne-zero}
 use native.Mathlib.Omega.{arith}
-use mathlib.Core.Bool.{Bool, true, false, not}
+use mathlib.Core.Bool.{Bool, true, false}
 use lib.Dec.{T, lit<}
 use lib.Pow.{pow-pos}
 use lib.Ieee.{Float, nan, inf, fin, add, neg}
@@ -18,7 +18,7 @@ use Rattle.sums.specs.declared.Bounds.{Bounds}
 use Rattle.sums.specs.Box.{boxSum, statsOf, Within}
 use Rattle.sums.proofs.Laws.{low-within, high-within}
 use Rattle.spread.specs.Spread.{oneBin, spreadOf, scoreOf}
-use Rattle.spread.proofs.Best.{Good}
+use Rattle.spread.specs.Best.{Good}
 use Rattle.spread.proofs.Numbers.{numbers, quot-is, spread-is, spread-one}
 use Rattle.spread.proofs.Rounding.{Is, add-of}
 use Rattle.spread.proofs.Error.{F, U, spot-le, round-is-at}
@@ -71,4 +71,4 @@ position-finite s w {d} {bin} p =
     rw (p .scored)
     (score-finite s
     (low-within w d bin (p .inside .0) (p .inside .1)) (pos-of-ne-zero (p .split .low))
-    (high-within w d bin (p .inside .0) (p .inside .1)) (pos-of-ne-zero (p .split .high)))
+    (high-within w d bin (p .inside .1)) (pos-of-ne-zero (p .split .high)))

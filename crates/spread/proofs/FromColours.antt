@@ -16,18 +16,18 @@ use Rattle.grid.proofs.Range.{and-left, and-right}
 use Rattle.grid.proofs.Places.{Bytes, colour-inside, place-lt, place-once}
 use Rattle.table.specs.Cell.{View, wide}
 use Rattle.table.specs.Sound.{limit}
-use Rattle.loader.specs.Load.{Weighted, share, sumOver, weightOf, loaded}
+use Rattle.table.specs.Cell.{zeros}
+use Rattle.loader.specs.Load.{Weighted, share, sumOver, weightOf, loaded, tableOf, ColourAt}
 use Rattle.loader.proofs.Loading.{AllBytes, share-weight, share-sum, share-squares, load-sound, over-none, over-more}
-use Rattle.loader.proofs.Order.{tableOf, table-holds}
-use Rattle.table.proofs.Soundness.{zeros, zeros-total, zeros-sound}
+use Rattle.loader.proofs.Order.{table-holds}
+use Rattle.table.proofs.Soundness.{zeros-total, zeros-sound}
 use Rattle.sums.specs.declared.Bounds.{Bounds}
 use Rattle.sums.specs.Box.{boxSum, Within, InBox}
 use Rattle.sums.proofs.Laws.{bins-empty, bin-inside}
-use Rattle.sums.proofs.Loaded.{among, lies, loaded-box, ColourAt, occupied-colour}
+use Rattle.sums.proofs.Loaded.{among, lies, loaded-box, occupied-colour}
 use Rattle.sums.proofs.Same.{stats-same}
-use Rattle.spread.specs.Spread.{oneBin, SpreadsAbove}
+use Rattle.spread.specs.Spread.{exactQ, oneBin, SpreadsAbove}
 use Rattle.spread.proofs.Above.{box-above}
-use Rattle.spread.proofs.Numbers.{exactQ}
 use Rattle.spread.proofs.Colours.{Point, total, sumBy, sum1, sum2, sum3, squares, Positive, Alike, two-colours, colours-half}
 
 -- ---- more than one bin
@@ -216,7 +216,7 @@ module _ {g : Grid} (a : Accepted g) (cs : List Weighted) (b : AllBytes cs) wher
             (two-colours (p .member) (q .member) (unlike (p .binned) (q .binned) n))));
       }
 
-  -- and of the totals of document 01
+  -- and of totals up to 200,000, which demand 3 asks for
   pub few-colours : weightOf cs ≤ 200000 → SpreadsAbove g (loaded g cs zeros)
   few-colours few = from-colours (le-trans few (lit≤ tt))
 

@@ -3,7 +3,6 @@
 use mathlib.Core.Path.{_≡_, refl, sym, subst, _∙_}
 use mathlib.Core.Logic.{_⊎_, inl, inr}
 use mathlib.Core.Bool.{Bool, true, false, cond}
-use mathlib.Core.List.{[], _∷_}
 use Prim.Native.Nat.{ℕ, zero, suc, _+_, _-_, _≤_, _<_}
 use native.Mathlib.Decide.{ℕ-discrete}
 use native.Mathlib.Omega.{arith}
@@ -19,31 +18,16 @@ use Rattle.sums.specs.declared.Bounds.{Bounds}
 use Rattle.sums.specs.Box.{minAt, maxAt, Within}
 use Rattle.spread.specs.declared.Position.{Position}
 use Rattle.spread.specs.declared.Position.the-variants.{At, Nowhere}
-use Rattle.spread.specs.Cut.{Told, positionAnswer, positionAt, better, laterWins, bestRun, bestIn, bestCut}
-use Rattle.spread.proofs.Best.{Good, never, position-good, good-position}
+use Rattle.spread.specs.Cut.{positionAnswer, positionAt, better, laterWins, bestRun, bestIn, bestCut}
+use Rattle.spread.specs.Best.{Good, Candidate, Earlier, Winner, Tells}
+use Rattle.spread.proofs.Best.{never, position-good, good-position}
 use Rattle.spread.proofs.Finite.{position-finite}
-
--- "the lowest dimension, in it the lowest bin": bin j of dimension e comes before bin i of dimension d
-abbrev pub Earlier : ℕ → ℕ → ℕ → ℕ → Type 0
-Earlier e j d i = (e < d) ⊎ ((e ≡ d) × (j < i))
 
 not-both : {e j d i : ℕ} → Earlier e j d i → Earlier d i e j → ⊥
 not-both (inl h) (inl k) = omega arith
 not-both (inl h) (inr k) = omega (arith, k .0)
 not-both (inr h) (inl k) = omega (arith, h .0)
 not-both (inr h) (inr k) = omega (arith, h .1, k .1)
-
--- of some positions, by dimension, bin and score, one has the smallest score, and those before it have larger ones
-pub record Winner (A : ℕ → ℕ → Float → Type 0) (d i : ℕ) (s : Float) : Type 0 where
-  pub one : A d i s
-  pub smallest : {e j : ℕ} {t : Float} → A e j t → lt t s ≡ false
-  pub first : {e j : ℕ} {t : Float} → A e j t → Earlier e j d i → lt s t ≡ true
-
--- what a caller is told: that one, or that there is none
-abbrev pub Tells : (ℕ → ℕ → Float → Type 0) → Told → Type 0
-Tells A told =
-    (_≡_ {A = Told} told (record { values = []; scores = [] }) × ((d i : ℕ) (s : Float) → A d i s → ⊥))
-    ⊎ ((d : ℕ) × ((i : ℕ) × ((s : Float) × (_≡_ {A = Told} told (record { values = d ∷ i ∷ []; scores = s ∷ [] }) × Winner A d i s))))
 
 -- a position is that one, or there is none
 abbrev Wins : (ℕ → ℕ → Float → Type 0) → Position → Type 0
@@ -121,10 +105,6 @@ module _ {A B : ℕ → ℕ → Float → Type 0} (after : (e j d i : ℕ) (t s 
       go false l = record { one = inl (w .one); smallest = earlier-smallest l; first = earlier-first }
 
 -- ---- the positions of a box with weight on both sides, and their scores
-pub record Candidate (g : Grid) (v : View) (x : Bounds) (d bin : ℕ) (score : Float) : Type 0 where
-  pub dimension : d < 3
-  pub good : Good g v x d bin score
-
 -- those of one dimension, from a bin to before another
 record InRun (g : Grid) (v : View) (x : Bounds) (d from until e j : ℕ) (t : Float) : Type 0 where
   same : e ≡ d

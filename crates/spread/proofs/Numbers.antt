@@ -2,7 +2,7 @@
 -- Assumes nothing.
 use mathlib.Core.Path.{_≡_, refl, ap}
 use mathlib.Core.Bool.{Bool, true, false, cond}
-use Prim.Native.Nat.{ℕ, _+_, _*_, _≤_}
+use Prim.Native.Nat.{ℕ, _*_, _≤_}
 use native.Mathlib.Omega.{arith}
 use lib.Dec.{lit<}
 use lib.Ieee.{Float, binary64, sub, div}
@@ -24,10 +24,6 @@ pub record Numbers (n a b c sq : ℕ) : Type 0 where
   pub two : b ≤ 255 * n
   pub three : c ≤ 255 * n
   pub squares : sq ≤ 195075 * n
-
--- Q without rounding
-abbrev pub exactQ : ℕ → ℕ → ℕ → ℕ
-exactQ a b c = a * a + b * b + c * c
 
 -- Q/n and the spread of a box of more than one bin
 abbrev pub quotAt : ℕ → ℕ → ℕ → ℕ → Float

@@ -1,7 +1,7 @@
 -- The sign of the spread of a box of weight up to 200,000: Q is exact there, and the computed spread has the exact spread's sign.
 -- Assumes nothing.
 use mathlib.Core.Path.{_≡_, refl, sym, ap, _∙_, subst}
-use mathlib.Core.Logic.{_⊎_, inl, inr, _↔_}
+use mathlib.Core.Logic.{_⊎_, inl, inr}
 use Prim.Native.Nat.{ℕ, suc, _+_, _-_, _*_, _^_, _≤_, _<_}
 use native.Mathlib.Nat.{le-trans, le-of-eq, le-of-lt, lt-of-lt-of-le, lt-of-le-of-lt, lt-of-not-le, not-le-of-lt, eq-or-lt-of-le, mul-comm, mul-assoc, mul-left-comm, mul-right-comm, mul-one, one-mul, zero-mul, suc-mul, mul-le-mul, mul-le-mul-right, mul-lt-mul-of-pos-right, mul-pos, lt-of-mul-lt-mul-right, sub-self, sub-le, sub-pos-iff-lt}
 use native.Mathlib.Omega.{arith}
@@ -23,8 +23,8 @@ use Rattle.table.specs.Sound.{limit}
 use Rattle.table.proofs.Soundness.{Sound}
 use Rattle.sums.specs.declared.Bounds.{Bounds}
 use Rattle.sums.specs.Box.{boxSum, statsOf, Within}
-use Rattle.spread.specs.Spread.{whole, squareOf, qOf, zeroOf, oneBin, spreadOf}
-use Rattle.spread.proofs.Numbers.{Numbers, exactQ, quotAt, spreadAt, weight-value, squares-value, numbers, spread-is}
+use Rattle.spread.specs.Spread.{whole, squareOf, qOf, exactQ, zeroOf, oneBin, spreadOf, Signed}
+use Rattle.spread.proofs.Numbers.{Numbers, quotAt, spreadAt, weight-value, squares-value, numbers, spread-is}
 use Rattle.spread.proofs.Rounding.{Is, value-of, exact, whole-is, of-whole, mul-of, add-whole, div-whole, less-of, less-under}
 use Rattle.spread.proofs.Error.{Half, F, U, spot-near, drop-le, spot-le, spot-pos, round-value, round-is-at}
 
@@ -79,12 +79,6 @@ zero-not-under (fin true m g) e t =
   where
     clash : (p q : ℕ) → q ≡ 0 → p ≡ q → 0 < p + q → ⊥
     clash p q z h k = omega arith
-
--- r has the sign of v - u
-pub record Signed (r : Float) (u v : ℕ) : Type 0 where
-  pub above : T (lt zeroOf r) ↔ (u < v)
-  pub level : T (eq r zeroOf) ↔ (u ≡ v)
-  pub under : T (lt r zeroOf) ↔ (v < u)
 
 order : (u v : ℕ) → (u < v) ⊎ ((u ≡ v) ⊎ (v < u))
 order u v = elim (decLe u v) [ yes h ↦ elim (eq-or-lt-of-le h) [ inl e ↦ inr (inl e) | inr l ↦ inl l ] | no h ↦ inr (inr (lt-of-not-le h)) ]

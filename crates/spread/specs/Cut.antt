@@ -13,14 +13,15 @@ use Rattle.spread.specs.declared.Position.{Position}
 use Rattle.spread.specs.declared.Position.the-variants.{At, Nowhere}
 use Rattle.spread.specs.Spread.{scoreOf}
 
--- what a caller is told of each case: "either a position with its float score, or that no position exists"
+-- what a caller is told of each case: "either a position with its float score, or that no position exists"; neither is a refusal
 pub record Told : Type 0 where
+  pub number : ℕ
   pub values : List ℕ
   pub scores : List Float
 
 unfoldable pub positionAnswer : Position → Told
-positionAnswer (At d bin score) = record { values = d ∷ bin ∷ []; scores = score ∷ [] }
-positionAnswer Nowhere = record { values = []; scores = [] }
+positionAnswer (At d bin score) = record { number = 0; values = d ∷ bin ∷ []; scores = score ∷ [] }
+positionAnswer Nowhere = record { number = 0; values = []; scores = [] }
 
 -- "A position with an empty side is skipped"
 unfoldable pub positionOf : ℕ → ℕ → Stats → Stats → Position

@@ -1,10 +1,11 @@
 -- Spread and score in f64 (document 01, "Spread" and "Cutting one box"). Definitions only.
 use mathlib.Core.Path.{_≡_}
 use mathlib.Core.Bool.{Bool, false, _&&_, cond}
-use Prim.Native.Nat.{ℕ, _-_, _*_, _≤_}
+use mathlib.Core.Logic.{_↔_}
+use Prim.Native.Nat.{ℕ, _+_, _-_, _*_, _≤_, _<_}
 use lib.Dec.{T, eqb}
 use lib.IntN.{pos}
-use lib.Ieee.{Float, fin, binary64, add, sub, mul, div, neg, ofInt, lt}
+use lib.Ieee.{Float, fin, binary64, add, sub, mul, div, neg, ofInt, lt, eq}
 use Rattle.grid.specs.declared.Grid.{Grid}
 use Rattle.grid.specs.Grid.{placeOf}
 use Rattle.table.specs.Cell.{View}
@@ -24,6 +25,10 @@ squareOf n = mul binary64 (whole n) (whole n)
 abbrev pub qOf : ℕ → ℕ → ℕ → Float
 qOf a b c = add binary64 (add binary64 (squareOf a) (squareOf b)) (squareOf c)
 
+-- Q without rounding
+abbrev pub exactQ : ℕ → ℕ → ℕ → ℕ
+exactQ a b c = a * a + b * b + c * c
+
 -- Q/n
 unfoldable pub quotientOf : Stats → Float
 quotientOf s = div binary64 (qOf (s .sum1) (s .sum2) (s .sum3)) (whole (s .weight))
@@ -41,6 +46,12 @@ spreadOf x s = cond (oneBin x) zeroOf (sub binary64 (s .squares) (quotientOf s))
 -- "Its score is −(Qlow/nlow + Qhigh/nhigh)"
 unfoldable pub scoreOf : Stats → Stats → Float
 scoreOf low high = neg (add binary64 (quotientOf low) (quotientOf high))
+
+-- a float has the sign of v − u
+pub record Signed (r : Float) (u v : ℕ) : Type 0 where
+  pub above : T (lt zeroOf r) ↔ (u < v)
+  pub level : T (eq r zeroOf) ↔ (u ≡ v)
+  pub under : T (lt r zeroOf) ↔ (v < u)
 
 -- statistics within the limit: no component above 255, so f64 holds each whole number
 pub record Plain (s : Stats) : Type 0 where

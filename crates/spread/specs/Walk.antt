@@ -1,8 +1,12 @@
--- How the bins of one dimension are walked through in the moments. Definitions only.
-use Prim.Native.Nat.{ℕ, _-_}
+-- How the bins of one dimension are walked through in the moments, and one record taken from another. Definitions only.
+use mathlib.Core.List.{List}
+use Prim.Native.Nat.{ℕ, _-_, _^_, _≤_}
+use lib.Ieee.{binary64, sub}
 use Rattle.grid.specs.declared.Grid.{Grid}
 use Rattle.grid.specs.Grid.{choose, placeOf, strideAt}
+use Rattle.table.specs.Cell.{wide, HasCell}
 use Rattle.sums.specs.declared.Bounds.{Bounds}
+use Rattle.sums.specs.declared.Stats.{Stats}
 use Rattle.sums.specs.Box.{minAt, maxAt}
 use Rattle.spread.specs.declared.Walk.{Walk}
 
@@ -33,3 +37,26 @@ walkOf g x d =
       left = startOf g d (maxAt x (outerOf d)) (minAt x (innerOf d));
       diagonal = startOf g d (minAt x (outerOf d)) (minAt x (innerOf d));
     }
+
+-- a place with its five numbers, and squares that f64 holds
+pub record HasRecord (w : List ℕ) (p : ℕ) : Type 0 where
+  pub cell : HasCell w p
+  pub squares : wide w p 4 ≤ 2 ^ 53
+
+-- one record less another: weight and sums in whole numbers, the squares in f64
+unfoldable pub minusStats : Stats → Stats → Stats
+minusStats a b =
+    record {
+      weight = a .weight - b .weight;
+      sum1 = a .sum1 - b .sum1;
+      sum2 = a .sum2 - b .sum2;
+      sum3 = a .sum3 - b .sum3;
+      squares = sub binary64 (a .squares) (b .squares);
+    }
+
+-- no whole number of the second is above the first's
+pub record Covers (a b : Stats) : Type 0 where
+  pub weight : b .weight ≤ a .weight
+  pub sum1 : b .sum1 ≤ a .sum1
+  pub sum2 : b .sum2 ≤ a .sum2
+  pub sum3 : b .sum3 ≤ a .sum3

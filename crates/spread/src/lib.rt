@@ -4,22 +4,20 @@ use grid::place;
 use sums::Bounds;
 use sums::Stats;
 use sums::ZEROS;
-use sums::box_cell;
+use sums::box_sum;
 use sums::stats_of;
-use table::Cell;
 use table::cell_at;
-use table::minus;
 ghost use mathlib.Core.Path.{_≡_};
 ghost use mathlib.Core.Bool.{true};
 ghost use Prim.Native.Nat.{_-_, _≤_, _<_};
 ghost use Rattle.grid.specs.Grid.{sizeAt, strideAt, Accepted};
 ghost use Rattle.table.specs.Cell.{wide};
 ghost use Rattle.table.specs.Sound.{limit, sound};
-ghost use Rattle.sums.specs.Box.{boxCell, minAt, maxAt, lowSide, highSide, Within};
+ghost use Rattle.sums.specs.Box.{statsFrom, statsOf, minAt, maxAt, lowSide, highSide, slabTo, Within};
 ghost use Rattle.sums.specs.Moments.{Worked};
 ghost use Rattle.spread.specs.Spread.{whole, quotientOf, oneBin, spreadOf, scoreOf, Plain, Ordered};
 ghost use Rattle.spread.specs.Cut.{positionOf, positionAt, laterWins, better as betterOf, bestIn, bestCut};
-ghost use Rattle.spread.specs.Walk.{outerOf, innerOf, startOf, walkOf};
+ghost use Rattle.spread.specs.Walk.{outerOf, innerOf, startOf, walkOf, minusStats, Covers, HasRecord};
 
 // ---- Spread and score
 
@@ -267,7 +265,29 @@ fn walk_of(g: Grid, x: Bounds, dimension: u8) -> Walk
     }
 }
 
-// The five sums of a box's bins before a bin of a dimension, from the edge of the grid on (`volume_at`). The table and
+// The record at a place of the moments.
+fn record_at(work: &[u64], place: usize) -> Stats
+    requires { ⌜ HasRecord (now work) place ⌝ }
+    ensures { λ r. ⌜ r ≡ statsFrom (wide (now (work .entry)) place) ⌝ }
+{
+    stats_of(cell_at(work, place))
+}
+
+// One record less another: weight and sums in whole numbers, the squares in f64.
+fn less(a: Stats, b: Stats) -> Stats
+    requires { ⌜ Covers a b ⌝ }
+    ensures { λ r. ⌜ r ≡ minusStats a b ⌝ }
+{
+    Stats {
+        weight: a.weight - b.weight,
+        sum1: a.sum1 - b.sum1,
+        sum2: a.sum2 - b.sum2,
+        sum3: a.sum3 - b.sum3,
+        squares: a.squares - b.squares,
+    }
+}
+
+// The statistics of a box's bins before a bin of a dimension, from the edge of the grid on (`volume_at`). The table and
 // the box are named by the contract alone.
 fn sums_before(
     table: &[u64],
@@ -277,31 +297,31 @@ fn sums_before(
     dimension: u8,
     walk: Walk,
     bin: u8,
-) -> Cell
+) -> Stats
     requires { ⌜ Worked g (now table) (now work) × Within g x × (bin ≤ maxAt x dimension) ⌝ }
     requires { ⌜ walk ≡ walkOf g x dimension ⌝ }
-    ensures { λ c. ⌜ c ≡ boxCell g (wide (now (table .entry))) (lowSide (highSide x dimension 0) dimension bin) ⌝ }
+    ensures { λ r. ⌜ r ≡ statsOf g (wide (now (table .entry))) (slabTo x dimension bin) ⌝ }
 {
     if bin == 0 {
-        return ZEROS;
+        return stats_of(ZEROS);
     }
     let far = walk.step * ((bin - 1) as usize);
-    let corner = cell_at(work, walk.corner + far);
+    let corner = record_at(work, walk.corner + far);
     if walk.inner == 0 {
         if walk.outer == 0 {
             return corner;
         }
-        return minus(corner, cell_at(work, walk.above + far));
+        return less(corner, record_at(work, walk.above + far));
     }
-    let row = minus(corner, cell_at(work, walk.left + far));
+    let row = less(corner, record_at(work, walk.left + far));
     if walk.outer == 0 {
         return row;
     }
-    let above = cell_at(work, walk.above + far);
-    minus(row, minus(above, cell_at(work, walk.diagonal + far)))
+    let above = record_at(work, walk.above + far);
+    less(row, less(above, record_at(work, walk.diagonal + far)))
 }
 
-// The position at a bin, from the five sums of the box, of what lies before the box in the dimension and of what lies
+// The position at a bin, from the records of the box, of what lies before the box in the dimension and of what lies
 // before the bin: the low side is what lies before the bin and not before the box, the high side the rest of the box.
 // The table is named by the contract alone.
 fn position_at(
@@ -310,25 +330,25 @@ fn position_at(
     x: Bounds,
     dimension: u8,
     bin: u8,
-    all: Cell,
-    base: Cell,
-    before: Cell,
+    all: Stats,
+    base: Stats,
+    before: Stats,
 ) -> Position
     requires { ⌜ (sound limit g (wide (now table)) ≡ true) × Within g x × (minAt x dimension < bin) × (bin < maxAt x dimension) ⌝ }
-    requires { ⌜ all ≡ boxCell g (wide (now table)) x ⌝ }
-    requires { ⌜ base ≡ boxCell g (wide (now table)) (lowSide (highSide x dimension 0) dimension (minAt x dimension)) ⌝ }
-    requires { ⌜ before ≡ boxCell g (wide (now table)) (lowSide (highSide x dimension 0) dimension bin) ⌝ }
+    requires { ⌜ all ≡ statsOf g (wide (now table)) x ⌝ }
+    requires { ⌜ base ≡ statsOf g (wide (now table)) (slabTo x dimension (minAt x dimension)) ⌝ }
+    requires { ⌜ before ≡ statsOf g (wide (now table)) (slabTo x dimension bin) ⌝ }
     ensures { λ r. ⌜ r ≡ positionAt g (wide (now (table .entry))) x dimension bin ⌝ }
 {
-    let low = minus(before, base);
-    let high = minus(all, low);
-    position_between(dimension, bin, stats_of(low), stats_of(high))
+    let low = less(before, base);
+    let high = less(all, low);
+    position_between(dimension, bin, low, high)
 }
 
 // The best position of a box in one dimension. The first bin gives what lies before the box, each other bin a position.
-fn best_in(table: &[u64], work: &[u64], g: Grid, x: Bounds, dimension: u8, all: Cell) -> Position
+fn best_in(table: &[u64], work: &[u64], g: Grid, x: Bounds, dimension: u8, all: Stats) -> Position
     requires { ⌜ Worked g (now table) (now work) × Within g x ⌝ }
-    requires { ⌜ all ≡ boxCell g (wide (now table)) x ⌝ }
+    requires { ⌜ all ≡ statsOf g (wide (now table)) x ⌝ }
     ensures { λ r. ⌜ r ≡ bestIn g (wide (now (table .entry))) x dimension ⌝ }
 {
     let end = end_bin(x, dimension);
@@ -337,7 +357,7 @@ fn best_in(table: &[u64], work: &[u64], g: Grid, x: Bounds, dimension: u8, all: 
         return Position::Nowhere;
     }
     let walk = walk_of(g, x, dimension);
-    let mut base = ZEROS;
+    let mut base = stats_of(ZEROS);
     let mut best = Position::Nowhere;
     let mut bin = first;
     while bin < end {
@@ -360,7 +380,7 @@ pub fn best_cut(table: &[u64], work: &[u64], g: Grid, x: Bounds) -> Position
     requires { ⌜ Worked g (now table) (now work) × Within g x ⌝ }
     ensures { λ r. ⌜ r ≡ bestCut g (wide (now (table .entry))) x ⌝ }
 {
-    let all = box_cell(table, work, g, x);
+    let all = box_sum(table, work, g, x);
     let two = better(
         best_in(table, work, g, x, 0, all),
         best_in(table, work, g, x, 1, all),

@@ -3,11 +3,9 @@
 use mathlib.Core.Path.{_≡_, refl, sym, ap, _∙_}
 use mathlib.Core.List.{List}
 use Prim.Native.Nat.{ℕ, _+_, _-_, _^_, _≤_, _<_}
-use native.Mathlib.Nat.{zero-add, lt-of-le-of-lt}
+use native.Mathlib.Nat.{zero-add}
 use native.Mathlib.Omega.{arith}
 use lib.Dec.{lit<}
-use lib.Ieee.{binary64, ofInt}
-use lib.IntN.{pos}
 use Rattle.grid.specs.declared.Grid.{Grid}
 use Rattle.grid.specs.Range.{sumFrom}
 use Rattle.grid.specs.Grid.{Inside, choose, sizeAt, binsOf, placeOf}
@@ -16,11 +14,11 @@ use Rattle.grid.proofs.Places.{place-lt}
 use Rattle.table.specs.declared.Cell.{Cell}
 use Rattle.table.specs.Cell.{View, wide, cellOf, numberOf, minusCell, AtLeast, HasCell}
 use Rattle.table.specs.Sound.{limit}
-use Rattle.table.proofs.Cells.{Holds, list-holds, number-cell, cell-by, cell-fields, minus-least, minus-is, zero-cell}
+use Rattle.table.proofs.Cells.{Holds, list-holds, number-cell, cell-by, Fields, cell-fields, minus-least, minus-is, zero-cell}
 use Rattle.table.proofs.Soundness.{Sound}
 use Rattle.sums.specs.declared.Bounds.{Bounds}
 use Rattle.sums.specs.declared.Stats.{Stats}
-use Rattle.sums.specs.Box.{minAt, maxAt, sum3, binSum, boxSum, boxCell, cellStats, statsOf, Within}
+use Rattle.sums.specs.Box.{minAt, maxAt, sum3, binSum, boxSum, statsFrom, Within}
 use Rattle.sums.specs.Moments.{belowSum, momentsOf, binCell, Corner}
 use Rattle.sums.proofs.Boxes.{sum3-first, sum3-second, sum3-third}
 use Rattle.sums.proofs.Below.{moments-at, below-small}
@@ -110,18 +108,28 @@ module _ {g : Grid} {t w : List ℕ} {r gr b : ℕ} (c : Corner g t w r gr b) wh
     pub corner-cell : {p : ℕ} → p ≡ placeOf g (r - 1) (gr - 1) (b - 1) → HasCell w p
     corner-cell at = record { fits = omega (arith, place-lt corner-inside, holds .lent, at) }
 
+    pub corner-number : {p : ℕ} → p ≡ placeOf g (r - 1) (gr - 1) (b - 1) → (j : ℕ) → j < 5 → wide w p j ≡ binSum g (wide t) 0 r 0 gr 0 b j
+    unfolding belowSum
+    corner-number at j m =
+        ap (λ (n : ℕ). wide w n j) at
+        ∙ holds .at (placeOf g (r - 1) (gr - 1) (b - 1)) j (place-lt corner-inside) m
+        ∙ moments-at g (wide t) (r - 1) (gr - 1) (b - 1) j (corner-inside .two) (corner-inside .three)
+        ∙ (λ i. binSum g (wide t) 0 (before r h i) 0 (before gr k i) 0 (before b l i) j)
+
     pub corner-is : {p : ℕ} → p ≡ placeOf g (r - 1) (gr - 1) (b - 1) → {x : Cell} → x ≡ cellOf (wide w p) → x ≡ binCell g (wide t) 0 r 0 gr 0 b
-    unfolding binCell belowSum
+    unfolding binCell
     corner-is {p} at {x} e =
         cell-by x (binCell g (wide t) 0 r 0 gr 0 b)
         (λ j m.
         ap (λ (y : Cell). numberOf y j) e
         ∙ number-cell (wide w p) j m
-        ∙ ap (λ (n : ℕ). wide w n j) at
-        ∙ holds .at (placeOf g (r - 1) (gr - 1) (b - 1)) j (place-lt corner-inside) m
-        ∙ moments-at g (wide t) (r - 1) (gr - 1) (b - 1) j (corner-inside .two) (corner-inside .three)
-        ∙ (λ i. binSum g (wide t) 0 (before r h i) 0 (before gr k i) 0 (before b l i) j)
+        ∙ corner-number at j m
         ∙ sym (number-cell (binSum g (wide t) 0 r 0 gr 0 b) j m))
+
+    pub corner-squares : binSum g (wide t) 0 r 0 gr 0 b 4 ≤ 2 ^ 53
+    unfolding belowSum
+    corner-squares =
+        omega (arith, below-small (c .worked .table .accepted) (record { holds = c .worked .is-sound }) r gr b 4 (c .one) (c .two) (c .three) (lit< tt))
 
 -- ---- boxes
 pub record Sides (g : Grid) (x : Bounds) : Type 0 where
@@ -155,28 +163,24 @@ box-below g v x j s =
       third-from g v 0 (x .r1) 0 (x .g1) (x .b0) (x .b1) j (omega (arith, s .three)),
     )
 
--- at a sound table each number of a box is below 2^50
-pub box-small : {g : Grid} {v : View} → Sound limit g v → {x : Bounds} → Within g x → (j : ℕ) → j < 5 → boxSum g v x j < 2 ^ 50
-box-small {g} {v} s {x} w j h =
+-- f64 holds the squares of a box of a sound table
+pub box-squares : {g : Grid} {v : View} → Sound limit g v → {x : Bounds} → Within g x → boxSum g v x 4 ≤ 2 ^ 53
+box-squares {g} {v} s {x} w =
     let e = sides w in
-    lt-of-le-of-lt (box-below g v x j e) (below-small (w .accepted) s (x .r1) (x .g1) (x .b1) j (e .one-fits) (e .two-fits) (e .three-fits) h)
+    omega (arith, box-below g v x 4 e, below-small (w .accepted) s (x .r1) (x .g1) (x .b1) 4 (e .one-fits) (e .two-fits) (e .three-fits) (lit< tt))
 
--- a box's statistics are those of its five numbers, and its squares fit an f64
-module _ (g : Grid) (v : View) (x : Bounds) {c : Cell} (e : c ≡ boxCell g v x) where
-  pub box-squares : Sound limit g v → Within g x → c .squares ≤ 2 ^ 53
-  unfolding boxCell
-  box-squares s w = omega (arith, cell-fields (boxSum g v x) e .squares, box-small s w 4 (lit< tt))
+-- ---- statistics of five numbers
+pub stats-by : (f h : ℕ → ℕ) → ((j : ℕ) → j < 5 → f j ≡ h j) → statsFrom f ≡ statsFrom h
+stats-by f h e =
+    cc (e 0 (lit< tt), e 1 (lit< tt), e 2 (lit< tt), e 3 (lit< tt), e 4 (lit< tt))
 
-  pub box-stats : {s : Stats} → s ≡ cellStats c → s ≡ statsOf g v x
-  unfolding cellStats statsOf boxCell
-  box-stats q =
-      let f = cell-fields (boxSum g v x) e in
-      q
-      ∙ (λ i.
-      record {
-        weight = f .weight i;
-        sum1 = f .sum1 i;
-        sum2 = f .sum2 i;
-        sum3 = f .sum3 i;
-        squares = ofInt binary64 (pos (f .squares i));
-      })
+pub cell-numbers : (c : Cell) → Fields (numberOf c) c
+cell-numbers c = cell-fields (numberOf c) (cell-by c (cellOf (numberOf c)) (λ j h. sym (number-cell (numberOf c) j h)))
+
+-- those of a cell
+module _ (f : ℕ → ℕ) {c : Cell} (e : c ≡ cellOf f) where
+  pub cell-squares : f 4 ≤ 2 ^ 53 → c .squares ≤ 2 ^ 53
+  cell-squares h = omega (arith, cell-fields f e .squares)
+
+  pub cell-stats : {s : Stats} → s ≡ statsFrom (numberOf c) → s ≡ statsFrom f
+  cell-stats q = q ∙ stats-by (numberOf c) f (λ j h. ap (λ (y : Cell). numberOf y j) e ∙ number-cell f j h)

@@ -16,9 +16,9 @@ use Rattle.grid.specs.Size.{binOf}
 use Rattle.grid.specs.Grid.{Inside, choose, placeOf, colourPlace}
 use Rattle.grid.proofs.Range.{hit, hit-yes, hit-no, sum-hit, sum-zero, sum-same}
 use Rattle.grid.proofs.Places.{Bytes, colour-inside, place-once}
-use Rattle.loader.specs.Load.{Weighted, share, adds, sumOver, loaded}
+use Rattle.table.specs.Cell.{zeros}
+use Rattle.loader.specs.Load.{Weighted, share, adds, sumOver, loaded, ColourAt}
 use Rattle.loader.proofs.Loading.{AllBytes, share-weight, loaded-at, adds-at, over-none, over-more}
-use Rattle.table.proofs.Soundness.{zeros}
 use Rattle.sums.specs.declared.Bounds.{Bounds}
 use Rattle.sums.specs.Box.{sum3, binSum, boxSum, Within}
 use Rattle.sums.proofs.Boxes.{sum3-same, sum3-plus, sum3-zero}
@@ -130,13 +130,6 @@ module _ {g : Grid} {x : Bounds} (w : Within g x) (j : ℕ) where
       ∙ over-box cs b
 
 -- ---- the occupied bins of a loaded table
--- a loaded colour of weight above 0, at a place
-pub record ColourAt (g : Grid) (cs : List Weighted) (p : ℕ) : Type 0 where
-  pub colour : Weighted
-  pub among-them : List·Memᴰ colour cs
-  pub weighs : 0 < colour .weight
-  pub there : colourPlace g (colour .colour) ≡ p
-
 module _ (g : Grid) (p : ℕ) where
   adds-weight : (c : Weighted) → adds g c p 0 ≡ hit (colourPlace g (c .colour)) p (c .weight)
   adds-weight c = adds-at g c p 0 ∙ ap (hit (colourPlace g (c .colour)) p) (share-weight c)

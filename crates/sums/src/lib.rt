@@ -9,8 +9,8 @@ use table::put_at;
 ghost use mathlib.Core.Path.{_≡_};
 ghost use Prim.Native.Nat.{_+_, _-_, _*_, _^_, _≤_};
 ghost use Rattle.grid.specs.Grid.{binsOf, placeOf};
-ghost use Rattle.table.specs.Cell.{wide, wideList, putAt};
-ghost use Rattle.sums.specs.Box.{boxCell, cellStats, statsOf, Within};
+ghost use Rattle.table.specs.Cell.{numberOf, wide, wideList, putAt};
+ghost use Rattle.sums.specs.Box.{boxCell, statsFrom, statsOf, Within};
 ghost use Rattle.sums.specs.Moments.{momentsOf, momentCell, lineCell, binCell, Lent, Worked, Before, Ready, Corner};
 
 // A box: min inclusive, max exclusive, in each dimension (`Cube`).
@@ -173,7 +173,7 @@ fn slab(table: &[u64], work: &[u64], g: Grid, r: usize, x: Bounds) -> Cell
 }
 
 // The five sums of a box, from the moments of its table (`volume`).
-pub fn box_cell(table: &[u64], work: &[u64], g: Grid, x: Bounds) -> Cell
+fn box_cell(table: &[u64], work: &[u64], g: Grid, x: Bounds) -> Cell
     requires { ⌜ Worked g (now table) (now work) × Within g x ⌝ }
     ensures { λ c. ⌜ c ≡ boxCell g (wide (now (table .entry))) x ⌝ }
 {
@@ -187,7 +187,7 @@ pub fn box_cell(table: &[u64], work: &[u64], g: Grid, x: Bounds) -> Cell
 // Five sums as statistics, with their squares turned into f64.
 pub fn stats_of(c: Cell) -> Stats
     requires { ⌜ c .squares ≤ 2 ^ 53 ⌝ }
-    ensures { λ r. ⌜ r ≡ cellStats c ⌝ }
+    ensures { λ r. ⌜ r ≡ statsFrom (numberOf c) ⌝ }
 {
     Stats {
         weight: c.weight,

@@ -2,7 +2,7 @@
 -- Assumes nothing.
 use mathlib.Core.Path.{_≡_, refl, sym, ap, _∙_}
 use mathlib.Core.List.{List}
-use mathlib.Core.Bool.{Bool, true, false, true≢false, cond, not, _&&_}
+use mathlib.Core.Bool.{Bool, true, false, true≢false, cond, _&&_}
 use Prim.Native.Nat.{ℕ, zero, suc, _+_, _-_, _*_, _≤_, _<_}
 use native.Mathlib.Nat.{add-assoc, add-zero, zero-add, add-mul, one-mul}
 use native.Mathlib.Omega.{arith}
@@ -10,7 +10,6 @@ use borrow.Author.Tests.{le-leb, lt-leb, leb-true, leb-false}
 use lib.Dec.{leb}
 use Rattle.grid.specs.declared.Grid.{Grid}
 use Rattle.grid.specs.declared.Span.{Span}
-use Rattle.grid.specs.Answer.{refuse}
 use Rattle.grid.specs.Range.{sumFrom, allFrom}
 use Rattle.grid.specs.Size.{spanOf, InSize}
 use Rattle.grid.specs.Grid.{Accepted, Inside, choose, shiftAt, binAt, binsOf, placeOf}
@@ -21,7 +20,7 @@ use Rattle.table.specs.declared.Cell.{Cell}
 use Rattle.table.specs.declared.Weighed.{Weighed}
 use Rattle.table.specs.declared.Weighed.the-variants.{Total, Unsound}
 use Rattle.table.specs.Cell.{View, cellOf, numberOf, HasCell}
-use Rattle.table.specs.Sound.{limit, inBounds, spanAt, binSound, total, sound, weighed, weighedAnswer}
+use Rattle.table.specs.Sound.{limit, inBounds, spanAt, binSound, total, sound, weighed}
 use Rattle.table.specs.Scan.{scanned, Row, ByteSpan}
 use Rattle.table.proofs.Cells.{number-cell}
 use Rattle.table.proofs.Soundness.{bounds-same}
@@ -192,11 +191,12 @@ module _ {g : Grid} {t : List ℕ} {r gr had : ℕ} (row : Row g t r gr had) whe
       ((λ i. inBounds (λ d. (row-span b h d ∙ ap (λ (q : ℕ). spanAt g (q + b) d) (sym e)) i) (numberOf (cellOf (v p))))
       ∙ bounds-same (spanAt g p) (numberOf (cellOf (v p))) (v p) (λ j k. number-cell (v p) j k)))
 
--- the number of the answer is the refusal of the calls
-pub weighed-told : (most : ℕ) (g : Grid) (v : View) → weighedAnswer (weighed most g v) .number ≡ refuse (not (sound most g v)) 6 0
-unfolding weighed weighedAnswer refuse
-weighed-told most g v = go (sound most g v)
-  where
-    go : (b : Bool) → weighedAnswer (cond b (Total (total g v)) Unsound) .number ≡ refuse (not b) 6 0
-    go true = refl
-    go false = refl
+-- the answer, case by case
+module _ (most : ℕ) (g : Grid) (v : View) where
+  pub total-told : sound most g v ≡ true → weighed most g v ≡ Total (total g v)
+  unfolding weighed
+  total-told e = rw e refl
+
+  pub unsound-told : sound most g v ≡ false → weighed most g v ≡ Unsound
+  unfolding weighed
+  unsound-told e = rw e refl

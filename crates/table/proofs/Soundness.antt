@@ -16,7 +16,7 @@ use Rattle.grid.proofs.Range.{sum-same, sum-zero, term-le, and-left, and-right,
 use Rattle.grid.proofs.Size.{in-size, span-byte}
 use Rattle.grid.proofs.Places.{sized-at, bin-at-below}
 use Rattle.table.specs.declared.Cell.{Cell}
-use Rattle.table.specs.Cell.{View, numberOf}
+use Rattle.table.specs.Cell.{View, zeros, numberOf}
 use Rattle.table.specs.Sound.{limit, between, inBounds, spanAt, binSound, total, sound}
 
 -- ---- the bounds of one bin, as facts
@@ -144,10 +144,7 @@ unfolding sound binSound
 sound-by most g v k l =
     record { holds = rw (all-true 0 (binsOf g) (binSound g v) (λ p a b. kept (k p (omega arith)))) (le-leb (total g v) most l) }
 
--- the zeros of an empty table
-abbrev pub zeros : View
-zeros p j = 0
-
+-- an empty table
 pub zeros-total : (g : Grid) → total g zeros ≡ 0
 unfolding total
 zeros-total g = sum-zero 0 (binsOf g)

@@ -12,6 +12,10 @@ use Rattle.table.specs.declared.Cell.{Cell}
 abbrev pub View : Type 0
 View = ℕ → ℕ → ℕ
 
+-- the zeros of an empty table
+abbrev pub zeros : View
+zeros p j = 0
+
 -- "in this order: weight n, three component sums, the sum of squared components"
 unfoldable pub numberOf : Cell → ℕ → ℕ
 numberOf c zero = c .weight

@@ -6,20 +6,20 @@ use Rattle.spread.specs.Cut.{better, bestCut}
 use Rattle.spread.proofs.best_cut.Statement.{statement}
 use Rattle.spread.proofs.best_cut.Tie as tie
 
-box-cell-requires : tie.Need-box-cell-requires
-box-cell-requires c κs = c .before .before .pre
+box-sum-requires : tie.Need-box-sum-requires
+box-sum-requires c κs = c .before .before .pre
 
 best-in-requires : tie.Need-best-in-requires
-best-in-requires c κs = (c .before .before .before .pre, c .box-cell .ensures)
+best-in-requires c κs = (c .before .before .before .pre, c .box-sum .ensures)
 
 best-in-requires-2 : tie.Need-best-in-requires-2
-best-in-requires-2 c κs = (c .before .before .before .before .pre, c .before .box-cell .ensures)
+best-in-requires-2 c κs = (c .before .before .before .before .pre, c .before .box-sum .ensures)
 
 better-requires : tie.Need-better-requires
 better-requires c κs = search needs
 
 best-in-requires-3 : tie.Need-best-in-requires-3
-best-in-requires-3 c κs = (c .before .before .before .before .before .before .pre, c .before .before .before .box-cell .ensures)
+best-in-requires-3 c κs = (c .before .before .before .before .before .before .pre, c .before .before .before .box-sum .ensures)
 
 better-requires-2 : tie.Need-better-requires-2
 better-requires-2 c κs = search needs
@@ -34,7 +34,7 @@ pub best-cut-spec : {M : Type 1} → statement M
 best-cut-spec =
     tie.close
     (tie.spec
-    box-cell-requires
+    box-sum-requires
     best-in-requires
     best-in-requires-2
     better-requires

@@ -7,9 +7,9 @@ use native.Mathlib.Omega.{arith}
 use borrow.Author.Needs.{needs}
 use denote.Ref.{now}
 use Rattle.table.specs.Cell.{wide}
-use Rattle.sums.specs.Box.{boxCell, minAt, maxAt}
-use Rattle.sums.proofs.Laws.{slabTo}
-use Rattle.spread.specs.Cut.{bestRun, bestIn}
+use Rattle.sums.specs.Box.{statsOf, minAt, maxAt, slabTo}
+use Rattle.spread.specs.declared.Position.{Position}
+use Rattle.spread.specs.Cut.{positionAt, better, bestRun, bestIn}
 use Rattle.spread.proofs.Choose.{later-is-better, earlier-is-better, end-high, run-none, run-next}
 use Rattle.spread.proofs.best_in.Statement.{statement}
 use Rattle.spread.proofs.best_in.Tie as tie
@@ -18,7 +18,7 @@ abbrev Inv-loop : tie.InvT-loop
 Inv-loop table work g x dimension all end first walk base₀ best₀ bin₀ base best bin =
     (minAt x dimension ≤ bin) × (bin ≤ end)
     × (best ≡ bestRun g (wide table) x dimension (minAt x dimension + 1) (bin - (minAt x dimension + 1)))
-    × (minAt x dimension < bin → base ≡ boxCell g (wide table) (slabTo x dimension (minAt x dimension)))
+    × (minAt x dimension < bin → base ≡ statsOf g (wide table) (slabTo x dimension (minAt x dimension)))
 
 abbrev μ-loop : tie.MeasureT-loop
 μ-loop table work g x dimension all end first walk base₀ best₀ bin₀ base best bin = end - bin
@@ -42,58 +42,74 @@ returns c =
 walk-of-requires : tie.Need-walk-of-requires Inv-loop μ-loop
 walk-of-requires c κs = c .before .before .before .before .before .pre .0 .1
 
+stats-of-requires : tie.Need-stats-of-requires Inv-loop μ-loop
+stats-of-requires c κs = search needs
+
 loop-holds : tie.Need-loop-holds Inv-loop μ-loop
 loop-holds c =
-    let s = c .before .before .before .before .before .before in
-    let first = c .before .before .first-bin .ensures in (
+    let s = c .before .before .before .before .before .before .before in
+    let first = c .before .before .before .first-bin .ensures in (
       omega (arith, first),
-      omega (arith, first, c .before .before .before .end-bin .ensures, s .pre .0 .1 .some (s .args .dimension)),
-      run-none (s .args .g) (wide (now (s .args .table))) (s .args .x) (s .args .dimension) (minAt (s .args .x) (s .args .dimension) + 1) (c .before .before .first-bin .result) (omega (arith, first)),
+      omega (arith, first, c .before .before .before .before .end-bin .ensures, s .pre .0 .1 .some (s .args .dimension)),
+      run-none (s .args .g) (wide (now (s .args .table))) (s .args .x) (s .args .dimension) (minAt (s .args .x) (s .args .dimension) + 1) (c .before .before .before .first-bin .result) (omega (arith, first)),
       λ h. absurd (omega (arith, first)),
     )
 
 sums-before-requires : tie.Need-sums-before-requires Inv-loop μ-loop
 sums-before-requires c κs =
-    let s = c .before .before .before .before .before .before .before .before in
-    ((s .pre .0 .0, s .pre .0 .1, omega (arith, c .loop-test .taken, c .before .before .before .before .before .end-bin .ensures)), c .before .before .walk-of .ensures)
+    let s = c .before .before .before .before .before .before .before .before .before in
+    ((s .pre .0 .0, s .pre .0 .1, omega (arith, c .loop-test .taken, c .before .before .before .before .before .before .end-bin .ensures)), c .before .before .before .walk-of .ensures)
 
--- a bin past the first
-past-first : (k : tie.Else2 Inv-loop μ-loop) → minAt (k .before .before .before .before .before .before .before .before .before .before .args .x) (k .before .before .before .before .before .before .before .before .before .before .args .dimension) < k .before .before .before .loop .bin
-past-first k = omega (arith, k .before .before .before .loop .inv .0, k .before .before .before .before .before .before .first-bin .ensures)
+-- a bin past the first: the position there, and the best with it
+module _ (k : tie.Else2 Inv-loop μ-loop) where
+  abbrev s : tie.Start Inv-loop μ-loop
+  s = k .before .before .before .before .before .before .before .before .before .before .before
+
+  abbrev run : ℕ → Position
+  run n = bestRun (s .args .g) (wide (now (s .args .table))) (s .args .x) (s .args .dimension) (minAt (s .args .x) (s .args .dimension) + 1) (n - (minAt (s .args .x) (s .args .dimension) + 1))
+
+  past-first : minAt (s .args .x) (s .args .dimension) < k .before .before .before .loop .bin
+  past-first = omega (arith, k .before .before .before .loop .inv .0, k .before .before .before .before .before .before .before .first-bin .ensures)
+
+  next : {p r : Position} → p ≡ positionAt (s .args .g) (wide (now (s .args .table))) (s .args .x) (s .args .dimension) (k .before .before .before .loop .bin) → r ≡ better (k .before .before .before .loop .best) p → r ≡ run (k .before .before .before .loop .bin + 1)
+  next =
+      run-next (s .args .g) (wide (now (s .args .table))) (s .args .x) (s .args .dimension) (minAt (s .args .x) (s .args .dimension) + 1) (k .before .before .before .loop .bin)
+      (omega (arith, past-first)) (k .before .before .before .loop .inv .2)
 
 position-at-requires : tie.Need-position-at-requires Inv-loop μ-loop
-position-at-requires c κs =
-    let s = c .before .before .before .before .before .before .before .before .before .before in (
-      (s .pre .0 .0 .is-sound, s .pre .0 .1, past-first c, omega (arith, c .before .before .before .before .before .before .before .end-bin .ensures, c .before .before .loop-test .taken)),
-      (s .pre .1, (c .before .before .before .loop .inv .3 (past-first c), c .before .sums-before .ensures)),
-    )
+position-at-requires c κs = (
+  ((s c) .pre .0 .0 .is-sound, (s c) .pre .0 .1, past-first c, omega (arith, c .before .before .before .before .before .before .before .before .end-bin .ensures, c .before .before .loop-test .taken)),
+  ((s c) .pre .1, (c .before .before .before .loop .inv .3 (past-first c), c .before .sums-before .ensures)),
+)
 
 later-wins-requires : tie.Need-later-wins-requires Inv-loop μ-loop
 later-wins-requires c κs = search needs
 
 add-bin : tie.Need-add-bin Inv-loop μ-loop
-add-bin c = omega (arith, c .before .before .loop-test .taken, c .before .before .before .before .before .before .before .end-bin .ensures, end-high (c .before .before .before .before .before .before .before .before .before .before .pre .0 .1) (c .before .before .before .before .before .before .before .before .before .before .args .dimension))
+add-bin c =
+    let s = c .before .before .before .before .before .before .before .before .before .before .before in
+    omega (arith, c .before .before .loop-test .taken, c .before .before .before .before .before .before .before .before .end-bin .ensures, end-high (s .pre .0 .1) (s .args .dimension))
 
 loop-less : tie.Need-loop-less Inv-loop μ-loop
 loop-less c = omega arith
 
 loop-again : tie.Need-loop-again Inv-loop μ-loop
 loop-again c =
-    let s = c .before .before .before .before .before .before .before .before .before .before in
+    let s = c .before .before .before .before .before .before .before .before .before .before .before in
     let l = c .before .before .before .loop in
-    let first = c .before .before .before .before .before .before .first-bin .ensures in
+    let first = c .before .before .before .before .before .before .before .first-bin .ensures in
     let from : ℕ = minAt (s .args .x) (s .args .dimension) in (
       omega (arith, l .inv .0),
       omega (arith, c .before .before .loop-test .taken),
       ⊎-elim
           (λ w. w .2 ∙ l .inv .2 ∙ ap (bestRun (s .args .g) (wide (now (s .args .table))) (s .args .x) (s .args .dimension) (from + 1)) (none from (l .bin) (w .0 .taken ∙ first)))
           (⊎-elim
-          (λ w. run-next (s .args .g) (wide (now (s .args .table))) (s .args .x) (s .args .dimension) (from + 1) (l .bin) (omega (arith, past-first (record { before = c .before; if2 = w .0 }))) (l .inv .2) (w .1 .ensures) (w .5 ∙ later-is-better (l .best) (w .1 .result) (sym (w .2 .ensures) ∙ w .3 .taken)))
-          (λ w. run-next (s .args .g) (wide (now (s .args .table))) (s .args .x) (s .args .dimension) (from + 1) (l .bin) (omega (arith, past-first (record { before = c .before; if2 = w .0 }))) (l .inv .2) (w .1 .ensures) (w .5 ∙ earlier-is-better (l .best) (w .1 .result) (sym (w .2 .ensures) ∙ w .3 .left))))
+          (λ w. next (record { before = c .before; if2 = w .0 }) (w .1 .ensures) (w .5 ∙ later-is-better (l .best) (w .1 .result) (sym (w .2 .ensures) ∙ w .3 .taken)))
+          (λ w. next (record { before = c .before; if2 = w .0 }) (w .1 .ensures) (w .5 ∙ earlier-is-better (l .best) (w .1 .result) (sym (w .2 .ensures) ∙ w .3 .left))))
           (c .if2 .came),
       λ h.
           ⊎-elim
-          (λ w. w .1 ∙ c .before .sums-before .ensures ∙ ap (λ (n : ℕ). boxCell (s .args .g) (wide (now (s .args .table))) (slabTo (s .args .x) (s .args .dimension) n)) (w .0 .taken ∙ first))
+          (λ w. w .1 ∙ c .before .sums-before .ensures ∙ ap (λ (n : ℕ). statsOf (s .args .g) (wide (now (s .args .table))) (slabTo (s .args .x) (s .args .dimension) n)) (w .0 .taken ∙ first))
           (⊎-elim
           (λ w. w .4 ∙ l .inv .3 (past-first (record { before = c .before; if2 = w .0 })))
           (λ w. w .4 ∙ l .inv .3 (past-first (record { before = c .before; if2 = w .0 }))))
@@ -106,9 +122,9 @@ loop-again c =
 returns-2 : tie.Need-returns-2 Inv-loop μ-loop
 unfolding bestIn
 returns-2 c =
-    let s = c .before .before .before .before .before .before .before .before in
+    let s = c .before .before .before .before .before .before .before .before .before in
     let l = c .before .loop in
-    let all : l .bin ≡ maxAt (s .args .x) (s .args .dimension) = omega (arith, l .inv .1, c .loop-test .left, c .before .before .before .before .before .end-bin .ensures) in
+    let all : l .bin ≡ maxAt (s .args .x) (s .args .dimension) = omega (arith, l .inv .1, c .loop-test .left, c .before .before .before .before .before .before .end-bin .ensures) in
     l .inv .2 ∙ ap (λ (n : ℕ). bestRun (s .args .g) (wide (now (s .args .table))) (s .args .x) (s .args .dimension) (minAt (s .args .x) (s .args .dimension) + 1) (n - (minAt (s .args .x) (s .args .dimension) + 1))) all
 
 pub best-in-spec : {M : Type 1} → statement M
@@ -122,6 +138,7 @@ best-in-spec =
     sub-if1
     returns
     walk-of-requires
+    stats-of-requires
     loop-holds
     sums-before-requires
     position-at-requires

@@ -2,7 +2,8 @@
 -- Assumes nothing.
 use denote.Ref.{now}
 use Rattle.table.specs.Cell.{wide}
-use Rattle.sums.proofs.Corners.{box-squares, box-stats}
+use Rattle.sums.specs.Box.{boxSum, boxCell, statsOf}
+use Rattle.sums.proofs.Corners.{box-squares, cell-squares, cell-stats}
 use Rattle.sums.proofs.box_sum.Statement.{statement}
 use Rattle.sums.proofs.box_sum.Tie as tie
 
@@ -10,10 +11,16 @@ box-cell-requires : tie.Need-box-cell-requires
 box-cell-requires c κs = c .before .before .pre
 
 stats-of-requires : tie.Need-stats-of-requires
-stats-of-requires c κs = box-squares (c .before .before .before .args .g) (wide (now (c .before .before .before .args .table))) (c .before .before .before .args .x) (c .box-cell .ensures) (record { holds = c .before .before .before .pre .0 .is-sound }) (c .before .before .before .pre .1)
+unfolding boxCell
+stats-of-requires c κs =
+    let s = c .before .before .before in
+    cell-squares (boxSum (s .args .g) (wide (now (s .args .table))) (s .args .x)) (c .box-cell .ensures) (box-squares (record { holds = s .pre .0 .is-sound }) (s .pre .1))
 
 returns : tie.Need-returns
-returns c = box-stats (c .before .before .before .before .args .g) (wide (now (c .before .before .before .before .args .table))) (c .before .before .before .before .args .x) (c .before .box-cell .ensures) (c .stats-of .ensures)
+unfolding boxCell statsOf
+returns c =
+    let s = c .before .before .before .before in
+    cell-stats (boxSum (s .args .g) (wide (now (s .args .table))) (s .args .x)) (c .before .box-cell .ensures) (c .stats-of .ensures)
 
 pub box-sum-spec : {M : Type 1} → statement M
 box-sum-spec = tie.close (tie.spec box-cell-requires stats-of-requires returns)

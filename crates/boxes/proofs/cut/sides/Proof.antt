@@ -24,7 +24,7 @@ high-side-requires c κs = search needs
 side-requires-2 : tie.Need-side-requires-2
 side-requires-2 c κs =
     let s = c .before .before .before .before .before .before .before in
-    (s .pre .0, rw (c .high-side .ensures) (high-within (s .pre .1) (s .args .dimension) (s .args .bin) (s .pre .2) (s .pre .3)))
+    (s .pre .0, rw (c .high-side .ensures) (high-within (s .pre .1) (s .args .dimension) (s .args .bin) (s .pre .3)))
 
 returns : tie.Need-returns
 returns c = search needs

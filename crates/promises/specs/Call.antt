@@ -1,0 +1,41 @@
+-- A cut through the call for C and Rust, as its caller reads it from what it was lent. Definitions only.
+use mathlib.Core.Path.{_≡_}
+use mathlib.Core.List.{List}
+use Prim.Native.Nat.{ℕ, _+_, _*_, _≤_, _<_}
+use lib.ListN.{length, getD}
+use lib.Ieee.{nan}
+use Rattle.sums.specs.declared.Bounds.{Bounds}
+use Rattle.rounds.specs.Loop.{noBox, spent, boxSpread}
+use Rattle.cutter.specs.declared.CutRecord.{CutRecord}
+use Rattle.cutter.specs.Cut.{Buffers}
+use Rattle.seluvava.specs.declared.CutAnswer.{CutAnswer}
+use Rattle.seluvava.specs.Cut.{Lent}
+use Rattle.promises.specs.Tiling.{boxIn}
+
+-- room for k boxes, six bytes each, and their spreads
+pub record Room (k : ℕ) (l : Lent) : Type 0 where
+  pub boxes : 6 * k ≤ length (l .boxes)
+  pub spreads : k ≤ length (l .spreads)
+
+-- box i of an array of bytes: of each dimension where it begins, and where it ends
+unfoldable pub boxRead : List ℕ → ℕ → Bounds
+boxRead bytes i =
+    record {
+      r0 = getD bytes (6 * i + 0) 0;
+      r1 = getD bytes (6 * i + 1) 0;
+      g0 = getD bytes (6 * i + 2) 0;
+      g1 = getD bytes (6 * i + 3) 0;
+      b0 = getD bytes (6 * i + 4) 0;
+      b1 = getD bytes (6 * i + 5) 0;
+    }
+
+-- what is told and left behind is the record r and the buffers after it: the boxes with their spreads in order, and behind them what stood there
+pub record TellsCut (r : CutRecord) (after : Buffers) (old : Lent) (told : CutAnswer) (later : Lent) : Type 0 where
+  pub answer : told ≡ record { number = r .number; boxes = r .boxes }
+  pub buffers : later .buffers ≡ after
+  pub box : (i : ℕ) → i < r .boxes → boxRead (later .boxes) i ≡ boxIn r i
+  pub spread : (i : ℕ) → i < r .boxes → getD (later .spreads) i nan ≡ getD (r .places) i (boxSpread (spent noBox)) .spread
+  pub boxes-stay : (j : ℕ) → getD (later .boxes) (6 * r .boxes + j) 0 ≡ getD (old .boxes) (6 * r .boxes + j) 0
+  pub spreads-stay : (j : ℕ) → getD (later .spreads) (r .boxes + j) nan ≡ getD (old .spreads) (r .boxes + j) nan
+  pub boxes-long : length (later .boxes) ≡ length (old .boxes)
+  pub spreads-long : length (later .spreads) ≡ length (old .spreads)

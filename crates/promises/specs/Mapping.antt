@@ -1,0 +1,23 @@
+-- What a cut leaves for mapping and painting, and two maps by which every frame is mapped alike. Definitions only.
+use mathlib.Core.Path.{_≡_}
+use mathlib.Core.List.{List}
+use Prim.Native.Nat.{ℕ}
+use Rattle.cutter.specs.Palette.{frontOf}
+use Rattle.cutter.specs.Cut.{Buffers, cutRecord, cutLater}
+use Rattle.mapper.specs.Map.{mapNumber, mapLater}
+
+module _ (b1 b2 b3 k : ℕ) (t : List ℕ) (b : Buffers) where
+  -- the number of its boxes, its map, and the filled front of its palette
+  abbrev pub cutBoxes : ℕ
+  cutBoxes = cutRecord b1 b2 b3 k t b .boxes
+
+  abbrev pub cutMap : List ℕ
+  cutMap = cutLater b1 b2 b3 k t b .map
+
+  abbrev pub cutFront : List ℕ
+  cutFront = frontOf (cutLater b1 b2 b3 k t b .palette) cutBoxes
+
+-- over the call itself: the same number, and the same index for every pixel
+pub record SameIndices (b1 b2 b3 : ℕ) (m o : List ℕ) : Type 0 where
+  pub number : (colours : ℕ) (frame indices : List ℕ) (first pixels : ℕ) → mapNumber b1 b2 b3 m colours frame indices first pixels ≡ mapNumber b1 b2 b3 o colours frame indices first pixels
+  pub later : (colours : ℕ) (frame indices : List ℕ) (first pixels : ℕ) → mapLater b1 b2 b3 m colours frame indices first pixels ≡ mapLater b1 b2 b3 o colours frame indices first pixels
