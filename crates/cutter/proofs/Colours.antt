@@ -7,13 +7,13 @@ use native.Mathlib.Nat.{add-zero, div-mul-le-self, lt-div-mul-add, div-lt-iff-lt
 use native.Mathlib.Omega.{arith}
 use borrow.Author.Tests.{le-ltb}
 use lib.ListN.{length, getD, set}
-use Rattle.grid.specs.declared.Grid.{Grid}
-use Rattle.grid.specs.declared.Rgb.{Rgb}
-use Rattle.grid.specs.Grid.{colourAt}
+use Rattle.grid.specs.declared.place.Grid.{Grid}
+use Rattle.pixels.specs.declared.colour.Rgb.{Rgb}
+use Rattle.pixels.specs.Colour.{colourAt}
 use Rattle.table.specs.Cell.{View}
 use Rattle.table.specs.Sound.{limit}
 use Rattle.table.proofs.Soundness.{Sound}
-use Rattle.sums.specs.declared.Bounds.{Bounds}
+use Rattle.boxes.specs.declared.sides.Bounds.{Bounds}
 use Rattle.sums.specs.declared.Stats.{Stats}
 use Rattle.sums.specs.Box.{statsOf}
 use Rattle.sums.proofs.Laws.{box-sums-high, box-weight-high}

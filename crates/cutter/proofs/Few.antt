@@ -5,13 +5,13 @@ use mathlib.Core.List.{List}
 use Prim.Native.Nat.{ℕ, zero, suc, _≤_}
 use native.Mathlib.Omega.{arith}
 use lib.ListN.{length}
-use Rattle.grid.specs.declared.Grid.{Grid}
-use Rattle.grid.specs.declared.Chosen.{Chosen}
-use Rattle.grid.specs.declared.Chosen.the-variants as chosen
-use Rattle.grid.specs.Answer.{whenDone}
+use Rattle.grid.specs.declared.place.Grid.{Grid}
+use Rattle.grid.specs.declared.place.Chosen.{Chosen}
+use Rattle.grid.specs.declared.place.Chosen.the-variants as chosen
+use Rattle.basics.specs.Answer.{whenDone}
 use Rattle.grid.specs.Grid.{gridOf, gridAnswer, onGrid}
-use Rattle.grid.proofs.Range.{length-list}
-use Rattle.table.specs.Cell.{wide}
+use Rattle.basics.proofs.Range.{length-list}
+use Rattle.table.specs.Table.{viewOf}
 use Rattle.table.specs.Sound.{limit}
 use Rattle.rounds.specs.Loop.{boxesOf, placesOf}
 use Rattle.rounds.proofs.Filled.{heap-most}
@@ -23,8 +23,8 @@ module _ (k : ℕ) (least : 1 ≤ k) (most : k ≤ 256) (t : List ℕ) where
   unfolding recordOn whenDone doneRecord refusedRecord boxesOf
   few-on g l = go (cutNumberOn limit g k t l)
     where
-      go : (n : ℕ) → whenDone n (doneRecord (boxesOf g (wide t) k)) (refusedRecord n) .boxes ≤ k
-      go zero = heap-most g (wide t) k least most
+      go : (n : ℕ) → whenDone n (doneRecord (boxesOf g (viewOf t) k)) (refusedRecord n) .boxes ≤ k
+      go zero = heap-most g (viewOf t) k least most
       go (suc n) = omega arith
 
   few-cut : (b1 b2 b3 : ℕ) (b : Buffers) → cutRecord b1 b2 b3 k t b .boxes ≤ k
@@ -32,7 +32,7 @@ module _ (k : ℕ) (least : 1 ≤ k) (most : k ≤ 256) (t : List ℕ) where
   few-cut b1 b2 b3 b = go (gridOf b1 b2 b3)
     where
       go : (c : Chosen) → onGrid c (refusedRecord (gridAnswer c .number)) (λ g. recordOn g k t (lengthsOf b)) .boxes ≤ k
-      go (chosen.Of g) = few-on g (lengthsOf b)
+      go (chosen.Accepted g) = few-on g (lengthsOf b)
       go chosen.Refused = omega arith
 
   pub few : (b1 b2 b3 : ℕ) (b : Buffers) {r : CutRecord} → r ≡ cutRecord b1 b2 b3 k t b → r .boxes ≤ k
@@ -43,7 +43,7 @@ module _ (k : ℕ) (t : List ℕ) where
   unfolding recordOn whenDone doneRecord refusedRecord boxesOf placesOf
   places-on g l = go (cutNumberOn limit g k t l)
     where
-      go : (n : ℕ) → length (whenDone n (doneRecord (boxesOf g (wide t) k)) (refusedRecord n) .places) ≡ 256
+      go : (n : ℕ) → length (whenDone n (doneRecord (boxesOf g (viewOf t) k)) (refusedRecord n) .places) ≡ 256
       go zero = length-list 0 256 _
       go (suc n) = refl
 
@@ -52,5 +52,5 @@ module _ (k : ℕ) (t : List ℕ) where
   all-places b1 b2 b3 b e = rw e (go (gridOf b1 b2 b3))
     where
       go : (c : Chosen) → length (onGrid c (refusedRecord (gridAnswer c .number)) (λ g. recordOn g k t (lengthsOf b)) .places) ≡ 256
-      go (chosen.Of g) = places-on g (lengthsOf b)
+      go (chosen.Accepted g) = places-on g (lengthsOf b)
       go chosen.Refused = refl

@@ -9,15 +9,18 @@ use native.Mathlib.Decide.{ℕ-discrete}
 use native.Mathlib.Omega.{arith}
 use lib.ListN.{length, getD, set, length-set}
 use lib.Seq.{getD-set-same, getD-set-other}
-use Rattle.grid.specs.declared.Grid.{Grid}
-use Rattle.grid.specs.Grid.{Inside, choose, placeOf, binAt}
-use Rattle.grid.proofs.Range.{length-list, list-at, list-is}
+use Rattle.grid.specs.declared.place.Grid.{Grid}
+use Rattle.grid.specs.Grid.{Inside, placeOf, binAt}
+use Rattle.basics.specs.Dimension.{choose}
+use Rattle.basics.proofs.Range.{length-list, list-at, list-is}
 use Rattle.grid.proofs.Places.{bins-high, place-lt, bin-of-place, place-of-bins, place-along}
-use Rattle.sums.specs.declared.Bounds.{Bounds}
-use Rattle.sums.specs.Box.{minAt, maxAt, lowSide, highSide}
-use Rattle.sums.proofs.Corners.{sides}
-use Rattle.cutter.specs.Map.{lies, holds, fillWhere, slice, Plane}
-use Rattle.cutter.proofs.Held.{same-test, never-true, lies-by, lies-from, lies-below, PlaceIn, holds-in, in-holds, cut-holds}
+use Rattle.boxes.specs.declared.sides.Bounds.{Bounds}
+use Rattle.boxes.specs.Box.{minAt, maxAt, lowSide, highSide}
+use Rattle.boxes.proofs.Within.{sides}
+use Rattle.boxes.specs.Holds.{lies, holds, slice}
+use Rattle.cutter.specs.Map.{fillWhere, Plane}
+use Rattle.basics.proofs.Range.{tests-same, never-true}
+use Rattle.boxes.proofs.Held.{lies-by, lies-from, lies-below, PlaceIn, place-held, held-place, cut-holds}
 
 -- ---- any test
 module _ (test : ℕ → Bool) (index : ℕ) (old : List ℕ) where
@@ -77,7 +80,7 @@ module _ (index : ℕ) (old : List ℕ) (at : ℕ) where
     where
       longer : (p : ℕ) → (p ≡ q → ⊥) → lies at q p ≡ lies at (q + 1) p
       longer p n =
-          same-test _ _
+          tests-same _ _
           (λ e. lies-by at (q + 1) p (lies-from at q p e) (omega (arith, lies-below at q p e)))
           (λ e. lies-by at q p (lies-from at (q + 1) p e) (omega (arith, lies-below at (q + 1) p e)))
 
@@ -91,7 +94,7 @@ module _ (index : ℕ) (old : List ℕ) (at : ℕ) where
           ∙ ap (λ (b : Bool). cond b index (getD old p 0)) (longer p d)
 
 -- the places of a row of a box are a run
-module _ (g : Grid) (x : Bounds) (r gr : ℕ) (h : gr < g .b2) (l : x .b1 ≤ g .b3) where
+module _ (g : Grid) (x : Bounds) (r gr : ℕ) (h : gr < g .size2) (l : x .b1 ≤ g .size3) where
   row-in : (p : ℕ) → lies (placeOf g r gr 0 + x .b0) (placeOf g r gr 0 + x .b1) p ≡ true → PlaceIn g (slice (slice x 0 r) 1 gr) p
   unfolding slice lowSide highSide choose
   row-in p e =
@@ -100,7 +103,7 @@ module _ (g : Grid) (x : Bounds) (r gr : ℕ) (h : gr < g .b2) (l : x .b1 ≤ g 
       let below = lies-below (start + x .b0) (start + x .b1) p e in
       let b : ℕ = p - start in
       let here : placeOf g r gr b ≡ p = sym (place-along g r gr b) ∙ back start p from in
-      let fits : b < g .b3 = omega arith in
+      let fits : b < g .size3 = omega arith in
       let first : binAt g 0 p ≡ r = ap (binAt g 0) (sym here) ∙ bin-of-place g 0 r gr b h fits in
       let second : binAt g 1 p ≡ gr = ap (binAt g 1) (sym here) ∙ bin-of-place g 1 r gr b h fits in
       let third : binAt g 2 p ≡ b = ap (binAt g 2) (sym here) ∙ bin-of-place g 2 r gr b h fits in
@@ -120,9 +123,9 @@ module _ (g : Grid) (x : Bounds) (r gr : ℕ) (h : gr < g .b2) (l : x .b1 ≤ g 
 
   pub row-holds : (p : ℕ) → lies (placeOf g r gr 0 + x .b0) (placeOf g r gr 0 + x .b1) p ≡ holds g (slice (slice x 0 r) 1 gr) p
   row-holds p =
-      same-test _ _
-      (λ e. in-holds g (slice (slice x 0 r) 1 gr) p (row-in p e))
-      (λ e. in-row p (holds-in g (slice (slice x 0 r) 1 gr) p e))
+      tests-same _ _
+      (λ e. held-place g (slice (slice x 0 r) 1 gr) p (row-in p e))
+      (λ e. in-row p (place-held g (slice (slice x 0 r) 1 gr) p e))
 
 -- ---- a box, slice by slice
 no-slice : (g : Grid) (x : Bounds) (d p : ℕ) → PlaceIn g (lowSide x d (minAt x d)) p → ⊥
@@ -147,7 +150,7 @@ module _ (g : Grid) (x : Bounds) (d index : ℕ) (old : List ℕ) where
   pub slices-none : old ≡ fillWhere (holds g (lowSide x d (minAt x d))) index old
   slices-none =
       fill-none (holds g (lowSide x d (minAt x d))) index old
-      (λ p. never-true _ (λ e. no-slice g x d p (holds-in g (lowSide x d (minAt x d)) p e)))
+      (λ p. never-true _ (λ e. no-slice g x d p (place-held g (lowSide x d (minAt x d)) p e)))
 
   pub slices-more : (c : ℕ) → minAt x d ≤ c → {before later : List ℕ} → before ≡ fillWhere (holds g (lowSide x d c)) index old → later ≡ fillWhere (holds g (slice x d c)) index before → later ≡ fillWhere (holds g (lowSide x d (c + 1))) index old
   slices-more c h e f =

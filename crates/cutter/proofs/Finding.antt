@@ -10,16 +10,17 @@ use borrow.Author.Tests.{lt-ltb}
 use lib.Dec.{ltb}
 use lib.ListN.{length, getD, take, length-map, List·getD-map}
 use lib.Seq.{ext-getD, getD-take, length-take-le}
-use Rattle.grid.specs.declared.Grid.{Grid}
+use Rattle.grid.specs.declared.place.Grid.{Grid}
 use Rattle.grid.specs.Grid.{Accepted}
-use Rattle.grid.proofs.Range.{length-list, list-at}
+use Rattle.basics.proofs.Range.{length-list, list-at}
 use Rattle.table.specs.Cell.{View}
 use Rattle.table.specs.Sound.{total}
-use Rattle.sums.specs.declared.Bounds.{Bounds}
+use Rattle.boxes.specs.declared.sides.Bounds.{Bounds}
 use Rattle.heap.specs.Heap.{Room, item}
-use Rattle.rounds.specs.Loop.{noBox, noItem, spent, heapOf, boxSpread, placesOf, boxesOf}
+use Rattle.boxes.specs.Box.{noBox}
+use Rattle.rounds.specs.Loop.{noItem, spent, heapOf, boxSpread, placesOf, boxesOf}
 use Rattle.rounds.proofs.Filled.{heap-in-use}
-use Rattle.cutter.specs.Map.{Tiles}
+use Rattle.boxes.specs.Holds.{Tiles}
 use Rattle.cutter.specs.Cut.{boundsOf, listOf, Found}
 use Rattle.cutter.proofs.Listed.{pastPlaces}
 use Rattle.cutter.proofs.Tiling.{boxesFound, boxes-long, box-at, tiles, all-occupied}

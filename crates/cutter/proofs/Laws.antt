@@ -7,13 +7,13 @@ use Prim.Native.Nat.{ℕ, zero, suc}
 use native.Mathlib.Omega.{arith}
 use borrow.Author.Tests.{eq-eqb}
 use lib.ListN.{length}
-use Rattle.grid.specs.declared.Grid.{Grid}
-use Rattle.grid.specs.declared.Chosen.{Chosen}
-use Rattle.grid.specs.declared.Chosen.the-variants as chosen
-use Rattle.grid.specs.Answer.{whenDone}
+use Rattle.grid.specs.declared.place.Grid.{Grid}
+use Rattle.grid.specs.declared.place.Chosen.{Chosen}
+use Rattle.grid.specs.declared.place.Chosen.the-variants as chosen
+use Rattle.basics.specs.Answer.{whenDone}
 use Rattle.grid.specs.Grid.{gridOf, gridAnswer, onGrid, numberOn, Accepted}
 use Rattle.grid.proofs.Places.{chose}
-use Rattle.table.specs.Cell.{wide}
+use Rattle.table.specs.Table.{viewOf}
 use Rattle.table.specs.Sound.{limit}
 use Rattle.rounds.specs.Loop.{boxesOf}
 use Rattle.cutter.specs.declared.CutRecord.{CutRecord}
@@ -35,9 +35,9 @@ module _ (b1 b2 b3 k : ℕ) (t : List ℕ) (b : Buffers) where
       of zero r e = e
       of (suc n) r e = refl
 
-      go : (c : Chosen) → onGrid c (refusedRecord (gridAnswer c .number)) (λ g. whenDone (cutNumberOn limit g k t (lengthsOf b)) (doneRecord (boxesOf g (wide t) k)) (refusedRecord (cutNumberOn limit g k t (lengthsOf b)))) .number
+      go : (c : Chosen) → onGrid c (refusedRecord (gridAnswer c .number)) (λ g. whenDone (cutNumberOn limit g k t (lengthsOf b)) (doneRecord (boxesOf g (viewOf t) k)) (refusedRecord (cutNumberOn limit g k t (lengthsOf b)))) .number
           ≡ onGrid c (gridAnswer c .number) (λ g. cutNumberOn limit g k t (lengthsOf b))
-      go (chosen.Of g) = of (cutNumberOn limit g k t (lengthsOf b)) (doneRecord (boxesOf g (wide t) k)) refl
+      go (chosen.Accepted g) = of (cutNumberOn limit g k t (lengthsOf b)) (doneRecord (boxesOf g (viewOf t) k)) refl
       go chosen.Refused = refl
 
   -- "A refusal returns its number and, from a cut, zero boxes and box places all zero, and writes nothing"
@@ -49,19 +49,19 @@ module _ (b1 b2 b3 k : ℕ) (t : List ℕ) (b : Buffers) where
       of m x y e = rw e refl
 
       go : (c : Chosen) → onGrid c (gridAnswer c .number) (λ g. cutNumberOn limit g k t (lengthsOf b)) ≡ suc n
-          → (onGrid c (refusedRecord (gridAnswer c .number)) (λ g. whenDone (cutNumberOn limit g k t (lengthsOf b)) (doneRecord (boxesOf g (wide t) k)) (refusedRecord (cutNumberOn limit g k t (lengthsOf b)))) ≡ refusedRecord (suc n))
+          → (onGrid c (refusedRecord (gridAnswer c .number)) (λ g. whenDone (cutNumberOn limit g k t (lengthsOf b)) (doneRecord (boxesOf g (viewOf t) k)) (refusedRecord (cutNumberOn limit g k t (lengthsOf b)))) ≡ refusedRecord (suc n))
           × (onGrid c b (λ g. whenDone (cutNumberOn limit g k t (lengthsOf b)) (laterOn g k t b) b) ≡ b)
-      go (chosen.Of g) e = (of (cutNumberOn limit g k t (lengthsOf b)) _ _ e ∙ ap refusedRecord e, of (cutNumberOn limit g k t (lengthsOf b)) _ _ e)
+      go (chosen.Accepted g) e = (of (cutNumberOn limit g k t (lengthsOf b)) _ _ e ∙ ap refusedRecord e, of (cutNumberOn limit g k t (lengthsOf b)) _ _ e)
       go chosen.Refused e = (ap refusedRecord e, refl)
 
   -- what a cut that is done tells
   pub record CutDone (g : Grid) : Type 0 where
     pub accepted : Accepted g
     pub can : CanCut g k t (lengthsOf b)
-    pub hands : cutRecord b1 b2 b3 k t b ≡ doneRecord (boxesOf g (wide t) k)
+    pub hands : cutRecord b1 b2 b3 k t b ≡ doneRecord (boxesOf g (viewOf t) k)
     pub leaves : cutLater b1 b2 b3 k t b ≡ laterOn g k t b
 
-  pub cut-says : {g : Grid} → gridOf b1 b2 b3 ≡ chosen.Of g → cutNumber b1 b2 b3 k t b ≡ 0 → CutDone g
+  pub cut-says : {g : Grid} → gridOf b1 b2 b3 ≡ chosen.Accepted g → cutNumber b1 b2 b3 k t b ≡ 0 → CutDone g
   unfolding cutNumber cutRecord cutLater recordOn numberOn onGrid whenDone
   cut-says {g} e n =
       let m : cutNumberOn limit g k t (lengthsOf b) ≡ 0 = sym (rw e refl) ∙ n in
@@ -73,6 +73,6 @@ module _ (b1 b2 b3 k : ℕ) (t : List ℕ) (b : Buffers) where
       }
 
   -- "none is given otherwise"
-  pub cut-accepts : {g : Grid} → gridOf b1 b2 b3 ≡ chosen.Of g → CanCut g k t (lengthsOf b) → cutNumber b1 b2 b3 k t b ≡ 0
+  pub cut-accepts : {g : Grid} → gridOf b1 b2 b3 ≡ chosen.Accepted g → CanCut g k t (lengthsOf b) → cutNumber b1 b2 b3 k t b ≡ 0
   unfolding cutNumber numberOn onGrid
   cut-accepts e c = rw e (nothing-refuses c)

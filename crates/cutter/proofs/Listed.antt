@@ -7,11 +7,11 @@ use native.Mathlib.Omega.{arith}
 use lib.ListN.{length, getD, take, length-map, List·getD-map}
 use lib.Seq.{take-all, length-take-le, getD-take}
 use lib.Ieee.{nan}
-use Rattle.grid.specs.declared.Grid.{Grid}
-use Rattle.sums.specs.declared.Bounds.{Bounds}
+use Rattle.grid.specs.declared.place.Grid.{Grid}
+use Rattle.boxes.specs.declared.sides.Bounds.{Bounds}
 use Rattle.rounds.specs.declared.BoxSpread.{BoxSpread}
 use Rattle.rounds.specs.declared.Boxes.{Boxes}
-use Rattle.rounds.specs.Loop.{noBox}
+use Rattle.boxes.specs.Box.{noBox}
 use Rattle.cutter.specs.Cut.{boundsOf, listOf, Placed}
 
 -- what the places read past their end

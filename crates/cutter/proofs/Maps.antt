@@ -11,12 +11,13 @@ use borrow.Author.Tests.{eq-eqb, eqb-true}
 use lib.Dec.{eqb}
 use lib.ListN.{length, getD, take}
 use lib.Seq.{length-take-le, take-suc}
-use Rattle.grid.specs.declared.Grid.{Grid}
+use Rattle.grid.specs.declared.place.Grid.{Grid}
 use Rattle.grid.specs.Grid.{binsOf}
-use Rattle.grid.proofs.Range.{length-list, list-at, list-is}
-use Rattle.sums.specs.declared.Bounds.{Bounds}
-use Rattle.cutter.specs.Map.{holds, indexFrom, mapOf, holding, Tiles, fillWhere, fillOf, fillFrom}
-use Rattle.cutter.proofs.Held.{same-test}
+use Rattle.basics.proofs.Range.{length-list, list-at, list-is}
+use Rattle.boxes.specs.declared.sides.Bounds.{Bounds}
+use Rattle.boxes.specs.Holds.{holds, holding, Tiles}
+use Rattle.cutter.specs.Map.{indexFrom, mapOf, fillWhere, fillOf, fillFrom}
+use Rattle.basics.proofs.Range.{tests-same}
 use Rattle.cutter.proofs.Filled.{length-fill, fill-at}
 
 module _ (g : Grid) where
@@ -154,6 +155,6 @@ module _ (g : Grid) where
 
   pub box-of-index : (xs : List Bounds) → Tiles g xs → (i : ℕ) (none : Bounds) (p : ℕ) → i < length xs → p < binsOf g → holds g (getD xs i none) p ≡ eqb (getD (mapOf g xs) p 0) i
   box-of-index xs t i none p h l =
-      same-test _ _
+      tests-same _ _
       (λ e. eq-eqb _ _ (index-of-box xs t i none p h l e))
       (λ e. index-holds 0 xs i none p (t .once p l) (sym (map-at xs p l) ∙ eqb-true _ _ e ∙ sym (zero-add i)))

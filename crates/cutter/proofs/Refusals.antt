@@ -8,13 +8,13 @@ use native.Mathlib.Omega.{arith}
 use borrow.Author.Tests.{eq-eqb, ne-eqb, le-leb, lt-leb, leb-true, eqb-true, eqb-false, not-false}
 use lib.Dec.{eqb}
 use lib.ListN.{length}
-use Rattle.grid.specs.declared.Grid.{Grid}
-use Rattle.grid.specs.declared.Chosen.the-variants as chosen
-use Rattle.grid.specs.Answer.{refuse, whenDone}
+use Rattle.grid.specs.declared.place.Grid.{Grid}
+use Rattle.grid.specs.declared.place.Chosen.the-variants as chosen
+use Rattle.basics.specs.Answer.{refuse, whenDone}
 use Rattle.grid.specs.Grid.{gridOf, gridAnswer, onGrid, binsOf}
-use Rattle.grid.proofs.Range.{and-left, and-right}
-use Rattle.grid.proofs.Ends.{refused-keeps, passed}
-use Rattle.table.specs.Cell.{wide}
+use Rattle.basics.proofs.Range.{and-left, and-right}
+use Rattle.basics.proofs.Ends.{refused-keeps, passed}
+use Rattle.table.specs.Table.{viewOf}
 use Rattle.table.specs.Sound.{limit, total, sound}
 use Rattle.rounds.specs.Loop.{boxesOf}
 use Rattle.cutter.specs.declared.CutRecord.{CutRecord}
@@ -61,16 +61,16 @@ module _ (g : Grid) (k : ℕ) (t : List ℕ) (l : Lengths) where
     too-short n = simp (le-leb _ _ a, le-leb _ _ b, n)
 
     module _ (e : longEnough g k (length t) l ≡ true) where
-      pub not-sound : sound limit g (wide t) ≡ false → cutNumberOn limit g k t l ≡ 6
+      pub not-sound : sound limit g (viewOf t) ≡ false → cutNumberOn limit g k t l ≡ 6
       unfolding cutNumberOn refuse
       not-sound n = simp (le-leb _ _ a, le-leb _ _ b, e, n)
 
-      module _ (s : sound limit g (wide t) ≡ true) where
-        pub no-total : total g (wide t) ≡ 0 → cutNumberOn limit g k t l ≡ 8
+      module _ (s : sound limit g (viewOf t) ≡ true) where
+        pub no-total : total g (viewOf t) ≡ 0 → cutNumberOn limit g k t l ≡ 8
         unfolding cutNumberOn refuse
         no-total n = simp (le-leb _ _ a, le-leb _ _ b, e, s, eq-eqb _ _ n)
 
-        pub accepts : (total g (wide t) ≡ 0 → ⊥) → cutNumberOn limit g k t l ≡ 0
+        pub accepts : (total g (viewOf t) ≡ 0 → ⊥) → cutNumberOn limit g k t l ≡ 0
         unfolding cutNumberOn refuse
         accepts n = simp (le-leb _ _ a, le-leb _ _ b, e, s, ne-eqb _ _ n)
 
@@ -119,11 +119,11 @@ module _ (b1 b2 b3 k : ℕ) (t : List ℕ) (b : Buffers) where
   unfolding cutRecord cutLater onGrid gridAnswer
   cut-no-grid e q = (q ∙ rw e refl, rw e refl)
 
-  module _ {g : Grid} (e : gridOf b1 b2 b3 ≡ chosen.Of g) where
+  module _ {g : Grid} (e : gridOf b1 b2 b3 ≡ chosen.Accepted g) where
     pub cut-refused : {n : ℕ} → n ≡ cutNumberOn limit g k t (lengthsOf b) → (n ≡ 0 → ⊥) → {r : CutRecord} → r ≡ refusedRecord n → Ends r b
     unfolding cutRecord cutLater recordOn onGrid
     cut-refused {n} p h {r} q = (q ∙ rw (e, ← p) (refused-keeps n h (refusedRecord n) _), rw (e, ← p) (refused-keeps n h b _))
 
-    pub cut-done : cutNumberOn limit g k t (lengthsOf b) ≡ 0 → {r : CutRecord} → r ≡ doneRecord (boxesOf g (wide t) k) → {l : Buffers} → l ≡ laterOn g k t b → Ends r l
+    pub cut-done : cutNumberOn limit g k t (lengthsOf b) ≡ 0 → {r : CutRecord} → r ≡ doneRecord (boxesOf g (viewOf t) k) → {l : Buffers} → l ≡ laterOn g k t b → Ends r l
     unfolding cutRecord cutLater recordOn onGrid whenDone
     cut-done p q s = (q ∙ rw (e, p) refl, s ∙ rw (e, p) refl)

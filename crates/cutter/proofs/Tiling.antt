@@ -10,30 +10,34 @@ use native.Mathlib.Omega.{arith}
 use lib.Dec.{leb, ltb}
 use lib.ListN.{length, getD, take, length-map, List·getD-map}
 use lib.Seq.{getD-take, length-take-le}
-use Rattle.grid.specs.declared.Grid.{Grid}
-use Rattle.grid.specs.declared.Rgb.{Rgb}
-use Rattle.grid.specs.Range.{sumFrom, allFrom}
+use Rattle.grid.specs.declared.place.Grid.{Grid}
+use Rattle.pixels.specs.declared.colour.Rgb.{Rgb}
+use Rattle.basics.specs.Range.{sumFrom, allFrom}
 use Rattle.grid.specs.Size.{binOf}
-use Rattle.grid.specs.Grid.{Accepted, choose, sizeAt, shiftAt, componentAt, binsOf, placeOf, binAt, colourPlace}
-use Rattle.grid.proofs.Range.{sum-shift, sum-same, hit, hit-yes, hit-no, sum-hit}
+use Rattle.grid.specs.Grid.{Accepted, sizeAt, shiftAt, binsOf, placeOf, binAt, colourPlace}
+use Rattle.basics.specs.Dimension.{choose}
+use Rattle.pixels.specs.Colour.{componentAt}
+use Rattle.basics.proofs.Range.{sum-shift, sum-same, hit, hit-yes, hit-no, sum-hit}
 use Rattle.grid.proofs.Places.{Bytes, place-lt, place-of-bins, bins-inside, colour-bin}
 use Rattle.table.specs.Cell.{View}
 use Rattle.table.specs.Sound.{total}
 use Rattle.table.proofs.Soundness.{total-is}
-use Rattle.sums.specs.declared.Bounds.{Bounds}
-use Rattle.sums.specs.Box.{minAt, maxAt, binSum, boxSum, Within}
+use Rattle.boxes.specs.declared.sides.Bounds.{Bounds}
+use Rattle.boxes.specs.Box.{minAt, maxAt, Within}
+use Rattle.sums.specs.Box.{binSum, boxSum}
 use Rattle.sums.proofs.Boxes.{sum3-same, sum3-plus, sum3-zero}
-use Rattle.sums.proofs.Corners.{sides}
+use Rattle.boxes.proofs.Within.{sides}
 use Rattle.sums.proofs.Laws.{cut-sum}
 use Rattle.sums.proofs.Loaded.{among, hit-box}
 use Rattle.heap.specs.Heap.{Item, Room, item, sumItems}
-use Rattle.rounds.specs.Loop.{noBox, noItem, wholeOf, heapOf}
+use Rattle.boxes.specs.Box.{noBox, wholeOf}
+use Rattle.rounds.specs.Loop.{noItem, heapOf}
 use Rattle.rounds.proofs.Grids.{whole-sum}
 use Rattle.rounds.proofs.Filled.{heap-fit, heap-in-use}
 use Rattle.rounds.proofs.Cover.{over, over-heap}
 use Rattle.cutter.specs.Palette.{countOf, Occupied}
-use Rattle.cutter.specs.Map.{lies, holds, holding, Tiles}
-use Rattle.cutter.proofs.Held.{whole-holds, cut-holding}
+use Rattle.boxes.specs.Holds.{lies, holds, holding, Tiles}
+use Rattle.boxes.proofs.Held.{whole-holds, cut-holding}
 
 -- the boxes of the first n places of a room
 abbrev pub boxesIn : Room Bounds → ℕ → List Bounds
@@ -60,17 +64,6 @@ counts-sum g v (x ∷ h) = ap (λ (n : ℕ). boxSum g v (x .box) 0 + n) (sum-shi
 
     next : (i : ℕ) → 1 + i ≡ suc i
     next i = omega arith
-
--- ---- the whole grid
-whole-low : (g : Grid) (d : ℕ) → minAt (wholeOf g) d ≡ 0
-unfolding minAt wholeOf choose
-whole-low g zero = refl
-whole-low g (suc zero) = refl
-whole-low g (suc (suc d)) = refl
-
-whole-high : (g : Grid) (d : ℕ) → maxAt (wholeOf g) d ≡ sizeAt g d
-unfolding maxAt wholeOf sizeAt
-whole-high g d = refl
 
 module _ (g : Grid) (v : View) (k : ℕ) (most : k ≤ 256) where
   abbrev room : Room Bounds
@@ -136,7 +129,7 @@ holds-bins {g} {x} w p =
 
 pub holds-colour : {g : Grid} {x : Bounds} → Within g x → {c : Rgb} → Bytes c
     → holds g x (colourPlace g c)
-    ≡ (among (x .r0) (x .r1 - x .r0) (binOf (g .s1) (c .c1)) && (among (x .g0) (x .g1 - x .g0) (binOf (g .s2) (c .c2)) && among (x .b0) (x .b1 - x .b0) (binOf (g .s3) (c .c3))))
+    ≡ (among (x .r0) (x .r1 - x .r0) (binOf (g .shift1) (c .c1)) && (among (x .g0) (x .g1 - x .g0) (binOf (g .shift2) (c .c2)) && among (x .b0) (x .b1 - x .b0) (binOf (g .shift3) (c .c3))))
 unfolding shiftAt componentAt choose
 holds-colour {g} {x} w {c} b =
     let bin = colour-bin (w .accepted) b in

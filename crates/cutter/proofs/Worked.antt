@@ -4,14 +4,17 @@ use mathlib.Core.Path.{_≡_, refl}
 use mathlib.Core.List.{List, [], _∷_, map}
 use Prim.Native.Nat.{ℕ}
 use lib.ListN.{length, getD, replicate}
-use Rattle.grid.specs.declared.Grid.{Grid}
-use Rattle.grid.specs.Range.{listFrom, sumFrom, allFrom}
-use Rattle.grid.specs.Grid.{choose, binsOf, placeOf, binAt}
-use Rattle.sums.specs.declared.Bounds.{Bounds}
-use Rattle.sums.specs.Box.{minAt, maxAt, sum3, binSum, boxSum}
+use Rattle.grid.specs.declared.place.Grid.{Grid}
+use Rattle.basics.specs.Range.{listFrom, sumFrom, allFrom}
+use Rattle.basics.specs.Dimension.{choose}
+use Rattle.grid.specs.Grid.{binsOf, placeOf, binAt}
+use Rattle.boxes.specs.declared.sides.Bounds.{Bounds}
+use Rattle.boxes.specs.Box.{minAt, maxAt}
+use Rattle.sums.specs.Box.{sum3, binSum, boxSum}
 use Rattle.cutter.specs.Fronts.{flat, filled}
 use Rattle.cutter.specs.Palette.{meanOf, colourOf, countOf, bytesOf, itsColour, itsCount, paletteLater, countsLater, frontOf}
-use Rattle.cutter.specs.Map.{lies, holds, indexFrom, mapOf, fillWhere, fillOf, fillFrom}
+use Rattle.boxes.specs.Holds.{lies, holds}
+use Rattle.cutter.specs.Map.{indexFrom, mapOf, fillWhere, fillOf, fillFrom}
 
 record Outcome : Type 0 where
   palette : List ℕ
@@ -46,7 +49,7 @@ planes from end = record { r0 = from; r1 = end; g0 = 0; g1 = 2; b0 = 0; b1 = 2 }
 
 -- and that grid itself, with its first shift
 narrow : ℕ → ℕ → Grid
-narrow shift n = record { s1 = shift; s2 = 7; s3 = 7; b1 = n; b2 = 2; b3 = 2 }
+narrow shift n = record { shift1 = shift; shift2 = 7; shift3 = 7; size1 = n; size2 = 2; size3 = 2 }
 
 cases : List Case
 cases =

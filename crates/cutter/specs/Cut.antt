@@ -5,17 +5,20 @@ use mathlib.Core.List.{List, map}
 use Prim.Native.Nat.{ℕ, _*_, _≤_, _<_}
 use lib.Dec.{eqb, leb}
 use lib.ListN.{length, getD, take, replicate}
-use Rattle.grid.specs.declared.Grid.{Grid}
-use Rattle.grid.specs.Answer.{refuse, whenDone}
+use Rattle.grid.specs.declared.place.Grid.{Grid}
+use Rattle.basics.specs.Answer.{refuse, whenDone}
 use Rattle.grid.specs.Grid.{gridOf, gridAnswer, onGrid, numberOn, binsOf}
-use Rattle.table.specs.Cell.{View, wide, wideList}
+use Rattle.table.specs.Cell.{View}
+use Rattle.table.specs.Table.{viewOf, written}
 use Rattle.table.specs.Sound.{limit, total, sound, unsoundNumber}
-use Rattle.sums.specs.declared.Bounds.{Bounds}
-use Rattle.sums.specs.Box.{boxSum, Within}
+use Rattle.boxes.specs.declared.sides.Bounds.{Bounds}
+use Rattle.sums.specs.Box.{boxSum}
+use Rattle.boxes.specs.Box.{Within}
 use Rattle.sums.specs.Moments.{momentsOf}
 use Rattle.rounds.specs.declared.BoxSpread.{BoxSpread}
 use Rattle.rounds.specs.declared.Boxes.{Boxes}
-use Rattle.rounds.specs.Loop.{noBox, spent, boxSpread, boxesOf}
+use Rattle.boxes.specs.Box.{noBox}
+use Rattle.rounds.specs.Loop.{spent, boxSpread, boxesOf}
 use Rattle.cutter.specs.declared.CutRecord.{CutRecord}
 use Rattle.cutter.specs.Palette.{paletteLater, countsLater}
 use Rattle.cutter.specs.Map.{mapOf}
@@ -49,8 +52,8 @@ unfoldable pub cutNumberOn : ℕ → Grid → ℕ → List ℕ → Lengths → �
 cutNumberOn most g k t l =
     refuse (not (leb 1 k && leb k 256)) 2
     (refuse (not (longEnough g k (length t) l)) 5
-    (refuse (not (sound most g (wide t))) unsoundNumber
-    (refuse (eqb (total g (wide t)) 0) 8 0)))
+    (refuse (not (sound most g (viewOf t))) unsoundNumber
+    (refuse (eqb (total g (viewOf t)) 0) 8 0)))
 
 unfoldable pub cutNumber : ℕ → ℕ → ℕ → ℕ → List ℕ → Buffers → ℕ
 cutNumber b1 b2 b3 k t b = numberOn (gridOf b1 b2 b3) (λ g. cutNumberOn limit g k t (lengthsOf b))
@@ -64,7 +67,7 @@ unfoldable pub doneRecord : Boxes → CutRecord
 doneRecord b = record { number = 0; boxes = b .found; places = b .places }
 
 unfoldable pub recordOn : Grid → ℕ → List ℕ → Lengths → CutRecord
-recordOn g k t l = let n = cutNumberOn limit g k t l in whenDone n (doneRecord (boxesOf g (wide t) k)) (refusedRecord n)
+recordOn g k t l = let n = cutNumberOn limit g k t l in whenDone n (doneRecord (boxesOf g (viewOf t) k)) (refusedRecord n)
 
 unfoldable pub cutRecord : ℕ → ℕ → ℕ → ℕ → List ℕ → Buffers → CutRecord
 cutRecord b1 b2 b3 k t b = let c = gridOf b1 b2 b3 in onGrid c (refusedRecord (gridAnswer c .number)) (λ g. recordOn g k t (lengthsOf b))
@@ -80,15 +83,15 @@ listOf n places = map boundsOf (take n places)
 
 -- the boxes of a cut
 unfoldable pub boxList : Grid → List ℕ → ℕ → List Bounds
-boxList g t k = let b = boxesOf g (wide t) k in listOf (b .found) (b .places)
+boxList g t k = let b = boxesOf g (viewOf t) k in listOf (b .found) (b .places)
 
 -- "the work table holds the moments of the whole table"; palette and counts are filled in front; the map is full
 unfoldable pub laterOn : Grid → ℕ → List ℕ → Buffers → Buffers
 laterOn g k t b =
     record {
-      work = wideList (binsOf g) (momentsOf g (wide t));
-      palette = paletteLater g (wide t) (boxList g t k) (b .palette);
-      counts = countsLater g (wide t) (boxList g t k) (b .counts);
+      work = written (binsOf g) (momentsOf g (viewOf t));
+      palette = paletteLater g (viewOf t) (boxList g t k) (b .palette);
+      counts = countsLater g (viewOf t) (boxList g t k) (b .counts);
       map = mapOf g (boxList g t k);
     }
 
@@ -106,8 +109,8 @@ pub record CanCut (g : Grid) (k : ℕ) (t : List ℕ) (l : Lengths) : Type 0 whe
   pub palette : 3 * k ≤ l .palette
   pub counts : k ≤ l .counts
   pub map : l .map ≡ binsOf g
-  pub is-sound : sound limit g (wide t) ≡ true
-  pub some : 0 < total g (wide t)
+  pub is-sound : sound limit g (viewOf t) ≡ true
+  pub some : 0 < total g (viewOf t)
 
 -- boxes of the grid, in a record of 256 places
 pub record Placed (g : Grid) (b : Boxes) : Type 0 where

@@ -1,13 +1,13 @@
 // The call cut: boxes, palette, counts and map; and the filled front of a palette.
-use grid::Chosen;
-use grid::Grid;
-use grid::bins;
-use grid::grid_of;
-use grid::place;
+use grid::place::Chosen;
+use grid::place::Grid;
+use grid::place::bins;
+use grid::place::grid_of;
+use grid::place::place;
 use rounds::BoxSpread;
 use rounds::Boxes;
 use rounds::cut_boxes;
-use sums::Bounds;
+use boxes::sides::Bounds;
 use sums::Stats;
 use sums::box_sum;
 use sums::moments;
@@ -17,12 +17,13 @@ ghost use mathlib.Core.Path.{_≡_};
 ghost use Prim.Native.Nat.{_+_, _*_, _≤_, _<_};
 ghost use lib.ListN.{length, set};
 ghost use Rattle.grid.specs.Grid.{Accepted, binsOf};
-ghost use Rattle.table.specs.Cell.{wide};
+ghost use Rattle.table.specs.Table.{viewOf};
 ghost use Rattle.table.specs.Sound.{limit};
-ghost use Rattle.sums.specs.Box.{Within};
+ghost use Rattle.boxes.specs.Box.{Within};
 ghost use Rattle.sums.specs.Moments.{Worked};
 ghost use Rattle.cutter.specs.Palette.{meanOf, colourOf, countOf, paletteLater, countsLater, frontOf, statsColour, withColourAt, Coloured, Occupied};
-ghost use Rattle.cutter.specs.Map.{lies, holds, slice, fillWhere, fillOf, fillFrom, Plane};
+ghost use Rattle.boxes.specs.Holds.{lies, holds, slice};
+ghost use Rattle.cutter.specs.Map.{fillWhere, fillOf, fillFrom, Plane};
 ghost use Rattle.rounds.specs.Loop.{boxesOf};
 ghost use Rattle.cutter.specs.Cut.{buffers, lengthsOf, longEnough, cutNumberOn, refusedRecord, doneRecord, cutRecord, boundsOf, listOf, laterOn, cutLater, CanCut, Placed, Found};
 
@@ -65,10 +66,10 @@ fn put_result(
     palette: &mut [u8],
     counts: &mut [u32],
 )
-    requires { ⌜ Worked g (now table) (now work) × Occupied g (wide (now table)) x ⌝ }
+    requires { ⌜ Worked g (now table) (now work) × Occupied g (viewOf (now table)) x ⌝ }
     requires { ⌜ (3 * i + 2 < length (now palette)) × (i < length (now counts)) ⌝ }
-    ensures { λ r. ⌜ now (palette .exit) ≡ withColourAt (now (palette .entry)) i (colourOf g (wide (now (table .entry))) x) ⌝ }
-    ensures { λ r. ⌜ now (counts .exit) ≡ set (now (counts .entry)) i (countOf g (wide (now (table .entry))) x) ⌝ }
+    ensures { λ r. ⌜ now (palette .exit) ≡ withColourAt (now (palette .entry)) i (colourOf g (viewOf (now (table .entry))) x) ⌝ }
+    ensures { λ r. ⌜ now (counts .exit) ≡ set (now (counts .entry)) i (countOf g (viewOf (now (table .entry))) x) ⌝ }
 {
     let s = box_sum(table, work, g, x);
     put_colour(palette, i, s);
@@ -154,10 +155,10 @@ fn put_results(
     palette: &mut [u8],
     counts: &mut [u32],
 )
-    requires { ⌜ Worked g (now table) (now work) × Found g (wide (now table)) b ⌝ }
+    requires { ⌜ Worked g (now table) (now work) × Found g (viewOf (now table)) b ⌝ }
     requires { ⌜ (3 * b .found ≤ length (now palette)) × (b .found ≤ length (now counts)) ⌝ }
-    ensures { λ r. ⌜ now (palette .exit) ≡ paletteLater g (wide (now (table .entry))) (listOf (b .found) (b .places)) (now (palette .entry)) ⌝ }
-    ensures { λ r. ⌜ now (counts .exit) ≡ countsLater g (wide (now (table .entry))) (listOf (b .found) (b .places)) (now (counts .entry)) ⌝ }
+    ensures { λ r. ⌜ now (palette .exit) ≡ paletteLater g (viewOf (now (table .entry))) (listOf (b .found) (b .places)) (now (palette .entry)) ⌝ }
+    ensures { λ r. ⌜ now (counts .exit) ≡ countsLater g (viewOf (now (table .entry))) (listOf (b .found) (b .places)) (now (counts .entry)) ⌝ }
 {
     let places = b.places;
     let n = b.found;
@@ -298,7 +299,7 @@ fn cut_on(
     map: &mut [u8],
 ) -> CutRecord
     requires { ⌜ Accepted g × CanCut g k (now table) (lengthsOf (buffers (now work) (now palette) (now counts) (now map))) ⌝ }
-    ensures { λ r. ⌜ r ≡ doneRecord (boxesOf g (wide (now (table .entry))) k) ⌝ }
+    ensures { λ r. ⌜ r ≡ doneRecord (boxesOf g (viewOf (now (table .entry))) k) ⌝ }
     ensures { λ r. ⌜ buffers (now (work .exit)) (now (palette .exit)) (now (counts .exit)) (now (map .exit)) ≡ laterOn g k (now (table .entry)) (buffers (now (work .entry)) (now (palette .entry)) (now (counts .entry)) (now (map .entry))) ⌝ }
 {
     moments(table, g, work);
@@ -324,7 +325,7 @@ pub fn cut(
     ensures { λ r. ⌜ r ≡ cutRecord b1 b2 b3 k (now (table .entry)) (buffers (now (work .entry)) (now (palette .entry)) (now (counts .entry)) (now (map .entry))) ⌝ }
     ensures { λ r. ⌜ buffers (now (work .exit)) (now (palette .exit)) (now (counts .exit)) (now (map .exit)) ≡ cutLater b1 b2 b3 k (now (table .entry)) (buffers (now (work .entry)) (now (palette .entry)) (now (counts .entry)) (now (map .entry))) ⌝ }
 {
-    let Chosen::Of(g) = grid_of(b1, b2, b3) else {
+    let Chosen::Accepted(g) = grid_of(b1, b2, b3) else {
         return refused(1);
     };
     let number = number_on(

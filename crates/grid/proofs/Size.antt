@@ -9,9 +9,9 @@ use native.Mathlib.Omega.{arith}
 use borrow.Author.Tests.{eqb-true, leb-true}
 use lib.Dec.{eqb, leb}
 use lib.Pow.{pow-pos, pow-mono, pow-add, pow-lt}
-use Rattle.grid.specs.declared.Shift.the-variants.{By, Refused}
+use Rattle.grid.specs.declared.dimension.Shift.the-variants.{By, Refused}
 use Rattle.grid.specs.Size.{choices, shiftIn, shiftOf, binOf, spanOf, InSize}
-use Rattle.grid.proofs.Range.{and-left, and-right}
+use Rattle.basics.proofs.Range.{and-left, and-right}
 
 pub record Sized (size shift : ℕ) : Type 0 where
   pub whole : size * 2 ^ shift ≡ 256

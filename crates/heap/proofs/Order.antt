@@ -10,7 +10,7 @@ use lib.ListN.{length, set, length-set}
 use lib.Seq.{getD-set-same, getD-set-other}
 use Rattle.heap.specs.Heap.{Item, Room, Holed, parent, item, swap, climb, putIn, sink, enter, takeOut, InOrder, NoNaN}
 use Rattle.heap.proofs.Cases.{by-eq}
-use Rattle.floats.proofs.Compare.{not-less-trans, less-asym, not-less-itself, at-most, not-at-most}
+use Rattle.basics.proofs.Compare.{not-less-trans, less-asym, not-less-itself, at-most, not-at-most}
 use Rattle.heap.proofs.Steps.{by-climbs, by-children, by-rest}
 use Rattle.heap.proofs.Keeps.{Reordered, all-reordered, all-set, swapped, sunk, sink-within, sink-long, put-in-all, take-out-all}
 

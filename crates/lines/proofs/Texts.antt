@@ -4,7 +4,7 @@ use mathlib.Core.Path.{_≡_, refl, sym}
 use mathlib.Core.List.{List}
 use Prim.Native.Nat.{ℕ, zero, suc, _≤_, _<_}
 use native.Mathlib.Omega.{arith}
-use Rattle.grid.specs.Answer.{whenDone}
+use Rattle.basics.specs.Answer.{whenDone}
 use Rattle.cutter.specs.declared.CutRecord.{CutRecord}
 use Rattle.cutter.specs.Cut.{Buffers, cutRecord, cutLater}
 use Rattle.lines.specs.Text.{listingOf, refusedOf}

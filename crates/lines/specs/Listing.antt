@@ -5,7 +5,7 @@ use mathlib.Core.List.{List, []}
 use Prim.Native.Nat.{ℕ, zero, suc, _*_, _%_, _≤_, _<_, min}
 use lib.Dec.{eqb}
 use lib.ListN.{length, take, replicate}
-use Rattle.grid.specs.Answer.{whenDone}
+use Rattle.basics.specs.Answer.{whenDone}
 use Rattle.loader.specs.Load.{loadNumber, loadLater}
 use Rattle.cutter.specs.Cut.{Buffers, buffers, cutRecord, cutLater}
 use Rattle.lines.specs.declared.Loaded.{Loaded}

@@ -4,7 +4,7 @@ use mathlib.Core.List.{List, [], _∷_, _++_}
 use Prim.Native.Nat.{ℕ, zero, suc, _+_, _*_, _/_, _%_, _≤_}
 use lib.Dec.{ltb}
 use lib.ListN.{length, getD, drop}
-use Rattle.grid.specs.Range.{sumFrom}
+use Rattle.basics.specs.Range.{sumFrom}
 
 -- ---- decimals
 -- the digits of a number in ASCII, the most significant first, where it has no more than so many

@@ -10,11 +10,12 @@ use native.Mathlib.Decide.{decLe}
 use native.Mathlib.Omega.{arith}
 use lib.ListN.{length, getD, length-append, List·getD-append}
 use lib.Seq.{getD-append-add}
-use Rattle.grid.specs.declared.Grid.{Grid}
-use Rattle.grid.specs.declared.Chosen.the-variants as chosen
-use Rattle.grid.specs.Range.{listFrom}
-use Rattle.grid.specs.Grid.{gridOf, Accepted, colourAt}
-use Rattle.grid.proofs.Range.{length-list, list-at, list-is}
+use Rattle.grid.specs.declared.place.Grid.{Grid}
+use Rattle.grid.specs.declared.place.Chosen.the-variants as chosen
+use Rattle.basics.specs.Range.{listFrom}
+use Rattle.grid.specs.Grid.{gridOf, Accepted}
+use Rattle.pixels.specs.Colour.{colourAt}
+use Rattle.basics.proofs.Range.{length-list, list-at, list-is}
 use Rattle.grid.proofs.Places.{chose}
 use Rattle.table.specs.Sound.{limit}
 use Rattle.loader.specs.Load.{Weighted, weightOf, weightedAt, batchOf, loadNumber, loadLater, tableOf}
@@ -98,7 +99,7 @@ module _ (xs ys weights : List ℕ) (whole : length xs % 3 ≡ 0) where
       pixels = omega (arith, length-append xs ys, three)
 
 -- ---- a load into the table of some colours
-module _ (b1 b2 b3 : ℕ) {g : Grid} (e : gridOf b1 b2 b3 ≡ chosen.Of g) (cs : List Weighted) (y : AllBytes cs) (few : weightOf cs ≤ limit) (bytes weights : List ℕ) where
+module _ (b1 b2 b3 : ℕ) {g : Grid} (e : gridOf b1 b2 b3 ≡ chosen.Accepted g) (cs : List Weighted) (y : AllBytes cs) (few : weightOf cs ≤ limit) (bytes weights : List ℕ) where
   -- its number, and the colours of the table that it leaves
   abbrev Loads : ℕ → List Weighted → Type 0
   Loads n ds = (loadNumber b1 b2 b3 (tableOf g cs) bytes false weights ≡ n) × (loadLater b1 b2 b3 (tableOf g cs) bytes false weights ≡ tableOf g ds)

@@ -11,14 +11,17 @@ use native.Mathlib.Decide.{ℕ-discrete, decLe}
 use native.Mathlib.Omega.{arith}
 use borrow.Author.Tests.{eq-eqb, ne-eqb, le-leb, lt-leb}
 use lib.Dec.{eqb, leb}
-use Rattle.grid.specs.declared.Grid.{Grid}
-use Rattle.grid.specs.Range.{listFrom, sumFrom}
+use Rattle.grid.specs.declared.place.Grid.{Grid}
+use Rattle.basics.specs.Range.{listFrom, sumFrom}
 use Rattle.grid.specs.Size.{spanOf, binOf}
-use Rattle.grid.specs.Grid.{Accepted, binsOf, shiftAt, componentAt, colourPlace, choose}
-use Rattle.grid.proofs.Range.{sum-plus, sum-zero, sum-hit, hit}
+use Rattle.grid.specs.Grid.{Accepted, binsOf, shiftAt, colourPlace}
+use Rattle.pixels.specs.Colour.{componentAt}
+use Rattle.basics.specs.Dimension.{choose}
+use Rattle.basics.proofs.Range.{sum-plus, sum-zero, sum-hit, hit}
 use Rattle.grid.proofs.Size.{span-low, span-high}
 use Rattle.grid.proofs.Places.{Bytes, colour-bin, colour-place-lt}
-use Rattle.table.specs.Cell.{View, wide}
+use Rattle.table.specs.Cell.{View}
+use Rattle.table.specs.Table.{viewOf}
 use Rattle.table.specs.Sound.{spanAt, total}
 use Rattle.loader.specs.Load.{Weighted, share, adds, sumOver, weightOf, loaded}
 use Rattle.table.proofs.Soundness.{Keeps, keeps-zero, keeps-plus, Sound, sound-by, sound-keeps, sound-same, total-is, total-same, span-is}
@@ -138,11 +141,11 @@ module _ {g : Grid} (a : Accepted g) where
 
 -- ---- a table that holds what was there with colours loaded
 module _ {g : Grid} (a : Accepted g) (cs : List Weighted) (b : AllBytes cs) (v : View) {s : List ℕ} (holds : Holds (binsOf g) s (loaded g cs v)) where
-  pub held-sound : {most : ℕ} → Sound most g v → total g v + weightOf cs ≤ most → Sound most g (wide s)
-  held-sound {most} k u = record { holds = sound-same g (wide s) (loaded g cs v) (holds .at) most ∙ load-sound a cs b k u .holds }
+  pub held-sound : {most : ℕ} → Sound most g v → total g v + weightOf cs ≤ most → Sound most g (viewOf s)
+  held-sound {most} k u = record { holds = sound-same g (viewOf s) (loaded g cs v) (holds .at) most ∙ load-sound a cs b k u .holds }
 
-  pub held-total : total g (wide s) ≡ total g v + weightOf cs
-  held-total = total-same g (wide s) (loaded g cs v) (holds .at) ∙ load-total a cs b v
+  pub held-total : total g (viewOf s) ≡ total g v + weightOf cs
+  held-total = total-same g (viewOf s) (loaded g cs v) (holds .at) ∙ load-total a cs b v
 
 -- number j of place p, after a load and by what one colour adds to it
 pub loaded-at : (g : Grid) (cs : List Weighted) (v : View) (p j : ℕ) → loaded g cs v p j ≡ v p j + sumOver cs (λ c. adds g c p j)

@@ -10,11 +10,12 @@ use native.Mathlib.Omega.{arith}
 use borrow.Author.Tests.{eq-eqb, ne-eqb, lt-ltb, le-ltb}
 use lib.Dec.{eqb, ltb}
 use lib.ListN.{length}
-use Rattle.grid.specs.declared.Grid.{Grid}
+use Rattle.grid.specs.declared.place.Grid.{Grid}
 use Rattle.grid.specs.Grid.{binsOf}
-use Rattle.grid.proofs.Range.{sum-plus}
+use Rattle.basics.proofs.Range.{sum-plus}
 use Rattle.table.specs.declared.Cell.{Cell}
-use Rattle.table.specs.Cell.{View, numberOf, cellOf, wide, wideList, putAt, plusCell}
+use Rattle.table.specs.Cell.{View, numberOf, cellOf, plusCell}
+use Rattle.table.specs.Table.{viewOf, written, putAt}
 use Rattle.table.specs.Sound.{total}
 use Rattle.loader.specs.Merge.{merged}
 use Rattle.loader.specs.Step.{Adds}
@@ -25,10 +26,10 @@ use Rattle.table.proofs.Soundness.{keeps-plus, Sound, sound-by, sound-keeps, to
 abbrev pub partly : ℕ → View → View → View
 partly p v u q j = v q j + cond (ltb q p) (u q j) 0
 
-pub none-added : (n : ℕ) (t : List ℕ) (u : View) → length t ≡ 5 * n → Holds n t (partly 0 (wide t) u)
+pub none-added : (n : ℕ) (t : List ℕ) (u : View) → length t ≡ 5 * n → Holds n t (partly 0 (viewOf t) u)
 none-added n t u e =
     holds-same (holds-itself n t e)
-    (λ q j h k. sym (ap (λ (b : Bool). wide t q j + cond b (u q j) 0) (le-ltb q 0 (omega arith)) ∙ add-zero (wide t q j)))
+    (λ q j h k. sym (ap (λ (b : Bool). viewOf t q j + cond b (u q j) 0) (le-ltb q 0 (omega arith)) ∙ add-zero (viewOf t q j)))
 
 one-more : (p q x y : ℕ) → (x + cond (ltb q p) y 0) + cond (eqb p q) y 0 ≡ x + cond (ltb q (p + 1)) y 0
 one-more p q x y = go (ℕ-discrete p q) (decLe p q)
@@ -49,7 +50,7 @@ module _ {n : ℕ} {t : List ℕ} (v u : View) (p : ℕ) (h : Holds n t (partly 
       go (yes d) = rw (eq-eqb p q d, ← d) (number j k)
       go (no d) = rw (ne-eqb p q d) refl
 
-  pub one-added : Holds n (putAt t p (plusCell (cellOf (wide t p)) c)) (partly (p + 1) v u)
+  pub one-added : Holds n (putAt t p (plusCell (cellOf (viewOf t p)) c)) (partly (p + 1) v u)
   one-added =
       holds-same (add-holds h p c l)
       (λ q j a k.
@@ -63,7 +64,7 @@ module _ {n : ℕ} {t : List ℕ} (v u : View) (p : ℕ) (h : Holds n t (partly 
             rw (h .at p j l k, number j k, le-ltb p p (omega arith)) (omega (arith, f j k));
       }
 
-pub all-added : {n : ℕ} {t : List ℕ} (v u : View) → Holds n t (partly n v u) → t ≡ wideList n (merged v u)
+pub all-added : {n : ℕ} {t : List ℕ} (v u : View) → Holds n t (partly n v u) → t ≡ written n (merged v u)
 unfolding merged
 all-added {n} v u h =
     holds-list (holds-same h (λ q j a k. ap (λ (b : Bool). v q j + cond b (u q j) 0) (lt-ltb q n a)))

@@ -9,17 +9,18 @@ use native.Mathlib.Nat.{zero-add}
 use native.Mathlib.Omega.{arith}
 use borrow.Author.Tests.{eq-eqb, le-ltb}
 use lib.ListN.{replicate, length-replicate, getD-replicate}
-use Rattle.grid.specs.declared.Grid.{Grid}
-use Rattle.grid.specs.declared.Chosen.the-variants as chosen
-use Rattle.grid.specs.Answer.{refuse, whenDone}
+use Rattle.grid.specs.declared.place.Grid.{Grid}
+use Rattle.grid.specs.declared.place.Chosen.the-variants as chosen
+use Rattle.basics.specs.Answer.{refuse, whenDone}
 use Rattle.grid.specs.Grid.{gridOf, Accepted, binsOf, onGrid, numberOn}
 use Rattle.grid.proofs.Places.{chose}
-use Rattle.table.specs.Cell.{zeros, wide, wideList}
+use Rattle.table.specs.Cell.{zeros}
+use Rattle.table.specs.Table.{viewOf, written}
 use Rattle.table.specs.Sound.{limit, total, sound}
 use Rattle.loader.specs.Load.{Weighted, sumOver, adds, weightOf, loaded, tableOf, batchOf, loadNumberOn, loadNumber, loadLater}
 use Rattle.loader.specs.Merge.{merged, mergeNumberOn, mergeNumber, mergeLater}
 use Rattle.loader.specs.Plan.{Batch, Plan, empty, load, merge, Ran, Refused, Table, ranOf, thenLoad, thenMerge, run, leaves, malformed, firstOf, firstMalformed, BytesIn}
-use Rattle.table.proofs.Cells.{Holds, list-holds, holds-list, holds-same, wide-at}
+use Rattle.table.proofs.Cells.{Holds, list-holds, holds-list, holds-same, view-at}
 use Rattle.table.proofs.Soundness.{zeros-sound, zeros-total, sound-same, total-same}
 use Rattle.loader.proofs.Loading.{AllBytes, over-append, over-perm, load-total, load-sound}
 use Rattle.loader.proofs.Parts.{all-bytes-of}
@@ -41,18 +42,18 @@ module _ (g : Grid) where
   append-at cs ds p j = omega (arith, over-append cs ds (λ c. adds g c p j))
 
   -- a batch loaded into the table of some colours, and two such tables merged
-  pub load-table : (cs ds : List Weighted) → wideList (binsOf g) (loaded g ds (wide (tableOf g cs))) ≡ tableOf g (cs ++ ds)
+  pub load-table : (cs ds : List Weighted) → written (binsOf g) (loaded g ds (viewOf (tableOf g cs))) ≡ tableOf g (cs ++ ds)
   unfolding tableOf loaded
   load-table cs ds =
       holds-list
-      (holds-same (list-holds (binsOf g) (loaded g ds (wide (tableOf g cs))))
+      (holds-same (list-holds (binsOf g) (loaded g ds (viewOf (tableOf g cs))))
       (λ p j h k. ap (λ (x : ℕ). x + sumOver ds (λ c. adds g c p j)) (table-holds cs .at p j h k) ∙ append-at cs ds p j))
 
-  merge-table : (cs ds : List Weighted) → wideList (binsOf g) (merged (wide (tableOf g cs)) (wide (tableOf g ds))) ≡ tableOf g (cs ++ ds)
+  merge-table : (cs ds : List Weighted) → written (binsOf g) (merged (viewOf (tableOf g cs)) (viewOf (tableOf g ds))) ≡ tableOf g (cs ++ ds)
   unfolding tableOf loaded merged
   merge-table cs ds =
       holds-list
-      (holds-same (list-holds (binsOf g) (merged (wide (tableOf g cs)) (wide (tableOf g ds))))
+      (holds-same (list-holds (binsOf g) (merged (viewOf (tableOf g cs)) (viewOf (tableOf g ds))))
       (λ p j h k.
       (λ i. table-holds cs .at p j h k i + (table-holds ds .at p j h k ∙ zero-add (sumOver ds (λ c. adds g c p j))) i)
       ∙ append-at cs ds p j))
@@ -66,16 +67,16 @@ module _ (g : Grid) where
       (λ p j h k. ap (λ (x : ℕ). 0 + x) (over-perm (λ c. adds g c p j) π)))
 
   module _ (a : Accepted g) (cs : List Weighted) (b : AllBytes cs) where
-    pub table-total : total g (wide (tableOf g cs)) ≡ weightOf cs
+    pub table-total : total g (viewOf (tableOf g cs)) ≡ weightOf cs
     table-total =
-        total-same g (wide (tableOf g cs)) (loaded g cs zeros) (table-holds cs .at)
+        total-same g (viewOf (tableOf g cs)) (loaded g cs zeros) (table-holds cs .at)
         ∙ load-total a cs b zeros
         ∙ ap (λ (x : ℕ). x + weightOf cs) (zeros-total g)
         ∙ zero-add (weightOf cs)
 
-    pub table-sound : weightOf cs ≤ limit → sound limit g (wide (tableOf g cs)) ≡ true
+    pub table-sound : weightOf cs ≤ limit → sound limit g (viewOf (tableOf g cs)) ≡ true
     table-sound h =
-        sound-same g (wide (tableOf g cs)) (loaded g cs zeros) (table-holds cs .at) limit
+        sound-same g (viewOf (tableOf g cs)) (loaded g cs zeros) (table-holds cs .at) limit
         ∙ load-sound a cs b (zeros-sound limit g) (omega (arith, zeros-total g)) .holds
 
 pub leaves-bytes : (p : Plan) → BytesIn p → AllBytes (leaves p)
@@ -90,7 +91,7 @@ unfolding ranOf whenDone
 ran-done zero x t = refl
 ran-done (suc n) x t = refl
 
-module _ (b1 b2 b3 : ℕ) {g : Grid} (e : gridOf b1 b2 b3 ≡ chosen.Of g) where
+module _ (b1 b2 b3 : ℕ) {g : Grid} (e : gridOf b1 b2 b3 ≡ chosen.Accepted g) where
   a : Accepted g
   a = chose b1 b2 b3 g e .accepted
 
@@ -105,14 +106,14 @@ module _ (b1 b2 b3 : ℕ) {g : Grid} (e : gridOf b1 b2 b3 ≡ chosen.Of g) where
       holds-list
       (record {
         lent = length-replicate (5 * (b1 * b2 * b3)) 0 ∙ ap (λ (n : ℕ). 5 * n) (sym bins-are);
-        at = λ p j h k. wide-at _ p j ∙ getD-replicate (5 * (b1 * b2 * b3)) (5 * p + j) 0 0 (omega (arith, bins-are));
+        at = λ p j h k. view-at _ p j ∙ getD-replicate (5 * (b1 * b2 * b3)) (5 * p + j) 0 0 (omega (arith, bins-are));
       })
 
   load-number : (cs : List Weighted) → AllBytes cs → (b : Batch) → weightOf (cs ++ batchOf (b .colours) (b .given) (b .weights)) ≤ limit → loadNumberOn limit g (tableOf g cs) (b .colours) (b .given) (b .weights) ≡ malformed b
   unfolding loadNumberOn malformed refuse
   load-number cs y b h =
       let ds = batchOf (b .colours) (b .given) (b .weights) in
-      simp (eq-eqb _ _ (table-holds g cs .lent), table-sound g a cs y (omega (arith, weight-append cs ds)), le-ltb limit (total g (wide (tableOf g cs)) + weightOf ds) (omega (arith, table-total g a cs y, weight-append cs ds)))
+      simp (eq-eqb _ _ (table-holds g cs .lent), table-sound g a cs y (omega (arith, weight-append cs ds)), le-ltb limit (total g (viewOf (tableOf g cs)) + weightOf ds) (omega (arith, table-total g a cs y, weight-append cs ds)))
 
   step-load : (cs : List Weighted) → AllBytes cs → (b : Batch) → weightOf (cs ++ batchOf (b .colours) (b .given) (b .weights)) ≤ limit
       → thenLoad b1 b2 b3 (Table (tableOf g cs)) b ≡ ranOf (malformed b) (tableOf g (cs ++ batchOf (b .colours) (b .given) (b .weights)))
@@ -120,7 +121,7 @@ module _ (b1 b2 b3 : ℕ) {g : Grid} (e : gridOf b1 b2 b3 ≡ chosen.Of g) where
   step-load cs y b h =
       let ds = batchOf (b .colours) (b .given) (b .weights) in
       rw (e, load-number cs y b h)
-      (ran-done (malformed b) (wideList (binsOf g) (loaded g ds (wide (tableOf g cs)))) (tableOf g cs) ∙ ap (ranOf (malformed b)) (load-table g cs ds))
+      (ran-done (malformed b) (written (binsOf g) (loaded g ds (viewOf (tableOf g cs)))) (tableOf g cs) ∙ ap (ranOf (malformed b)) (load-table g cs ds))
 
   merge-number : (cs ds : List Weighted) → AllBytes cs → AllBytes ds → weightOf (cs ++ ds) ≤ limit → mergeNumberOn limit g (tableOf g cs) (tableOf g ds) ≡ 0
   unfolding mergeNumberOn refuse
@@ -130,7 +131,7 @@ module _ (b1 b2 b3 : ℕ) {g : Grid} (e : gridOf b1 b2 b3 ≡ chosen.Of g) where
         eq-eqb _ _ (table-holds g ds .lent),
         table-sound g a cs y (omega (arith, weight-append cs ds)),
         table-sound g a ds z (omega (arith, weight-append cs ds)),
-        le-ltb limit (total g (wide (tableOf g cs)) + total g (wide (tableOf g ds))) (omega (arith, table-total g a cs y, table-total g a ds z, weight-append cs ds)),
+        le-ltb limit (total g (viewOf (tableOf g cs)) + total g (viewOf (tableOf g ds))) (omega (arith, table-total g a cs y, table-total g a ds z, weight-append cs ds)),
       )
 
   step-merge : (cs ds : List Weighted) → AllBytes cs → AllBytes ds → weightOf (cs ++ ds) ≤ limit → thenMerge b1 b2 b3 (Table (tableOf g cs)) (Table (tableOf g ds)) ≡ Table (tableOf g (cs ++ ds))

@@ -8,11 +8,12 @@ use native.Mathlib.Nat.{zero-add, mul-le-mul, lt-of-lt-of-le}
 use native.Mathlib.Omega.{arith}
 use lib.ListN.{getD}
 use lib.Pow.{shr-le}
-use Rattle.grid.specs.declared.Grid.{Grid}
-use Rattle.grid.specs.declared.Rgb.{Rgb}
+use Rattle.grid.specs.declared.place.Grid.{Grid}
+use Rattle.pixels.specs.declared.colour.Rgb.{Rgb}
 use Rattle.grid.specs.Size.{binOf}
-use Rattle.grid.specs.Grid.{Accepted, colourPlace, shiftAt, strideAt, stepsOf, choose}
-use Rattle.grid.proofs.Range.{list-at}
+use Rattle.grid.specs.Grid.{Accepted, colourPlace, shiftAt, strideAt, stepsOf}
+use Rattle.basics.specs.Dimension.{choose}
+use Rattle.basics.proofs.Range.{list-at}
 use Rattle.grid.proofs.Size.{size-high}
 use Rattle.grid.proofs.Places.{Bytes, plane-high, bins-high, three, step-at, steps-place, colour-place-lt}
 use Rattle.loader.specs.Step.{squaresOf, withSquares, Packed}

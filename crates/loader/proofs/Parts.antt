@@ -10,13 +10,15 @@ use native.Mathlib.Omega.{arith}
 use borrow.Author.Tests.{eq-eqb}
 use lib.Dec.{eqb, lit<}
 use lib.ListN.{length, getD}
-use Rattle.grid.specs.declared.Grid.{Grid}
-use Rattle.grid.specs.declared.Rgb.{Rgb}
-use Rattle.grid.specs.Range.{listFrom, sumFrom}
-use Rattle.grid.specs.Grid.{binsOf, colourPlace, colourAt}
-use Rattle.grid.proofs.Range.{sum-append, sum-grow, sum-equal}
+use Rattle.grid.specs.declared.place.Grid.{Grid}
+use Rattle.pixels.specs.declared.colour.Rgb.{Rgb}
+use Rattle.basics.specs.Range.{listFrom, sumFrom}
+use Rattle.grid.specs.Grid.{binsOf, colourPlace}
+use Rattle.pixels.specs.Colour.{colourAt}
+use Rattle.basics.proofs.Range.{sum-append, sum-grow, sum-equal}
 use Rattle.grid.proofs.Places.{Bytes, colour-place-lt}
-use Rattle.table.specs.Cell.{View, wide, numberOf, cellOf}
+use Rattle.table.specs.Cell.{View, numberOf, cellOf}
+use Rattle.table.specs.Table.{viewOf}
 use Rattle.table.specs.Sound.{limit}
 use Rattle.loader.specs.Load.{Weighted, share, adds, sumOver, weightOf, loaded, weightedAt, batchOf}
 use Rattle.loader.specs.Step.{partOf, withPart, withColour, Adds, Fits}
@@ -87,7 +89,7 @@ over-part i n m c f =
     ∙ sym (over-list i (n + m) c f)
 
 -- more colours loaded into a table that holds what was there with some loaded
-held-more : (g : Grid) (v : View) (s e : List ℕ) (i n m : ℕ) (c : ℕ → Weighted) → Holds (binsOf g) s (loaded g (listFrom i n c) v) → Holds (binsOf g) e (loaded g (listFrom (i + n) m c) (wide s)) → Holds (binsOf g) e (loaded g (listFrom i (n + m) c) v)
+held-more : (g : Grid) (v : View) (s e : List ℕ) (i n m : ℕ) (c : ℕ → Weighted) → Holds (binsOf g) s (loaded g (listFrom i n c) v) → Holds (binsOf g) e (loaded g (listFrom (i + n) m c) (viewOf s)) → Holds (binsOf g) e (loaded g (listFrom i (n + m) c) v)
 unfolding loaded
 held-more g v s e i n m c first then =
     holds-same then
@@ -130,13 +132,13 @@ unfolding batchOf partOf
 all-bytes-of colours given weights h = part-bytes colours given weights h 0 (length colours / 3)
 
 -- before the first of them
-pub held-none : (g : Grid) (t colours : List ℕ) (given : Bool) (weights : List ℕ) (i : ℕ) → length t ≡ 5 * binsOf g → Holds (binsOf g) t (loaded g (partOf colours given weights i 0) (wide t))
+pub held-none : (g : Grid) (t colours : List ℕ) (given : Bool) (weights : List ℕ) (i : ℕ) → length t ≡ 5 * binsOf g → Holds (binsOf g) t (loaded g (partOf colours given weights i 0) (viewOf t))
 unfolding loaded partOf listFrom sumOver
-held-none g t colours given weights i e = holds-same (holds-itself (binsOf g) t e) (λ p j h k. sym (add-zero (wide t p j)))
+held-none g t colours given weights i e = holds-same (holds-itself (binsOf g) t e) (λ p j h k. sym (add-zero (viewOf t p j)))
 
 -- after the first m of n colours that fit, those that follow fit
 module _ {g : Grid} {t colours : List ℕ} {given : Bool} {weights : List ℕ} {i n : ℕ} (fits : Fits g t colours given weights i n) (bytes : (k : ℕ) → getD colours k 0 < 256)
-    {s : List ℕ} (m : ℕ) (holds : Holds (binsOf g) s (loaded g (partOf colours given weights i m) (wide t))) where
+    {s : List ℕ} (m : ℕ) (holds : Holds (binsOf g) s (loaded g (partOf colours given weights i m) (viewOf t))) where
   part-within : (l : ℕ) → m + l ≤ n → weightOf (partOf colours given weights i m) + weightOf (partOf colours given weights (i + m) l) ≤ weightOf (partOf colours given weights i n)
   unfolding partOf weightOf
   part-within l h =
@@ -157,20 +159,20 @@ module _ {g : Grid} {t colours : List ℕ} {given : Bool} {weights : List ℕ} {
       let within = part-within l h in
       record {
         table = record { accepted = a; lent = holds .lent };
-        is-sound = held-sound a first b (wide t) holds (record { holds = fits .is-sound }) (omega (arith, fits .under)) .holds;
+        is-sound = held-sound a first b (viewOf t) holds (record { holds = fits .is-sound }) (omega (arith, fits .under)) .holds;
         there = omega (arith, fits .there);
         one-each = fits .one-each;
-        under = rw e (omega (arith, held-total a first b (wide t) holds, fits .under));
+        under = rw e (omega (arith, held-total a first b (viewOf t) holds, fits .under));
       }
 
-  pub held-later : (at l : ℕ) → at ≡ i + m → {e : List ℕ} → Holds (binsOf g) e (loaded g (partOf colours given weights at l) (wide s)) → Holds (binsOf g) e (loaded g (partOf colours given weights i (m + l)) (wide t))
+  pub held-later : (at l : ℕ) → at ≡ i + m → {e : List ℕ} → Holds (binsOf g) e (loaded g (partOf colours given weights at l) (viewOf s)) → Holds (binsOf g) e (loaded g (partOf colours given weights i (m + l)) (viewOf t))
   unfolding partOf
-  held-later at l q {e} more = held-more g (wide t) s e i m l (weightedAt colours given weights) holds (rw q at more)
+  held-later at l q {e} more = held-more g (viewOf t) s e i m l (weightedAt colours given weights) holds (rw q at more)
 
 -- a table with colours added holds what was there with them loaded
-pub part-held : (g : Grid) (t colours : List ℕ) (given : Bool) (weights : List ℕ) (i n : ℕ) {e : List ℕ} → e ≡ withPart g t colours given weights i n → Holds (binsOf g) e (loaded g (partOf colours given weights i n) (wide t))
+pub part-held : (g : Grid) (t colours : List ℕ) (given : Bool) (weights : List ℕ) (i n : ℕ) {e : List ℕ} → e ≡ withPart g t colours given weights i n → Holds (binsOf g) e (loaded g (partOf colours given weights i n) (viewOf t))
 unfolding withPart
-part-held g t colours given weights i n r = rw r (list-holds (binsOf g) (loaded g (partOf colours given weights i n) (wide t)))
+part-held g t colours given weights i n r = rw r (list-holds (binsOf g) (loaded g (partOf colours given weights i n) (viewOf t)))
 
 -- colours that fit and are one can be added at once
 module _ {g : Grid} {t colours : List ℕ} {given : Bool} {weights : List ℕ} {i n : ℕ} (fits : Fits g t colours given weights i n) (bytes : (k : ℕ) → getD colours k 0 < 256)
@@ -205,20 +207,20 @@ module _ {g : Grid} {t colours : List ℕ} {given : Bool} {weights : List ℕ} {
       record {
         cell = omega (arith, fits .table .lent, inside);
         fits = λ j k.
-            let sums : wide t place j + numberOf (cellOf (share it)) j ≡ loaded g these (wide t) place j =
-            ap (λ (y : ℕ). wide t place j + y)
+            let sums : viewOf t place j + numberOf (cellOf (share it)) j ≡ loaded g these (viewOf t) place j =
+            ap (λ (y : ℕ). viewOf t place j + y)
             (number-cell (share it) j k
             ∙ ap (λ (b : Bool). cond b (share it j) 0) (sym (eq-eqb place place refl))
             ∙ adds-it place j) in
             rw sums (lt-trans (number-below a after place inside (omega arith) j k) (lit< tt));
       }
 
-  pub at-once : {e : List ℕ} → e ≡ withColour g t (record { colour = x; weight = w }) → Holds (binsOf g) e (loaded g (partOf colours given weights i n) (wide t))
+  pub at-once : {e : List ℕ} → e ≡ withColour g t (record { colour = x; weight = w }) → Holds (binsOf g) e (loaded g (partOf colours given weights i n) (viewOf t))
   unfolding withColour adds loaded
   at-once r =
       rw r
       (holds-same (add-holds (holds-itself (binsOf g) t (fits .table .lent)) place (cellOf (share it)) inside)
-      (λ q j l k. ap (λ (y : ℕ). wide t q j + y) (ap (λ (y : ℕ). cond (eqb place q) y 0) (number-cell (share it) j k) ∙ adds-it q j)))
+      (λ q j l k. ap (λ (y : ℕ). viewOf t q j + y) (ap (λ (y : ℕ). cond (eqb place q) y 0) (number-cell (share it) j k) ∙ adds-it q j)))
 
 -- a colour by itself is one, with its own weight
 pub alone : (colours : List ℕ) (i k : ℕ) → k < 1 → colourAt colours (i + k) ≡ colourAt colours i

@@ -5,12 +5,12 @@ use mathlib.Core.Bool.{Bool, true, false, true≢false}
 use mathlib.Core.List.{List, _++_}
 use Prim.Native.Nat.{ℕ, zero, suc, _+_, _≤_}
 use native.Mathlib.Omega.{arith}
-use Rattle.grid.specs.declared.Grid.{Grid}
-use Rattle.grid.specs.declared.Chosen.{Chosen}
-use Rattle.grid.specs.declared.Chosen.the-variants as chosen
+use Rattle.grid.specs.declared.place.Grid.{Grid}
+use Rattle.grid.specs.declared.place.Chosen.{Chosen}
+use Rattle.grid.specs.declared.place.Chosen.the-variants as chosen
 use Rattle.grid.specs.Grid.{gridOf, onGrid}
 use Rattle.grid.proofs.Places.{chose}
-use Rattle.table.specs.Cell.{wide}
+use Rattle.table.specs.Table.{viewOf}
 use Rattle.table.specs.Sound.{limit, total}
 use Rattle.loader.specs.Load.{Weighted, weightOf, sumOver, tableOf, batchOf}
 use Rattle.loader.specs.Plan.{Plan, empty, load, merge, Ran, Refused, Table, ranOf, thenLoad, thenMerge, run, leaves, firstMalformed, BytesIn}
@@ -45,18 +45,18 @@ unfolding ranOf
 ran-is zero x e = sym (same-table e)
 ran-is (suc n) x e = absurd (refused-not e)
 
-same-grid : {g h : Grid} → _≡_ {A = Chosen} (chosen.Of g) (chosen.Of h) → g ≡ h
+same-grid : {g h : Grid} → _≡_ {A = Chosen} (chosen.Accepted g) (chosen.Accepted h) → g ≡ h
 unfolding onGrid
 same-grid {g} e = ap (λ (c : Chosen). onGrid c g (λ x. x)) e
 
-module _ (b1 b2 b3 : ℕ) {g : Grid} (e : gridOf b1 b2 b3 ≡ chosen.Of g) where
+module _ (b1 b2 b3 : ℕ) {g : Grid} (e : gridOf b1 b2 b3 ≡ chosen.Accepted g) where
   table-is : (p : Plan) → BytesIn p → weightOf (leaves p) ≤ limit → {t : List ℕ} → run b1 b2 b3 p ≡ Table t → t ≡ tableOf g (leaves p)
   table-is p y h r = ran-is (firstMalformed p) (tableOf g (leaves p)) (sym (run-is b1 b2 b3 e p y h) ∙ r)
 
   -- the total of a plan's table
-  its-total : (p : Plan) → BytesIn p → weightOf (leaves p) ≤ limit → {s : List ℕ} → run b1 b2 b3 p ≡ Table s → total g (wide s) ≡ weightOf (leaves p)
+  its-total : (p : Plan) → BytesIn p → weightOf (leaves p) ≤ limit → {s : List ℕ} → run b1 b2 b3 p ≡ Table s → total g (viewOf s) ≡ weightOf (leaves p)
   its-total p y h r =
-      ap (λ (s : List ℕ). total g (wide s)) (table-is p y h r)
+      ap (λ (s : List ℕ). total g (viewOf s)) (table-is p y h r)
       ∙ table-total g (chose b1 b2 b3 g e .accepted) (leaves p) (leaves-bytes p y)
 
   ran-fits : (p : Plan) → BytesIn p → {t : List ℕ} → run b1 b2 b3 p ≡ Table t → weightOf (leaves p) ≤ limit
@@ -71,7 +71,7 @@ module _ (b1 b2 b3 : ℕ) {g : Grid} (e : gridOf b1 b2 b3 ≡ chosen.Of g) where
       go (Refused n) q r before = absurd (refused-not r)
       go (Table s) q r before =
           let d = load-says b1 b2 b3 s (b .colours) (b .given) (b .weights) (ran-done _ _ r) in
-          let under : total g (wide s) + weightOf ds ≤ limit = subst (λ (h : Grid). total h (wide s) + weightOf ds ≤ limit) (same-grid (sym (d .chosen) ∙ e)) (d .under) in
+          let under : total g (viewOf s) + weightOf ds ≤ limit = subst (λ (h : Grid). total h (viewOf s) + weightOf ds ≤ limit) (same-grid (sym (d .chosen) ∙ e)) (d .under) in
           omega (arith, under, its-total p (y .0) (before s q) q, weight-append (leaves p) ds)
   ran-fits (merge p q) y {t} r = go (run b1 b2 b3 p) refl (run b1 b2 b3 q) refl r (λ s z. ran-fits p (y .0) z) (λ s z. ran-fits q (y .1) z)
     where
@@ -82,7 +82,7 @@ module _ (b1 b2 b3 : ℕ) {g : Grid} (e : gridOf b1 b2 b3 ≡ chosen.Of g) where
       go (Table s) k (Refused n) l r first second = absurd (refused-not r)
       go (Table s) k (Table u) l r first second =
           let d = merge-says b1 b2 b3 s u (ran-done _ _ r) in
-          let under : total g (wide s) + total g (wide u) ≤ limit = subst (λ (h : Grid). total h (wide s) + total h (wide u) ≤ limit) (same-grid (sym (d .chosen) ∙ e)) (d .under) in
+          let under : total g (viewOf s) + total g (viewOf u) ≤ limit = subst (λ (h : Grid). total h (viewOf s) + total h (viewOf u) ≤ limit) (same-grid (sym (d .chosen) ∙ e)) (d .under) in
           omega (arith, under, its-total p (y .0) (first s k) k, its-total q (y .1) (second u l) l, weight-append (leaves p) (leaves q))
 
   pub ran-table : (p : Plan) → BytesIn p → {t : List ℕ} → run b1 b2 b3 p ≡ Table t → (weightOf (leaves p) ≤ limit) × (t ≡ tableOf g (leaves p))

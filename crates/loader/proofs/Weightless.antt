@@ -11,12 +11,13 @@ use borrow.Author.Tests.{eq-eqb, ne-eqb}
 use lib.Dec.{eqb, ltb}
 use lib.ListN.{length, getD, length-append, List·getD-append}
 use lib.Seq.{getD-append-add}
-use Rattle.grid.specs.declared.Grid.{Grid}
-use Rattle.grid.specs.Answer.{refuse, whenDone}
-use Rattle.grid.specs.Range.{sumFrom, listFrom}
-use Rattle.grid.specs.Grid.{gridOf, onGrid, numberOn, binsOf, colourAt, colourPlace}
-use Rattle.grid.proofs.Range.{sum-same, sum-append, sum-shift}
-use Rattle.table.specs.Cell.{wide, wideList}
+use Rattle.grid.specs.declared.place.Grid.{Grid}
+use Rattle.basics.specs.Answer.{refuse, whenDone}
+use Rattle.basics.specs.Range.{sumFrom, listFrom}
+use Rattle.grid.specs.Grid.{gridOf, onGrid, numberOn, binsOf, colourPlace}
+use Rattle.pixels.specs.Colour.{colourAt}
+use Rattle.basics.proofs.Range.{sum-same, sum-append, sum-shift}
+use Rattle.table.specs.Table.{viewOf, written}
 use Rattle.table.specs.Sound.{limit, total, sound, unsoundNumber}
 use Rattle.table.proofs.Cells.{holds-list, holds-itself, holds-same}
 use Rattle.loader.specs.Load.{Weighted, share, adds, sumOver, weightOf, loaded, weightedAt, batchOf, loadNumberOn, loadNumber, loadLater}
@@ -53,12 +54,12 @@ module _ (b1 b2 b3 : ℕ) (t : List ℕ) (given : Bool) (colours weights colours
       λ i. refuse (not (eqb (threes i) 0)) 3
       (refuse (given && not (paired i)) 4
       (refuse (not (eqb (length t) (5 * binsOf g))) 5
-      (refuse (not (sound limit g (wide t))) unsoundNumber
-      (refuse (ltb limit (total g (wide t) + sums (λ c. c .weight) (λ c e. e) i)) 7 0))))
+      (refuse (not (sound limit g (viewOf t))) unsoundNumber
+      (refuse (ltb limit (total g (viewOf t) + sums (λ c. c .weight) (λ c e. e) i)) 7 0))))
 
-  table-alike : (g : Grid) → wideList (binsOf g) (loaded g (batchOf colours given weights) (wide t)) ≡ wideList (binsOf g) (loaded g (batchOf colours' given weights') (wide t))
+  table-alike : (g : Grid) → written (binsOf g) (loaded g (batchOf colours given weights) (viewOf t)) ≡ written (binsOf g) (loaded g (batchOf colours' given weights') (viewOf t))
   unfolding loaded
-  table-alike g = λ i. wideList (binsOf g) (λ p j. wide t p j + sums (λ c. adds g c p j) (adds-none g p j) i)
+  table-alike g = λ i. written (binsOf g) (λ p j. viewOf t p j + sums (λ c. adds g c p j) (adds-none g p j) i)
 
   loads-alike : (loadNumber b1 b2 b3 t colours given weights ≡ loadNumber b1 b2 b3 t colours' given weights') × (loadLater b1 b2 b3 t colours given weights ≡ loadLater b1 b2 b3 t colours' given weights')
   unfolding loadNumber loadLater
@@ -190,5 +191,5 @@ module _ (b1 b2 b3 : ℕ) (t : List ℕ) (given : Bool) (weights : List ℕ) whe
       go : (n : ℕ) → loadNumber b1 b2 b3 t [] given weights ≡ n → loadLater b1 b2 b3 t [] given weights ≡ t
       go zero e =
           let d = load-says b1 b2 b3 t [] given weights e in
-          holds-list (holds-same (d .holds) (λ p j h k. nothing (wide t p j))) ∙ sym (holds-list (holds-itself (binsOf (d .g)) t (d .lent)))
+          holds-list (holds-same (d .holds) (λ p j h k. nothing (viewOf t p j))) ∙ sym (holds-list (holds-itself (binsOf (d .g)) t (d .lent)))
       go (suc n) e = load-refused b1 b2 b3 t [] given weights e

@@ -5,11 +5,13 @@ use mathlib.Core.Bool.{Bool, true, false}
 use mathlib.Core.List.{List, [], _∷_, _++_, map}
 use Prim.Native.Nat.{ℕ}
 use lib.ListN.{replicate}
-use Rattle.grid.specs.Answer.{refuse, whenDone}
-use Rattle.grid.specs.Range.{listFrom, sumFrom, allFrom}
+use Rattle.basics.specs.Answer.{refuse, whenDone}
+use Rattle.basics.specs.Range.{listFrom, sumFrom, allFrom}
 use Rattle.grid.specs.Size.{choices, shiftIn, shiftOf, binOf, spanOf}
-use Rattle.grid.specs.Grid.{choose, shiftAt, gridWith, gridOf, gridAnswer, onGrid, numberOn, binsOf, placeOf, binAt, colourPlace, colourAt}
-use Rattle.table.specs.Cell.{wide, wideList}
+use Rattle.basics.specs.Dimension.{choose}
+use Rattle.grid.specs.Grid.{shiftAt, gridWith, gridOf, gridAnswer, onGrid, numberOn, binsOf, placeOf, binAt, colourPlace}
+use Rattle.pixels.specs.Colour.{colourAt}
+use Rattle.table.specs.Table.{viewOf, written}
 use Rattle.table.specs.Sound.{between, inBounds, spanAt, binSound, total, sound}
 use Rattle.loader.specs.Load.{share, adds, sumOver, weightOf, loaded, weightedAt, batchOf, loadNumberOn, loadNumber, loadLater}
 use Rattle.loader.specs.Merge.{merged, mergeNumberOn, mergeNumber, mergeLater}
@@ -64,10 +66,10 @@ cases =
     ∷ []
 
 worked : map loads cases ≡ map (λ c. c .expected) cases
-unfolding loads none full one cases refuse whenDone listFrom sumFrom allFrom choices shiftIn shiftOf binOf spanOf choose shiftAt gridWith gridOf gridAnswer onGrid numberOn binsOf placeOf binAt colourPlace colourAt wide wideList between inBounds spanAt binSound total sound share adds sumOver weightOf loaded weightedAt batchOf loadNumberOn loadNumber loadLater
+unfolding loads none full one cases refuse whenDone listFrom sumFrom allFrom choices shiftIn shiftOf binOf spanOf choose shiftAt gridWith gridOf gridAnswer onGrid numberOn binsOf placeOf binAt colourPlace colourAt viewOf written between inBounds spanAt binSound total sound share adds sumOver weightOf loaded weightedAt batchOf loadNumberOn loadNumber loadLater
 worked = refl
 
 -- merged into itself, a table has each number twice; the full one passes the limit
 worked-merge : (mergeNumber 2 2 2 one one ≡ 0) × (mergeLater 2 2 2 one one ≡ replicate 20 0 ++ (4 ∷ 800 ∷ 36 ∷ 400 ∷ 200324 ∷ replicate 15 0)) × (mergeNumber 2 2 2 one full ≡ 7)
-unfolding full one refuse whenDone listFrom sumFrom allFrom choices shiftIn shiftOf binOf spanOf choose shiftAt gridWith gridOf gridAnswer onGrid numberOn binsOf placeOf binAt wide wideList between inBounds spanAt binSound total sound merged mergeNumberOn mergeNumber mergeLater
+unfolding full one refuse whenDone listFrom sumFrom allFrom choices shiftIn shiftOf binOf spanOf choose shiftAt gridWith gridOf gridAnswer onGrid numberOn binsOf placeOf binAt viewOf written between inBounds spanAt binSound total sound merged mergeNumberOn mergeNumber mergeLater
 worked-merge = (refl, refl, refl)

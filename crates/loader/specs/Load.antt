@@ -5,12 +5,14 @@ use mathlib.Core.List.{List, [], _∷_, List·Memᴰ}
 use Prim.Native.Nat.{ℕ, zero, suc, _+_, _*_, _/_, _%_, _<_}
 use lib.Dec.{eqb, ltb}
 use lib.ListN.{length, getD}
-use Rattle.grid.specs.declared.Grid.{Grid}
-use Rattle.grid.specs.declared.Rgb.{Rgb}
-use Rattle.grid.specs.Answer.{refuse, whenDone}
-use Rattle.grid.specs.Range.{listFrom}
-use Rattle.grid.specs.Grid.{gridOf, onGrid, numberOn, binsOf, colourAt, colourPlace}
-use Rattle.table.specs.Cell.{View, zeros, wide, wideList}
+use Rattle.grid.specs.declared.place.Grid.{Grid}
+use Rattle.pixels.specs.declared.colour.Rgb.{Rgb}
+use Rattle.basics.specs.Answer.{refuse, whenDone}
+use Rattle.basics.specs.Range.{listFrom}
+use Rattle.grid.specs.Grid.{gridOf, onGrid, numberOn, binsOf, colourPlace}
+use Rattle.pixels.specs.Colour.{colourAt}
+use Rattle.table.specs.Cell.{View, zeros}
+use Rattle.table.specs.Table.{viewOf, written}
 use Rattle.table.specs.Sound.{limit, total, sound, unsoundNumber}
 
 -- a colour with a weight as large as wanted
@@ -44,7 +46,7 @@ loaded g cs v p j = v p j + sumOver cs (λ c. adds g c p j)
 
 -- the table of a list of colours: an empty one with them loaded
 unfoldable pub tableOf : Grid → List Weighted → List ℕ
-tableOf g cs = wideList (binsOf g) (loaded g cs zeros)
+tableOf g cs = written (binsOf g) (loaded g cs zeros)
 
 -- a colour of weight above 0 among them, at a place
 pub record ColourAt (g : Grid) (cs : List Weighted) (p : ℕ) : Type 0 where
@@ -68,8 +70,8 @@ loadNumberOn most g t colours given weights =
     refuse (not (eqb (length colours % 3) 0)) 3
     (refuse (given && not (eqb (length weights) (length colours / 3))) 4
     (refuse (not (eqb (length t) (5 * binsOf g))) 5
-    (refuse (not (sound most g (wide t))) unsoundNumber
-    (refuse (ltb most (total g (wide t) + weightOf (batchOf colours given weights))) 7 0))))
+    (refuse (not (sound most g (viewOf t))) unsoundNumber
+    (refuse (ltb most (total g (viewOf t) + weightOf (batchOf colours given weights))) 7 0))))
 
 unfoldable pub loadNumber : ℕ → ℕ → ℕ → List ℕ → List ℕ → Bool → List ℕ → ℕ
 loadNumber b1 b2 b3 t colours given weights =
@@ -80,5 +82,5 @@ unfoldable pub loadLater : ℕ → ℕ → ℕ → List ℕ → List ℕ → Boo
 loadLater b1 b2 b3 t colours given weights =
     onGrid (gridOf b1 b2 b3) t
     (λ g. whenDone (loadNumberOn limit g t colours given weights)
-    (wideList (binsOf g) (loaded g (batchOf colours given weights) (wide t)))
+    (written (binsOf g) (loaded g (batchOf colours given weights) (viewOf t)))
     t)

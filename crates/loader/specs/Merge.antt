@@ -4,10 +4,11 @@ use mathlib.Core.List.{List}
 use Prim.Native.Nat.{ℕ, _+_, _*_}
 use lib.Dec.{eqb, ltb}
 use lib.ListN.{length}
-use Rattle.grid.specs.declared.Grid.{Grid}
-use Rattle.grid.specs.Answer.{refuse, whenDone}
+use Rattle.grid.specs.declared.place.Grid.{Grid}
+use Rattle.basics.specs.Answer.{refuse, whenDone}
 use Rattle.grid.specs.Grid.{gridOf, onGrid, numberOn, binsOf}
-use Rattle.table.specs.Cell.{View, wide, wideList}
+use Rattle.table.specs.Cell.{View}
+use Rattle.table.specs.Table.{viewOf, written}
 use Rattle.table.specs.Sound.{limit, total, sound, unsoundNumber}
 
 -- "Merge adds a second table into a first, number by number"
@@ -18,8 +19,8 @@ merged v u p j = v p j + u p j
 unfoldable pub mergeNumberOn : ℕ → Grid → List ℕ → List ℕ → ℕ
 mergeNumberOn most g t s =
     refuse (not (eqb (length t) (5 * binsOf g) && eqb (length s) (5 * binsOf g))) 5
-    (refuse (not (sound most g (wide t) && sound most g (wide s))) unsoundNumber
-    (refuse (ltb most (total g (wide t) + total g (wide s))) 7 0))
+    (refuse (not (sound most g (viewOf t) && sound most g (viewOf s))) unsoundNumber
+    (refuse (ltb most (total g (viewOf t) + total g (viewOf s))) 7 0))
 
 unfoldable pub mergeNumber : ℕ → ℕ → ℕ → List ℕ → List ℕ → ℕ
 mergeNumber b1 b2 b3 t s = numberOn (gridOf b1 b2 b3) (λ g. mergeNumberOn limit g t s)
@@ -28,4 +29,4 @@ mergeNumber b1 b2 b3 t s = numberOn (gridOf b1 b2 b3) (λ g. mergeNumberOn limit
 unfoldable pub mergeLater : ℕ → ℕ → ℕ → List ℕ → List ℕ → List ℕ
 mergeLater b1 b2 b3 t s =
     onGrid (gridOf b1 b2 b3) t
-    (λ g. whenDone (mergeNumberOn limit g t s) (wideList (binsOf g) (merged (wide t) (wide s))) t)
+    (λ g. whenDone (mergeNumberOn limit g t s) (written (binsOf g) (merged (viewOf t) (viewOf s))) t)

@@ -4,7 +4,7 @@ use mathlib.Core.List.{List, [], _++_}
 use Prim.Native.Nat.{ℕ, zero, suc, _*_, _/_, _%_, _<_}
 use lib.Dec.{eqb}
 use lib.ListN.{length, getD, replicate}
-use Rattle.grid.specs.Answer.{refuse}
+use Rattle.basics.specs.Answer.{refuse}
 use Rattle.loader.specs.Load.{Weighted, batchOf, loadNumber, loadLater}
 use Rattle.loader.specs.Merge.{mergeNumber, mergeLater}
 

@@ -1,12 +1,12 @@
 // The calls that fill a table: loading and merging.
-use grid::Chosen;
-use grid::Grid;
-use grid::Rgb;
-use grid::bins;
-use grid::colour;
-use grid::flat;
-use grid::grid_of;
-use grid::steps;
+use grid::place::Chosen;
+use grid::place::Grid;
+use pixels::colour::Rgb;
+use grid::place::bins;
+use pixels::colour::colour;
+use pixels::equal::equal_colours;
+use grid::place::grid_of;
+use grid::steps::steps;
 use table::Cell;
 use table::LIMIT;
 use table::Weighed;
@@ -19,9 +19,10 @@ ghost use mathlib.Core.Bool.{true, cond};
 ghost use Prim.Native.Nat.{ℕ, _+_, _-_, _*_, _^_, _≤_, _<_};
 ghost use lib.Dec.{leb};
 ghost use lib.ListN.{length, getD};
-ghost use Rattle.grid.specs.Range.{sumFrom};
+ghost use Rattle.basics.specs.Range.{sumFrom};
 ghost use Rattle.grid.specs.Grid.{Accepted, binsOf, colourPlace, stepsOf};
-ghost use Rattle.table.specs.Cell.{wide, wideList, cellOf, plusCell, putAt, TableOf};
+ghost use Rattle.table.specs.Table.{viewOf, written, putAt, TableOf};
+ghost use Rattle.table.specs.Cell.{cellOf, plusCell};
 ghost use Rattle.table.specs.Sound.{limit};
 ghost use Rattle.loader.specs.Load.{share, loadNumber, loadLater};
 ghost use Rattle.loader.specs.Merge.{merged, mergeNumber, mergeLater};
@@ -30,7 +31,7 @@ ghost use Rattle.loader.specs.Step.{squaresOf, withSquares, withColour, 
 // Adds a cell to the one at a place.
 fn add_at(table: &mut [u64], place: usize, c: Cell)
     requires { ⌜ Adds (now table) place c ⌝ }
-    ensures { λ r. ⌜ now (table .exit) ≡ putAt (now (table .entry)) place (plusCell (cellOf (wide (now (table .entry)) place)) c) ⌝ }
+    ensures { λ r. ⌜ now (table .exit) ≡ putAt (now (table .entry)) place (plusCell (cellOf (viewOf (now (table .entry)) place)) c) ⌝ }
 {
     let old = cell_at(table, place);
     let sum = plus(old, c);
@@ -196,7 +197,7 @@ fn add_block(
     requires { ⌜ Packed g (now t1) (now t2) (now t3) ⌝ }
     ensures { λ r. ⌜ now (table .exit) ≡ withPart g (now (table .entry)) (now (colours .entry)) weighted (now (weights .entry)) at 64 ⌝ }
 {
-    if flat(colours, at) {
+    if equal_colours(colours, at) {
         let x = colour(colours, at);
         let w = block_weight(weighted, weights, at);
         add_colour(g, table, t1, t2, t3, x, w);
@@ -275,7 +276,7 @@ pub fn load(
     ensures { λ r. ⌜ r ≡ loadNumber b1 b2 b3 (now (table .entry)) (now (colours .entry)) weighted (now (weights .entry)) ⌝ }
     ensures { λ r. ⌜ now (table .exit) ≡ loadLater b1 b2 b3 (now (table .entry)) (now (colours .entry)) weighted (now (weights .entry)) ⌝ }
 {
-    let Chosen::Of(g) = grid_of(b1, b2, b3) else {
+    let Chosen::Accepted(g) = grid_of(b1, b2, b3) else {
         return 1;
     };
     if colours.len() % 3 != 0 {
@@ -305,8 +306,8 @@ pub fn load(
 // Adds the cells of a second table to those of a first.
 fn add_cells(g: Grid, table: &mut [u64], second: &[u64])
     requires { ⌜ TableOf g (now table) × TableOf g (now second) ⌝ }
-    requires { ⌜ ((p j : ℕ) → p < binsOf g → j < 5 → wide (now table) p j + wide (now second) p j < 2 ^ 64) ⌝ }
-    ensures { λ r. ⌜ now (table .exit) ≡ wideList (binsOf g) (merged (wide (now (table .entry))) (wide (now (second .entry)))) ⌝ }
+    requires { ⌜ ((p j : ℕ) → p < binsOf g → j < 5 → viewOf (now table) p j + viewOf (now second) p j < 2 ^ 64) ⌝ }
+    ensures { λ r. ⌜ now (table .exit) ≡ written (binsOf g) (merged (viewOf (now (table .entry))) (viewOf (now (second .entry)))) ⌝ }
 {
     let n = bins(g);
     let mut p = 0;
@@ -321,7 +322,7 @@ pub fn merge(b1: usize, b2: usize, b3: usize, table: &mut [u64], second: &[u64])
     ensures { λ r. ⌜ r ≡ mergeNumber b1 b2 b3 (now (table .entry)) (now (second .entry)) ⌝ }
     ensures { λ r. ⌜ now (table .exit) ≡ mergeLater b1 b2 b3 (now (table .entry)) (now (second .entry)) ⌝ }
 {
-    let Chosen::Of(g) = grid_of(b1, b2, b3) else {
+    let Chosen::Accepted(g) = grid_of(b1, b2, b3) else {
         return 1;
     };
     let numbers = 5 * bins(g);

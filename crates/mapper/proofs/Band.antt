@@ -12,8 +12,8 @@ use borrow.Rule.Slice.PartMut.{putMid, same-len-mid, mid-len, take-put, drop-put
 use lib.Dec.{leb, ltb}
 use lib.ListN.{length, getD, set, take, drop, length-set, List·getD-append, List·getD-eq-default}
 use lib.Seq.{getD-take, getD-drop, getD-append-add, length-take-le, getD-set-same, getD-set-other}
-use Rattle.grid.specs.Range.{listFrom}
-use Rattle.grid.proofs.Range.{length-list, list-at, list-is}
+use Rattle.basics.specs.Range.{listFrom}
+use Rattle.basics.proofs.Range.{length-list, list-at, list-is}
 use Rattle.mapper.specs.Band.{among, writeBand}
 
 -- ---- which numbers are among n from a first one onward

@@ -9,11 +9,11 @@ use borrow.Author.Tests.{le-ltb, leb-true}
 use lib.Dec.{eqb, leb}
 use lib.ListN.{length, getD}
 use lib.Seq.{ext-getD}
-use Rattle.grid.specs.declared.Grid.{Grid}
-use Rattle.grid.specs.declared.Chosen.the-variants as chosen
-use Rattle.grid.specs.Answer.{refuse}
+use Rattle.grid.specs.declared.place.Grid.{Grid}
+use Rattle.grid.specs.declared.place.Chosen.the-variants as chosen
+use Rattle.basics.specs.Answer.{refuse}
 use Rattle.grid.specs.Grid.{gridOf, numberOn, binsOf}
-use Rattle.grid.proofs.Range.{and-left, and-right}
+use Rattle.basics.proofs.Range.{and-left, and-right}
 use Rattle.mapper.specs.Band.{indexAt, among, allBelow, bandNumber}
 use Rattle.mapper.specs.Map.{mapNumberOn, mapNumber, mapLater}
 use Rattle.mapper.specs.Bands.{Band, mapBands, allInside, covered}
@@ -81,7 +81,7 @@ module _ (b1 b2 b3 : ℕ) (map : List ℕ) (colours : ℕ) (frame : List ℕ) wh
   bands-length (b ∷ bs) indices = bands-length bs (later indices (b .first) (b .pixels)) ∙ map-length b1 b2 b3 map colours frame indices (b .first) (b .pixels)
 
   -- and where it is done, each place that a band covers has its index
-  module _ {g : Grid} (is : gridOf b1 b2 b3 ≡ chosen.Of g) where
+  module _ {g : Grid} (is : gridOf b1 b2 b3 ≡ chosen.Accepted g) where
     bands-at : (bs : List Band) (indices : List ℕ) → allInside size bs ≡ true → mapNumberOn g map colours frame indices 0 size ≡ 0 → (i : ℕ) → i < length indices → getD (mapBands b1 b2 b3 map colours frame bs indices) i 0 ≡ cond (covered bs i) (indexAt g map frame i) (getD indices i 0)
     unfolding mapBands covered
     bands-at [] indices h e i l = refl

@@ -10,8 +10,8 @@ use native.Mathlib.Omega.{arith}
 use borrow.Author.Tests.{ltb-true, lt-ltb}
 use lib.Dec.{ltb}
 use lib.ListN.{length, getD, List·getD-eq-default}
-use Rattle.grid.specs.Range.{allFrom}
-use Rattle.grid.proofs.Range.{and-false, all-true, all-last, all-at}
+use Rattle.basics.specs.Range.{allFrom}
+use Rattle.basics.proofs.Range.{and-false, all-true, all-last, all-at}
 use Rattle.mapper.specs.Band.{allBelow}
 
 -- the first n entries are below c exactly where top is

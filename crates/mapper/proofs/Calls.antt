@@ -3,9 +3,9 @@
 use mathlib.Core.Path.{_≡_}
 use mathlib.Core.List.{List}
 use Prim.Native.Nat.{ℕ, _*_}
-use Rattle.grid.specs.declared.Grid.{Grid}
-use Rattle.grid.specs.declared.Chosen.the-variants as chosen
-use Rattle.grid.specs.Answer.{whenDone}
+use Rattle.grid.specs.declared.place.Grid.{Grid}
+use Rattle.grid.specs.declared.place.Chosen.the-variants as chosen
+use Rattle.basics.specs.Answer.{whenDone}
 use Rattle.grid.specs.Grid.{gridOf}
 use Rattle.grid.proofs.Ends.{grid-refused, ends}
 use Rattle.mapper.specs.Band.{indexAt, writeBand}
@@ -20,7 +20,7 @@ module _ (b1 b2 b3 : ℕ) (map : List ℕ) (colours : ℕ) (frame indices : List
   unfolding mapNumber mapLater
   map-no-grid e = grid-refused (gridOf b1 b2 b3) (λ g. mapNumberOn g map colours frame indices first pixels) (λ g. writeBand first pixels (indexAt g map frame) indices) indices e
 
-  pub map-ends : {g : Grid} → gridOf b1 b2 b3 ≡ chosen.Of g → {n : ℕ} → mapNumberOn g map colours frame indices first pixels ≡ n → {l : List ℕ} → l ≡ whenDone n (writeBand first pixels (indexAt g map frame) indices) indices → MapEnds n l
+  pub map-ends : {g : Grid} → gridOf b1 b2 b3 ≡ chosen.Accepted g → {n : ℕ} → mapNumberOn g map colours frame indices first pixels ≡ n → {l : List ℕ} → l ≡ whenDone n (writeBand first pixels (indexAt g map frame) indices) indices → MapEnds n l
   unfolding mapNumber mapLater
   map-ends e q r = ends (gridOf b1 b2 b3) (λ g. mapNumberOn g map colours frame indices first pixels) (λ g. writeBand first pixels (indexAt g map frame) indices) indices e q r
 
@@ -33,7 +33,7 @@ module _ (b1 b2 b3 : ℕ) (map palette frame : List ℕ) (first pixels : ℕ) wh
   paint-no-grid e =
       grid-refused (gridOf b1 b2 b3) (λ g. paintNumberOn g map palette frame first pixels) (λ g. writeBand (3 * first) (3 * pixels) (paintAt g map palette frame) frame) frame e
 
-  pub paint-ends : {g : Grid} → gridOf b1 b2 b3 ≡ chosen.Of g → {n : ℕ} → paintNumberOn g map palette frame first pixels ≡ n → {l : List ℕ} → l ≡ whenDone n (writeBand (3 * first) (3 * pixels) (paintAt g map palette frame) frame) frame → PaintEnds n l
+  pub paint-ends : {g : Grid} → gridOf b1 b2 b3 ≡ chosen.Accepted g → {n : ℕ} → paintNumberOn g map palette frame first pixels ≡ n → {l : List ℕ} → l ≡ whenDone n (writeBand (3 * first) (3 * pixels) (paintAt g map palette frame) frame) frame → PaintEnds n l
   unfolding paintNumber paintLater
   paint-ends e q r =
       ends (gridOf b1 b2 b3) (λ g. paintNumberOn g map palette frame first pixels) (λ g. writeBand (3 * first) (3 * pixels) (paintAt g map palette frame) frame) frame e q r

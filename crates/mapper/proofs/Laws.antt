@@ -9,12 +9,13 @@ use native.Mathlib.Omega.{arith}
 use borrow.Author.Tests.{eqb-true, eq-eqb}
 use lib.Dec.{eqb}
 use lib.ListN.{length, getD}
-use Rattle.grid.specs.declared.Grid.{Grid}
-use Rattle.grid.specs.declared.Chosen.the-variants as chosen
-use Rattle.grid.specs.Answer.{whenDone}
-use Rattle.grid.specs.declared.Chosen.{Chosen}
+use Rattle.grid.specs.declared.place.Grid.{Grid}
+use Rattle.grid.specs.declared.place.Chosen.the-variants as chosen
+use Rattle.basics.specs.Answer.{whenDone}
+use Rattle.grid.specs.declared.place.Chosen.{Chosen}
 use Rattle.grid.specs.Grid.{gridOf, gridAnswer, onGrid, numberOn, binsOf}
-use Rattle.grid.proofs.Ends.{call-refused, call-done, same-length}
+use Rattle.grid.proofs.Ends.{call-refused, call-done}
+use Rattle.basics.proofs.Ends.{same-length}
 use Rattle.mapper.specs.Band.{indexAt, among, writeBand, allBelow}
 use Rattle.mapper.specs.Map.{mapNumberOn, mapNumber, mapLater}
 use Rattle.mapper.specs.Paint.{paintAt, paintNumberOn, paintNumber, paintLater}
@@ -40,7 +41,7 @@ module _ (b1 b2 b3 : ℕ) (map : List ℕ) (colours : ℕ) (frame indices : List
   -- what a mapping that is done tells
   pub record MapDone : Type 0 where
     pub g : Grid
-    pub chosen : gridOf b1 b2 b3 ≡ chosen.Of g
+    pub chosen : gridOf b1 b2 b3 ≡ chosen.Accepted g
     pub number-on : mapNumberOn g map colours frame indices first pixels ≡ 0
     pub threes : length frame % 3 ≡ 0
     pub lent : length map ≡ binsOf g
@@ -71,12 +72,12 @@ module _ (b1 b2 b3 : ℕ) (map : List ℕ) (colours : ℕ) (frame indices : List
       }
 
   -- and the other way round: on a grid that is known, by its number
-  pub map-done : {g : Grid} → gridOf b1 b2 b3 ≡ chosen.Of g → mapNumberOn g map colours frame indices first pixels ≡ 0 → (number ≡ 0) × (later ≡ writeBand first pixels (indexAt g map frame) indices)
+  pub map-done : {g : Grid} → gridOf b1 b2 b3 ≡ chosen.Accepted g → mapNumberOn g map colours frame indices first pixels ≡ 0 → (number ≡ 0) × (later ≡ writeBand first pixels (indexAt g map frame) indices)
   unfolding whenDone
   map-done e q = let ends = map-ends b1 b2 b3 map colours frame indices first pixels e q refl in (sym (ends .0), sym (ends .1))
 
   -- by its tests: "none is given otherwise"
-  pub map-accepts : {g : Grid} → gridOf b1 b2 b3 ≡ chosen.Of g → length frame % 3 ≡ 0 → length map ≡ binsOf g → 1 ≤ colours → colours ≤ 256 → length indices ≡ length frame / 3 → first + pixels ≤ length frame / 3 → allBelow colours map ≡ true → (number ≡ 0) × (later ≡ writeBand first pixels (indexAt g map frame) indices)
+  pub map-accepts : {g : Grid} → gridOf b1 b2 b3 ≡ chosen.Accepted g → length frame % 3 ≡ 0 → length map ≡ binsOf g → 1 ≤ colours → colours ≤ 256 → length indices ≡ length frame / 3 → first + pixels ≤ length frame / 3 → allBelow colours map ≡ true → (number ≡ 0) × (later ≡ writeBand first pixels (indexAt g map frame) indices)
   unfolding mapNumberOn
   map-accepts {g} e threes lent some few one-each inside below =
       map-done e
@@ -89,7 +90,7 @@ module _ (b1 b2 b3 : ℕ) (map : List ℕ) (colours : ℕ) (frame indices : List
   map-not-9 below = go (gridOf b1 b2 b3) (λ g. band-not-9 g map colours (eqb (length indices) (length frame / 3)) (length frame) first pixels below)
     where
       go : (c : Chosen) → ((g : Grid) → mapNumberOn g map colours frame indices first pixels ≡ 9 → ⊥) → numberOn c (λ g. mapNumberOn g map colours frame indices first pixels) ≡ 9 → ⊥
-      go (chosen.Of g) on e = on g e
+      go (chosen.Accepted g) on e = on g e
       go chosen.Refused on e = omega arith
 
   pub map-length : length later ≡ length indices
@@ -136,7 +137,7 @@ module _ (b1 b2 b3 : ℕ) (map palette frame : List ℕ) (first pixels : ℕ) wh
   -- what a painting that is done tells
   pub record PaintDone : Type 0 where
     pub g : Grid
-    pub chosen : gridOf b1 b2 b3 ≡ chosen.Of g
+    pub chosen : gridOf b1 b2 b3 ≡ chosen.Accepted g
     pub threes : length frame % 3 ≡ 0
     pub lent : length map ≡ binsOf g
     pub some : 3 ≤ length palette
@@ -166,7 +167,7 @@ module _ (b1 b2 b3 : ℕ) (map palette frame : List ℕ) (first pixels : ℕ) wh
       }
 
   -- and the other way round: "none is given otherwise"
-  pub paint-accepts : {g : Grid} → gridOf b1 b2 b3 ≡ chosen.Of g → length frame % 3 ≡ 0 → length map ≡ binsOf g → 3 ≤ length palette → length palette ≤ 768 → length palette % 3 ≡ 0 → first + pixels ≤ length frame / 3 → allBelow (length palette / 3) map ≡ true → (paint-number ≡ 0) × (paint-later ≡ writeBand (3 * first) (3 * pixels) (paintAt g map palette frame) frame)
+  pub paint-accepts : {g : Grid} → gridOf b1 b2 b3 ≡ chosen.Accepted g → length frame % 3 ≡ 0 → length map ≡ binsOf g → 3 ≤ length palette → length palette ≤ 768 → length palette % 3 ≡ 0 → first + pixels ≤ length frame / 3 → allBelow (length palette / 3) map ≡ true → (paint-number ≡ 0) × (paint-later ≡ writeBand (3 * first) (3 * pixels) (paintAt g map palette frame) frame)
   unfolding paintNumberOn whenDone
   paint-accepts {g} e threes lent some few whole inside below =
       let ends = paint-ends b1 b2 b3 map palette frame first pixels e {n = 0}
@@ -180,7 +181,7 @@ module _ (b1 b2 b3 : ℕ) (map palette frame : List ℕ) (first pixels : ℕ) wh
   paint-not-9 below = go (gridOf b1 b2 b3) (λ g. band-not-9 g map (length palette / 3) (eqb (length palette % 3) 0) (length frame) first pixels below)
     where
       go : (c : Chosen) → ((g : Grid) → paintNumberOn g map palette frame first pixels ≡ 9 → ⊥) → numberOn c (λ g. paintNumberOn g map palette frame first pixels) ≡ 9 → ⊥
-      go (chosen.Of g) on e = on g e
+      go (chosen.Accepted g) on e = on g e
       go chosen.Refused on e = omega arith
 
   pub paint-length : length paint-later ≡ length frame

@@ -8,11 +8,11 @@ use native.Mathlib.Omega.{arith}
 use borrow.Author.Tests.{eqb-true, eqb-false, leb-true, ltb-false, not-false, eq-eqb, le-leb, le-ltb}
 use lib.Dec.{eqb, leb}
 use lib.ListN.{length}
-use Rattle.grid.specs.declared.Grid.{Grid}
-use Rattle.grid.specs.Answer.{refuse}
+use Rattle.grid.specs.declared.place.Grid.{Grid}
+use Rattle.basics.specs.Answer.{refuse}
 use Rattle.grid.specs.Grid.{binsOf}
-use Rattle.grid.proofs.Range.{and-left, and-right}
-use Rattle.grid.proofs.Ends.{passed}
+use Rattle.basics.proofs.Range.{and-left, and-right}
+use Rattle.basics.proofs.Ends.{passed}
 use Rattle.mapper.specs.Band.{allBelow, bandNumber}
 
 -- what a band that nothing refuses is given

@@ -6,11 +6,12 @@ use mathlib.Core.List.{List}
 use Prim.Native.Nat.{ℕ, _+_, _-_, _*_, _/_, _%_, _≤_, _<_}
 use native.Mathlib.Omega.{arith}
 use lib.ListN.{getD, take, drop}
-use Rattle.grid.specs.declared.Grid.{Grid}
-use Rattle.grid.specs.declared.Rgb.{Rgb}
-use Rattle.grid.specs.Grid.{colourAt, colourPlace}
-use Rattle.grid.specs.OneColour.{oneColour}
-use Rattle.grid.proofs.OneColour.{one-colour}
+use Rattle.grid.specs.declared.place.Grid.{Grid}
+use Rattle.pixels.specs.declared.colour.Rgb.{Rgb}
+use Rattle.pixels.specs.Colour.{colourAt}
+use Rattle.grid.specs.Grid.{colourPlace}
+use Rattle.pixels.specs.Equal.{equalColours}
+use Rattle.pixels.proofs.EqualColours.{one-colour}
 use Rattle.mapper.specs.Band.{indexAt}
 use Rattle.mapper.specs.Paint.{paintAt}
 use Rattle.mapper.proofs.Band.{part-at}
@@ -45,7 +46,7 @@ unfolding indexAt
 same-index g map part i k alike = ap (λ (x : Rgb). getD map (colourPlace g x) 0) alike
 
 -- the 64 pixels of a run of one colour
-pub run-colour : (part : List ℕ) (from : ℕ) → oneColour part from ≡ true → (i : ℕ) → from ≤ i → i < from + 64 → colourAt part i ≡ colourAt part from
+pub run-colour : (part : List ℕ) (from : ℕ) → equalColours part from ≡ true → (i : ℕ) → from ≤ i → i < from + 64 → colourAt part i ≡ colourAt part from
 run-colour part from one i a b = ap (colourAt part) (along from i a) ∙ one-colour part from one (i - from) (omega arith)
   where
     along : (from i : ℕ) → from ≤ i → i ≡ from + (i - from)

@@ -8,9 +8,11 @@ use native.Mathlib.Omega.{arith}
 use native.Mathlib.Decide.{ℕ-discrete}
 use lib.ListN.{length, getD, set}
 use lib.Seq.{getD-set-same, getD-set-other}
-use Rattle.grid.specs.declared.Grid.{Grid}
-use Rattle.grid.specs.declared.Rgb.{Rgb}
-use Rattle.grid.specs.Grid.{choose, componentAt, colourAt, colourPlace}
+use Rattle.grid.specs.declared.place.Grid.{Grid}
+use Rattle.pixels.specs.declared.colour.Rgb.{Rgb}
+use Rattle.basics.specs.Dimension.{choose}
+use Rattle.pixels.specs.Colour.{componentAt, colourAt}
+use Rattle.grid.specs.Grid.{colourPlace}
 use Rattle.mapper.specs.Band.{indexAt, writeBand}
 use Rattle.mapper.specs.Paint.{paintAt, Fits}
 use Rattle.mapper.specs.Packed.{unpacked, fillAt, packedAt, Packed}

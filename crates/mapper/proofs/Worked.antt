@@ -4,10 +4,11 @@ use mathlib.Core.Path.{_≡_, refl}
 use mathlib.Core.List.{List, [], _∷_, map}
 use Prim.Native.Nat.{ℕ}
 use lib.ListN.{replicate}
-use Rattle.grid.specs.Answer.{refuse, whenDone}
-use Rattle.grid.specs.Range.{listFrom, allFrom}
+use Rattle.basics.specs.Answer.{refuse, whenDone}
+use Rattle.basics.specs.Range.{listFrom, allFrom}
 use Rattle.grid.specs.Size.{choices, shiftIn, shiftOf, binOf}
-use Rattle.grid.specs.Grid.{gridWith, gridOf, gridAnswer, onGrid, numberOn, binsOf, placeOf, colourPlace, colourAt}
+use Rattle.grid.specs.Grid.{gridWith, gridOf, gridAnswer, onGrid, numberOn, binsOf, placeOf, colourPlace}
+use Rattle.pixels.specs.Colour.{colourAt}
 use Rattle.mapper.specs.Band.{indexAt, among, writeBand, allBelow, bandNumber}
 use Rattle.mapper.specs.Map.{mapNumberOn, mapNumber, mapLater}
 use Rattle.mapper.specs.Paint.{paintAt, paintNumberOn, paintNumber, paintLater}

@@ -5,10 +5,11 @@ use mathlib.Core.List.{List}
 use Prim.Native.Nat.{ℕ, _+_, _/_, _%_}
 use lib.Dec.{eqb, leb, ltb}
 use lib.ListN.{length, getD}
-use Rattle.grid.specs.declared.Grid.{Grid}
-use Rattle.grid.specs.Answer.{refuse}
-use Rattle.grid.specs.Range.{listFrom, allFrom}
-use Rattle.grid.specs.Grid.{binsOf, colourAt, colourPlace, stepsOf, Accepted}
+use Rattle.grid.specs.declared.place.Grid.{Grid}
+use Rattle.basics.specs.Answer.{refuse}
+use Rattle.basics.specs.Range.{listFrom, allFrom}
+use Rattle.grid.specs.Grid.{binsOf, colourPlace, stepsOf, Accepted}
+use Rattle.pixels.specs.Colour.{colourAt}
 
 -- "A pixel's index is the map's byte at its bin."
 unfoldable pub indexAt : Grid → List ℕ → List ℕ → ℕ → ℕ

@@ -1,19 +1,20 @@
 // Mapping and painting a band of a frame.
-use grid::Chosen;
-use grid::Grid;
-use grid::Rgb;
-use grid::bin_of;
-use grid::bins;
-use grid::colour;
-use grid::flat;
-use grid::grid_of;
-use grid::steps;
+use grid::place::Chosen;
+use grid::place::Grid;
+use pixels::colour::Rgb;
+use grid::dimension::bin_of;
+use grid::place::bins;
+use pixels::colour::colour;
+use pixels::equal::equal_colours;
+use grid::place::grid_of;
+use grid::steps::steps;
 ghost use mathlib.Core.Path.{_≡_};
 ghost use Prim.Native.Nat.{ℕ, _+_, _*_, _/_, _%_, _≤_, _<_};
 ghost use lib.Dec.{ltb};
 ghost use lib.ListN.{length, getD};
-ghost use Rattle.grid.specs.Range.{listFrom};
-ghost use Rattle.grid.specs.Grid.{colourPlace, componentAt, Accepted};
+ghost use Rattle.basics.specs.Range.{listFrom};
+ghost use Rattle.grid.specs.Grid.{colourPlace, Accepted};
+ghost use Rattle.pixels.specs.Colour.{componentAt};
 ghost use Rattle.mapper.specs.Band.{indexAt, writeBand, allBelow, bandNumber, MapOf, Lookup};
 ghost use Rattle.mapper.specs.Map.{mapNumber, mapLater};
 ghost use Rattle.mapper.specs.Paint.{paintAt, Fits, paintNumber, paintLater};
@@ -41,7 +42,7 @@ fn index_of(g: Grid, t1: &[usize; 256], t2: &[usize; 256], map: &[u8], x: Rgb) -
 {
     let i1 = x.c1 as usize;
     let i2 = x.c2 as usize;
-    let p = t1[i1] + t2[i2] + bin_of(g.s3, x.c3);
+    let p = t1[i1] + t2[i2] + bin_of(g.shift3, x.c3);
     map[p]
 }
 
@@ -198,7 +199,7 @@ fn map_block(
     requires { ⌜ (3 * (from + 65) ≤ length (now part)) × (from + 64 ≤ length (now indices)) ⌝ }
     ensures { λ r. ⌜ now (indices .exit) ≡ writeBand from 64 (indexAt g (now (map .entry)) (now (part .entry))) (now (indices .entry)) ⌝ }
 {
-    if flat(part, from) {
+    if equal_colours(part, from) {
         let index = index_at(g, t1, t2, map, part, from);
         fill_block(indices, from, index);
     } else {
@@ -256,7 +257,7 @@ pub fn map(
     ensures { λ r. ⌜ r ≡ mapNumber b1 b2 b3 (now (map .entry)) colours (now (frame .entry)) (now (indices .entry)) first pixels ⌝ }
     ensures { λ r. ⌜ now (indices .exit) ≡ mapLater b1 b2 b3 (now (map .entry)) colours (now (frame .entry)) (now (indices .entry)) first pixels ⌝ }
 {
-    let Chosen::Of(g) = grid_of(b1, b2, b3) else {
+    let Chosen::Accepted(g) = grid_of(b1, b2, b3) else {
         return 1;
     };
     let one_each = indices.len() == frame.len() / 3;
@@ -386,7 +387,7 @@ fn paint_block(
     requires { ⌜ 3 * (first + 65) ≤ length (now part) ⌝ }
     ensures { λ r. ⌜ now (part .exit) ≡ writeBand (3 * first) (3 * 64) (packedAt g (now (map .entry)) (now (colours .entry)) (now (part .entry))) (now (part .entry)) ⌝ }
 {
-    if flat(part, first) {
+    if equal_colours(part, first) {
         let v = painted(g, t1, t2, map, colours, part, first);
         fill_pixels(part, first, v);
     } else {
@@ -443,7 +444,7 @@ pub fn paint(
     ensures { λ r. ⌜ r ≡ paintNumber b1 b2 b3 (now (map .entry)) (now (palette .entry)) (now (frame .entry)) first pixels ⌝ }
     ensures { λ r. ⌜ now (frame .exit) ≡ paintLater b1 b2 b3 (now (map .entry)) (now (palette .entry)) (now (frame .entry)) first pixels ⌝ }
 {
-    let Chosen::Of(g) = grid_of(b1, b2, b3) else {
+    let Chosen::Accepted(g) = grid_of(b1, b2, b3) else {
         return 1;
     };
     let colours = palette.len() / 3;

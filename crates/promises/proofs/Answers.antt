@@ -8,17 +8,17 @@ use mathlib.Core.List.{List, [], _∷_, List·Memᴰ, List·Memᴰ·head, List·
 use Prim.Native.Nat.{ℕ}
 use borrow.Author.Tests.{eqb-true}
 use lib.Dec.{eqb}
-use Rattle.grid.specs.declared.Grid.{Grid}
-use Rattle.grid.specs.declared.Shift.{Shift}
-use Rattle.grid.specs.declared.Shift.the-variants as shift
-use Rattle.grid.specs.declared.Chosen.the-variants as chosen
+use Rattle.grid.specs.declared.place.Grid.{Grid}
+use Rattle.grid.specs.declared.dimension.Shift.{Shift}
+use Rattle.grid.specs.declared.dimension.Shift.the-variants as shift
+use Rattle.grid.specs.declared.place.Chosen.the-variants as chosen
 use Rattle.grid.specs.Size.{choices, shiftIn, shiftOf, shiftAnswer}
 use Rattle.grid.specs.Grid.{gridWith, gridOf, gridAnswer}
 use Rattle.table.specs.Cell.{View}
 use Rattle.table.specs.Sound.{limit, total, sound, weighed, weighedAnswer}
 use Rattle.table.proofs.Scans.{total-told, unsound-told}
-use Rattle.sums.specs.declared.Bounds.{Bounds}
-use Rattle.sums.specs.Box.{Within}
+use Rattle.boxes.specs.declared.sides.Bounds.{Bounds}
+use Rattle.boxes.specs.Box.{Within}
 use Rattle.spread.specs.Cut.{positionAnswer, bestCut}
 use Rattle.spread.specs.Best.{Candidate, Tells}
 use Rattle.spread.proofs.Least.{best-told}

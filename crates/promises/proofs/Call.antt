@@ -10,9 +10,10 @@ use native.Mathlib.Omega.{arith}
 use lib.ListN.{length, getD, List·getD-map}
 use lib.Seq.{getD-take}
 use lib.Ieee.{Float, nan}
-use Rattle.grid.specs.Answer.{whenDone}
+use Rattle.basics.specs.Answer.{whenDone}
 use Rattle.rounds.specs.declared.BoxSpread.{BoxSpread}
-use Rattle.rounds.specs.Loop.{noBox, spent, boxSpread}
+use Rattle.boxes.specs.Box.{noBox}
+use Rattle.rounds.specs.Loop.{spent, boxSpread}
 use Rattle.cutter.specs.declared.CutRecord.{CutRecord}
 use Rattle.cutter.specs.Fronts.{filled}
 use Rattle.cutter.specs.Cut.{boundsOf, listOf, cutNumber, cutRecord, cutLater}

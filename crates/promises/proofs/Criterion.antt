@@ -6,10 +6,11 @@ use mathlib.Core.Logic.{_↔_}
 use Prim.Native.Nat.{ℕ, _+_, _*_, _≤_, _<_}
 use native.Mathlib.Nat.{mul-add, add-mul, mul-assoc, mul-comm, mul-left-comm, add-assoc, add-comm, add-left-comm, mul-pos, pos-of-ne-zero, le-of-lt, one-mul, mul-one, zero-mul, zero-add, add-zero}
 use native.Mathlib.Omega.{arith}
-use Rattle.grid.specs.declared.Grid.{Grid}
+use Rattle.grid.specs.declared.place.Grid.{Grid}
 use Rattle.table.specs.Cell.{View}
-use Rattle.sums.specs.declared.Bounds.{Bounds}
-use Rattle.sums.specs.Box.{boxSum, lowSide, highSide}
+use Rattle.boxes.specs.declared.sides.Bounds.{Bounds}
+use Rattle.sums.specs.Box.{boxSum}
+use Rattle.boxes.specs.Box.{lowSide, highSide}
 use Rattle.sums.proofs.Laws.{cut-sum}
 use Rattle.promises.specs.Criterion.{together, negative, Same, AtMost, exactQuotient, exactSpread, exactSquares, Cuts, exactScore, sidesSpread, Smallest}
 

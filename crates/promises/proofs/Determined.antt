@@ -6,19 +6,19 @@ use mathlib.Core.List.{List}
 use Prim.Native.Nat.{ℕ}
 use lib.Ieee.{Float}
 use denote.Ref.{now}
-use Rattle.grid.proofs.Determined.{determined}
+use Rattle.basics.proofs.Determined.{determined}
 use Rattle.cutter.specs.declared.CutRecord.{CutRecord}
 use Rattle.cutter.specs.Cut.{Buffers, buffers}
-use Rattle.grid.proofs.shift_of as shift-of
-use Rattle.grid.proofs.grid_of as grid-of
-use Rattle.grid.proofs.Grid.rgb as rgb
-use Rattle.grid.proofs.bin_of as bin-of
-use Rattle.grid.proofs.span_of as span-of
-use Rattle.grid.proofs.bins as bins
-use Rattle.grid.proofs.place as place
-use Rattle.grid.proofs.colour as colour
-use Rattle.grid.proofs.steps as steps
-use Rattle.grid.proofs.flat as flat
+use Rattle.grid.proofs.dimension.shift_of as shift-of
+use Rattle.grid.proofs.place.grid_of as grid-of
+use Rattle.grid.proofs.place.Grid.rgb as rgb
+use Rattle.grid.proofs.dimension.bin_of as bin-of
+use Rattle.grid.proofs.dimension.span_of as span-of
+use Rattle.grid.proofs.place.bins as bins
+use Rattle.grid.proofs.place.place as place
+use Rattle.pixels.proofs.colour.colour as colour
+use Rattle.grid.proofs.steps.steps as steps
+use Rattle.pixels.proofs.equal.equal_colours as flat
 use Rattle.table.proofs.cell_at as cell-at
 use Rattle.table.proofs.put_at as put-at
 use Rattle.table.proofs.plus as plus
@@ -33,8 +33,8 @@ use Rattle.spread.proofs.spread as spread
 use Rattle.spread.proofs.score as score
 use Rattle.spread.proofs.position_between as position-between
 use Rattle.spread.proofs.better as better
-use Rattle.spread.proofs.low_side as low-side
-use Rattle.spread.proofs.high_side as high-side
+use Rattle.boxes.proofs.sides.low_side as low-side
+use Rattle.boxes.proofs.sides.high_side as high-side
 use Rattle.spread.proofs.best_cut as best-cut
 use Rattle.heap.proofs.put_in as put-in
 use Rattle.heap.proofs.take_out as take-out
@@ -56,7 +56,7 @@ use Rattle.seluvava.proofs.seluvava_merge as exported-merge
 use Rattle.seluvava.proofs.seluvava_cut as exported-cut
 use Rattle.seluvava.proofs.seluvava_map as exported-map
 use Rattle.seluvava.proofs.seluvava_paint as exported-paint
-use Rattle.promises.specs.Determined.{Determines}
+use Rattle.basics.specs.Determines.{Determines}
 
 both : {A B : Type 0} {a c : A} {b d : B} → a ≡ c → b ≡ d → _≡_ {A = A × B} (a, b) (c, d)
 both p q = λ i. (p i, q i)

@@ -13,28 +13,33 @@ use lib.Dec.{ltb, lit<, lit≤}
 use lib.ListN.{length, getD, replicate, length-replicate, length-append, List·getD-append}
 use lib.Pow.{areBytes}
 use lib.Seq.{getD-append-add}
-use Rattle.grid.specs.declared.Chosen.the-variants.{Of}
-use Rattle.grid.specs.Answer.{whenDone}
-use Rattle.grid.specs.Range.{listFrom, sumFrom}
+use Rattle.grid.specs.declared.place.Chosen.the-variants as chosen
+use Rattle.basics.specs.Answer.{whenDone}
+use Rattle.basics.specs.Range.{listFrom, sumFrom}
 use Rattle.grid.specs.Size.{choices, shiftIn, shiftOf}
-use Rattle.grid.specs.Grid.{choose, gridWith, gridOf, onGrid, numberOn, Accepted, binsOf, placeOf}
-use Rattle.grid.proofs.Range.{and-left, and-right}
+use Rattle.basics.specs.Dimension.{choose}
+use Rattle.grid.specs.Grid.{gridWith, gridOf, onGrid, numberOn, Accepted, binsOf, placeOf}
+use Rattle.basics.proofs.Range.{and-left, and-right}
 use Rattle.grid.proofs.Places.{chose}
-use Rattle.table.specs.Cell.{View, wide}
+use Rattle.table.specs.Cell.{View}
+use Rattle.table.specs.Table.{viewOf}
 use Rattle.table.specs.Sound.{limit, total, sound}
-use Rattle.table.proofs.Cells.{wide-at}
+use Rattle.table.proofs.Cells.{view-at}
 use Rattle.loader.specs.Load.{Weighted, weightOf, tableOf, batchOf, loadNumber, loadLater}
 use Rattle.loader.proofs.Loading.{AllBytes}
 use Rattle.loader.proofs.Parts.{batch-weight, all-bytes-of}
 use Rattle.loader.proofs.Order.{bytes-append, weight-append, table-holds, table-total, table-sound, empty-table}
 use Rattle.loader.proofs.Batches.{batch-none, batch-append, load-stray, load-fits, load-passes}
-use Rattle.sums.specs.Box.{minAt, maxAt, sum3, binSum, boxSum, statsOf, lowSide, highSide}
-use Rattle.spread.specs.Spread.{zeroOf, quotientOf, oneBin, spreadOf, scoreOf}
+use Rattle.boxes.specs.Box.{minAt, maxAt, lowSide, highSide}
+use Rattle.sums.specs.Box.{sum3, binSum, boxSum, statsOf}
+use Rattle.spread.specs.Spread.{zeroOf, quotientOf, spreadOf, scoreOf}
+use Rattle.boxes.specs.Box.{oneBin}
 use Rattle.spread.specs.Cut.{positionOf, positionAt, laterWins, better, bestRun, bestIn, bestCut}
 use Rattle.heap.specs.Heap.{climb, putIn, sink, enter, takeOut}
 use Rattle.rounds.specs.declared.BoxSpread.{BoxSpread}
 use Rattle.rounds.specs.declared.Boxes.{Boxes}
-use Rattle.rounds.specs.Loop.{itself, wholeOf, startRoom, start, roomAfter, usedAfter, goesOn, roundRoom, roundUsed, round, rounds, heapOf, boxSpread, placesOf, boxesOf}
+use Rattle.rounds.specs.Loop.{itself, startRoom, start, roomAfter, usedAfter, goesOn, roundRoom, roundUsed, round, rounds, heapOf, boxSpread, placesOf, boxesOf}
+use Rattle.boxes.specs.Box.{wholeOf}
 use Rattle.cutter.specs.Fronts.{flat, filled}
 use Rattle.cutter.specs.Palette.{meanOf, colourOf, countOf, bytesOf, itsColour, itsCount, paletteLater, countsLater}
 use Rattle.cutter.specs.Cut.{lengthsOf, cutNumber, cutRecord, doneRecord, boundsOf, listOf, boxList, laterOn}
@@ -49,7 +54,7 @@ use Rattle.promises.specs.Listing.{atFirst, writtenFor, WholePixels, rea
 use Rattle.promises.proofs.Worked.{four-added}
 
 -- ---- a load on the program's grid
-is-grid8 : gridOf 8 8 8 ≡ Of grid8
+is-grid8 : gridOf 8 8 8 ≡ chosen.Accepted grid8
 unfolding choices shiftIn shiftOf gridWith gridOf
 is-grid8 = refl
 
@@ -95,10 +100,10 @@ module _ (bytes : List ℕ) (whole : length bytes % 3 ≡ 0) (few : length bytes
     accepted : Accepted grid8
     accepted = chose 8 8 8 grid8 is-grid8 .accepted
 
-    its-total : total grid8 (wide left) ≡ length bytes / 3
+    its-total : total grid8 (viewOf left) ≡ length bytes / 3
     its-total = table-total grid8 accepted (batchOf bytes false []) (all-bytes-of bytes false [] are) ∙ pixels bytes
 
-    its-sound : sound limit grid8 (wide left) ≡ true
+    its-sound : sound limit grid8 (viewOf left) ≡ true
     its-sound = table-sound grid8 accepted (batchOf bytes false []) (all-bytes-of bytes false [] are) (omega (arith, pixels bytes))
 
     -- it is cut where there are any pixels, and refused with 8 where there are none
@@ -164,9 +169,9 @@ unfolding fourTable number
 at-number zero = refl
 at-number (suc i) = behind 2554 (3 ∷ 765 ∷ 765 ∷ 765 ∷ 585225 ∷ []) i
 
-is-view : wide fourTable ≡ view
+is-view : viewOf fourTable ≡ view
 unfolding view
-is-view = λ i p j. (wide-at fourTable p j ∙ at-number (5 * p + j)) i
+is-view = λ i p j. (view-at fourTable p j ∙ at-number (5 * p + j)) i
 
 abbrev planes : ℕ → ℕ → BoxSpread
 planes from end = record { r0 = from; r1 = end; g0 = 0; g1 = 8; b0 = 0; b1 = 8; spread = zeroOf }
@@ -203,7 +208,7 @@ byte-at [] e k = lit< tt
 byte-at (x ∷ xs) e zero = ltb-true x 256 (and-left (ltb x 256) (areBytes xs) e)
 byte-at (x ∷ xs) e (suc k) = byte-at xs (and-right (ltb x 256) (areBytes xs) e) k
 
-four-cut : cutText fourTable ≡ listed (wide fourTable) (boxesOf grid8 (wide fourTable) 16)
+four-cut : cutText fourTable ≡ listed (viewOf fourTable) (boxesOf grid8 (viewOf fourTable) 16)
 unfolding fourPixels cutText whenDone lentZeros doneRecord laterOn boxList
 four-cut =
     let number = ap (λ (t : List ℕ). cutNumber 8 8 8 16 t lentZeros) (sym four-added) ∙ cuts fourPixels refl (lit≤ tt) (byte-at fourPixels refl) (lit< tt) in

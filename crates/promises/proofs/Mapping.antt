@@ -8,14 +8,15 @@ use Prim.Native.Nat.{ℕ, _+_, _*_, _/_, _≤_, _<_}
 use native.Mathlib.Omega.{arith}
 use lib.Dec.{eqb}
 use lib.ListN.{length, getD}
-use Rattle.grid.specs.declared.Grid.{Grid}
-use Rattle.grid.specs.declared.Chosen.the-variants.{Of}
-use Rattle.grid.specs.Grid.{gridOf, onGrid, numberOn, binsOf, colourAt, colourPlace}
+use Rattle.grid.specs.declared.place.Grid.{Grid}
+use Rattle.grid.specs.declared.place.Chosen.the-variants as chosen
+use Rattle.grid.specs.Grid.{gridOf, onGrid, numberOn, binsOf, colourPlace}
+use Rattle.pixels.specs.Colour.{colourAt}
 use Rattle.grid.proofs.Places.{chose, colour-place-lt}
-use Rattle.table.specs.Cell.{wide}
+use Rattle.table.specs.Table.{viewOf}
 use Rattle.loader.proofs.Parts.{colour-bytes}
 use Rattle.cutter.specs.Palette.{itsColour, coloursOf}
-use Rattle.cutter.specs.Map.{holds}
+use Rattle.boxes.specs.Holds.{holds}
 use Rattle.cutter.specs.Cut.{Buffers, cutNumber, cutRecord, boxList, laterOn}
 use Rattle.cutter.proofs.Fronts.{length-flat}
 use Rattle.cutter.proofs.Colours.{three}
@@ -34,7 +35,7 @@ use Rattle.promises.specs.Tiling.{boxesIn, boxIn}
 use Rattle.promises.specs.Mapping.{cutBoxes, cutMap, cutFront, SameIndices}
 use Rattle.promises.proofs.Tiling.{tiling}
 
-module _ (b1 b2 b3 k : ℕ) (t : List ℕ) (b : Buffers) {g : Grid} (e : gridOf b1 b2 b3 ≡ Of g) (n : cutNumber b1 b2 b3 k t b ≡ 0) where
+module _ (b1 b2 b3 k : ℕ) (t : List ℕ) (b : Buffers) {g : Grid} (e : gridOf b1 b2 b3 ≡ chosen.Accepted g) (n : cutNumber b1 b2 b3 k t b ≡ 0) where
   -- "every bin of it gets index i in the map" and "A pixel's index is the map's byte at its bin", over the call: a pixel of a mapped
   -- band has index i exactly where box i holds its bin
   pub pixel-index : (colours : ℕ) (frame indices : List ℕ) (first pixels : ℕ) → ((j : ℕ) → getD frame j 0 < 256)
@@ -65,7 +66,7 @@ module _ (b1 b2 b3 k : ℕ) (t : List ℕ) (b : Buffers) {g : Grid} (e : gridOf 
   unfolding coloursOf
   front-colours =
       let all = tiling b1 b2 b3 k t b e n in
-      thirds (ap length (all .front) ∙ length-flat 3 (itsColour g (wide t)) (three g (wide t)) (boxesIn (cutRecord b1 b2 b3 k t b)) ∙ ap (λ (m : ℕ). 3 * m) (all .listed))
+      thirds (ap length (all .front) ∙ length-flat 3 (itsColour g (viewOf t)) (three g (viewOf t)) (boxesIn (cutRecord b1 b2 b3 k t b)) ∙ ap (λ (m : ℕ). 3 * m) (all .listed))
     where
       thirds : {l m : ℕ} → l ≡ 3 * m → l / 3 ≡ m
       thirds q = omega arith

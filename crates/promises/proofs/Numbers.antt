@@ -11,13 +11,13 @@ use native.Mathlib.Omega.{arith}
 use borrow.Author.Tests.{eqb-true, eq-eqb, ne-eqb, leb-true, leb-false, le-leb, lt-leb}
 use lib.Dec.{eqb, leb, ltb}
 use lib.ListN.{length}
-use Rattle.grid.specs.declared.Chosen.{Chosen}
-use Rattle.grid.specs.declared.Chosen.the-variants as chosen
-use Rattle.grid.specs.Answer.{refuse}
+use Rattle.grid.specs.declared.place.Chosen.{Chosen}
+use Rattle.grid.specs.declared.place.Chosen.the-variants as chosen
+use Rattle.basics.specs.Answer.{refuse}
 use Rattle.grid.specs.Grid.{gridOf, gridAnswer, onGrid, numberOn, binsOf}
 use Rattle.grid.proofs.Ends.{call-done}
-use Rattle.grid.proofs.Range.{and-left, and-right}
-use Rattle.table.specs.Cell.{wide}
+use Rattle.basics.proofs.Range.{and-left, and-right}
+use Rattle.table.specs.Table.{viewOf}
 use Rattle.table.specs.Sound.{limit, total, sound, unsoundNumber}
 use Rattle.loader.specs.Load.{loadNumber, loadLater}
 use Rattle.loader.specs.Merge.{mergeNumber, mergeLater}
@@ -104,7 +104,7 @@ module _ (b1 b2 b3 : ℕ) where
   load-lowest t colours given weights = go (gridOf b1 b2 b3) refl ∙ lowest (loadTests (gridOf b1 b2 b3) t colours given weights) 1 (omega arith) refl
     where
       go : (c : Chosen) → gridOf b1 b2 b3 ≡ c → loadNumber b1 b2 b3 t colours given weights ≡ chain (loadTests (gridOf b1 b2 b3) t colours given weights)
-      go (chosen.Of g) e = load-tests b1 b2 b3 t colours given weights e ∙ rw e refl
+      go (chosen.Accepted g) e = load-tests b1 b2 b3 t colours given weights e ∙ rw e refl
       go chosen.Refused e = sym (load-no-grid b1 b2 b3 t colours given weights e .0) ∙ rw e refl
 
   pub merge-lowest : (t s : List ℕ) → mergeNumber b1 b2 b3 t s ≡ lowestOf (mergeApplies b1 b2 b3 t s)
@@ -115,9 +115,9 @@ module _ (b1 b2 b3 : ℕ) where
       pairs a b c d rest = ap (refuse (not (a && b)) 5) (both c d 6 rest) ∙ both a b 5 _
 
       go : (c : Chosen) → gridOf b1 b2 b3 ≡ c → mergeNumber b1 b2 b3 t s ≡ chain (mergeTests (gridOf b1 b2 b3) t s)
-      go (chosen.Of g) e =
+      go (chosen.Accepted g) e =
           merge-tests b1 b2 b3 t s e
-          ∙ pairs (eqb (length t) (5 * binsOf g)) (eqb (length s) (5 * binsOf g)) (sound limit g (wide t)) (sound limit g (wide s)) _
+          ∙ pairs (eqb (length t) (5 * binsOf g)) (eqb (length s) (5 * binsOf g)) (sound limit g (viewOf t)) (sound limit g (viewOf s)) _
           ∙ rw e refl
       go chosen.Refused e = sym (merge-no-grid b1 b2 b3 t s e .0) ∙ rw e refl
 
@@ -126,7 +126,7 @@ module _ (b1 b2 b3 : ℕ) where
   cut-lowest k t b = go (gridOf b1 b2 b3) ∙ lowest (cutTests (gridOf b1 b2 b3) k t b true) 1 (omega arith) refl
     where
       go : (c : Chosen) → numberOn c (λ g. cutNumberOn limit g k t (lengthsOf b)) ≡ chain (cutTests c k t b true)
-      go (chosen.Of g) = refl
+      go (chosen.Accepted g) = refl
       go chosen.Refused = refl
 
   pub call-lowest : (k : ℕ) (t : List ℕ) (l : Lent) → cutAnswer b1 b2 b3 k t l .number ≡ lowestOf (callApplies b1 b2 b3 k t l)
@@ -137,9 +137,9 @@ module _ (b1 b2 b3 : ℕ) where
       room = hasRoom k (length (l .boxes)) (length (l .spreads))
 
       go : (c : Chosen) → numberOn c (λ g. callNumberOn g k t l) ≡ chain (cutTests c k t (l .buffers) room)
-      go (chosen.Of g) =
+      go (chosen.Accepted g) =
           ap (refuse (not (leb 1 k && leb k 256)) 2)
-          (both (longEnough g k (length t) (lengthsOf (l .buffers))) room 5 (refuse (not (sound limit g (wide t))) unsoundNumber (refuse (eqb (total g (wide t)) 0) 8 0)))
+          (both (longEnough g k (length t) (lengthsOf (l .buffers))) room 5 (refuse (not (sound limit g (viewOf t))) unsoundNumber (refuse (eqb (total g (viewOf t)) 0) 8 0)))
       go chosen.Refused = refl
 
   module _ (map : List ℕ) where
@@ -155,7 +155,7 @@ module _ (b1 b2 b3 : ℕ) where
         lent = sym (both (leb 1 colours && leb colours 256) fits 5 rest) ∙ ap (λ (b : Bool). refuse (not b) 5 rest) e
 
         go : (c : Chosen) → numberOn c (λ g. bandNumber g map colours fits (length frame) first pixels) ≡ chain (bandTests c map colours lengths frame first pixels)
-        go (chosen.Of g) = ap (λ (n : ℕ). refuse (not (eqb (length frame % 3) 0)) 3 (refuse (not (eqb (length map) (binsOf g))) 5 n)) lent
+        go (chosen.Accepted g) = ap (λ (n : ℕ). refuse (not (eqb (length frame % 3) 0)) 3 (refuse (not (eqb (length map) (binsOf g))) 5 n)) lent
         go chosen.Refused = refl
 
     pub map-lowest : (colours : ℕ) (frame indices : List ℕ) (first pixels : ℕ) → mapNumber b1 b2 b3 map colours frame indices first pixels ≡ lowestOf (mapApplies b1 b2 b3 map colours frame indices first pixels)

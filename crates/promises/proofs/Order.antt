@@ -5,8 +5,8 @@ use mathlib.Core.Path.{_≡_, refl, sym, _∙_}
 use mathlib.Core.List.{List, Perm}
 use Prim.Native.Nat.{ℕ, suc, _≤_}
 use lib.ListN.{getD}
-use Rattle.grid.specs.declared.Grid.{Grid}
-use Rattle.grid.specs.declared.Chosen.the-variants.{Of}
+use Rattle.grid.specs.declared.place.Grid.{Grid}
+use Rattle.grid.specs.declared.place.Chosen.the-variants as chosen
 use Rattle.grid.specs.Grid.{gridOf, colourPlace}
 use Rattle.table.specs.Sound.{limit}
 use Rattle.loader.specs.Load.{weightOf, tableOf}
@@ -28,7 +28,7 @@ same-cut g b1 b2 b3 k b e =
       pixel = λ c i. getD (cutLater b1 b2 b3 k (e i) b .map) (colourPlace g c) 0;
     }
 
-module _ (b1 b2 b3 : ℕ) {g : Grid} (e : gridOf b1 b2 b3 ≡ Of g) (p q : Plan) (y : BytesIn p) (z : BytesIn q) (π : Perm (leaves p) (leaves q)) where
+module _ (b1 b2 b3 : ℕ) {g : Grid} (e : gridOf b1 b2 b3 ≡ chosen.Accepted g) (p q : Plan) (y : BytesIn p) (z : BytesIn q) (π : Perm (leaves p) (leaves q)) where
   -- plans that ran to tables ran to the same table
   pub ran-same : {t s : List ℕ} → run b1 b2 b3 p ≡ Table t → run b1 b2 b3 q ≡ Table s → t ≡ s
   ran-same r u = ran-table b1 b2 b3 e p y r .1 ∙ table-perm g π ∙ sym (ran-table b1 b2 b3 e q z u .1)
@@ -49,7 +49,7 @@ module _ (b1 b2 b3 : ℕ) {g : Grid} (e : gridOf b1 b2 b3 ≡ Of g) (p q : Plan)
         alike = ran-alike (ran .0) (ran .1 ∙ ran .0);
       }
 
-module _ (b1 b2 b3 : ℕ) {g : Grid} (e : gridOf b1 b2 b3 ≡ Of g) (p : Plan) (y : BytesIn p) (h : weightOf (leaves p) ≤ limit) where
+module _ (b1 b2 b3 : ℕ) {g : Grid} (e : gridOf b1 b2 b3 ≡ chosen.Accepted g) (p : Plan) (y : BytesIn p) (h : weightOf (leaves p) ≤ limit) where
   -- how a plan whose total fits ends: refused with the number of its first malformed batch, or else with the table of its colours
   pub plan-ends : run b1 b2 b3 p ≡ ranOf (firstMalformed p) (tableOf g (leaves p))
   plan-ends = run-is b1 b2 b3 e p y h

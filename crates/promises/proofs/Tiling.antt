@@ -8,29 +8,30 @@ use Prim.Native.Nat.{ℕ, _+_, _*_, _≤_, _<_}
 use native.Mathlib.Omega.{arith}
 use lib.Dec.{lit<}
 use lib.ListN.{length, getD}
-use Rattle.grid.specs.declared.Grid.{Grid}
-use Rattle.grid.specs.declared.Chosen.the-variants.{Of}
-use Rattle.grid.specs.Range.{sumFrom}
+use Rattle.grid.specs.declared.place.Grid.{Grid}
+use Rattle.grid.specs.declared.place.Chosen.the-variants as chosen
+use Rattle.basics.specs.Range.{sumFrom}
 use Rattle.grid.specs.Grid.{gridOf, Accepted, binsOf, colourPlace}
-use Rattle.grid.proofs.Range.{sum-same}
+use Rattle.basics.proofs.Range.{sum-same}
 use Rattle.grid.proofs.Places.{Bytes, colour-place-lt}
-use Rattle.table.specs.Cell.{wide}
+use Rattle.table.specs.Table.{viewOf}
 use Rattle.table.specs.Sound.{total}
 use Rattle.loader.specs.Load.{Weighted, sumOver, tableOf}
 use Rattle.loader.specs.Plan.{Plan, Table, run, leaves, BytesIn}
 use Rattle.loader.proofs.Loading.{AllBytes, share-weight, over-none, over-more}
 use Rattle.loader.proofs.Order.{table-holds, leaves-bytes}
 use Rattle.loader.proofs.Ran.{ran-table}
-use Rattle.sums.specs.declared.Bounds.{Bounds}
-use Rattle.sums.specs.Box.{Within}
+use Rattle.boxes.specs.declared.sides.Bounds.{Bounds}
+use Rattle.boxes.specs.Box.{Within}
 use Rattle.sums.proofs.Loaded.{lies, loaded-box}
 use Rattle.sums.proofs.Same.{box-same}
 use Rattle.rounds.specs.declared.Boxes.{Boxes}
-use Rattle.rounds.specs.Loop.{noBox, boxesOf}
+use Rattle.boxes.specs.Box.{noBox}
+use Rattle.rounds.specs.Loop.{boxesOf}
 use Rattle.rounds.proofs.Filled.{heap-most}
 use Rattle.cutter.specs.declared.CutRecord.{CutRecord}
 use Rattle.cutter.specs.Palette.{countOf, paletteLater, countsLater, frontOf}
-use Rattle.cutter.specs.Map.{holds}
+use Rattle.boxes.specs.Holds.{holds}
 use Rattle.cutter.specs.Cut.{Buffers, lengthsOf, cutNumber, doneRecord, cutRecord, listOf, boxList, laterOn, cutLater, CanCut, Found}
 use Rattle.cutter.proofs.Colours.{front-filled, palette-at, counts-at}
 use Rattle.cutter.proofs.Listed.{list-length}
@@ -43,43 +44,43 @@ use Rattle.promises.specs.Tiling.{boxesIn, boxIn, Tiling, LoadedCounts}
 -- ---- a cut that nothing refuses
 module _ {g : Grid} {k : ℕ} {t : List ℕ} (b : Buffers) (a : Accepted g) (c : CanCut g k t (lengthsOf b)) where
   abbrev found : Boxes
-  found = boxesOf g (wide t) k
+  found = boxesOf g (viewOf t) k
 
   abbrev boxes : List Bounds
   boxes = listOf (found .found) (found .places)
 
-  are-found : Found g (wide t) found
-  are-found = all-found g (wide t) k (c .most) a (c .some)
+  are-found : Found g (viewOf t) found
+  are-found = all-found g (viewOf t) k (c .most) a (c .some)
 
   in-list : {i : ℕ} → i < found .found → i < length boxes
   in-list h = omega (arith, list-length (are-found .placed))
 
-  counts-all : sumFrom 0 (found .found) (λ i. getD (countsLater g (wide t) boxes (b .counts)) i 0) ≡ total g (wide t)
+  counts-all : sumFrom 0 (found .found) (λ i. getD (countsLater g (viewOf t) boxes (b .counts)) i 0) ≡ total g (viewOf t)
   unfolding boxesOf
   counts-all =
-      sum-same 0 (found .found) _ _ (λ i l h. counts-at g (wide t) boxes (b .counts) i noBox (in-list (omega arith)))
-      ∙ ap (λ (xs : List Bounds). sumFrom 0 (found .found) (λ i. countOf g (wide t) (getD xs i noBox))) (list-found g (wide t) k (c .most))
-      ∙ counts-total g (wide t) k (c .most)
+      sum-same 0 (found .found) _ _ (λ i l h. counts-at g (viewOf t) boxes (b .counts) i noBox (in-list (omega arith)))
+      ∙ ap (λ (xs : List Bounds). sumFrom 0 (found .found) (λ i. countOf g (viewOf t) (getD xs i noBox))) (list-found g (viewOf t) k (c .most))
+      ∙ counts-total g (viewOf t) k (c .most)
 
   fits : 3 * length boxes ≤ length (b .palette)
   unfolding boxesOf
-  fits = omega (arith, list-length (are-found .placed), heap-most g (wide t) k (c .least) (c .most), c .palette)
+  fits = omega (arith, list-length (are-found .placed), heap-most g (viewOf t) k (c .least) (c .most), c .palette)
 
   done-tiling : Tiling g t (doneRecord found) (laterOn g k t b)
   unfolding boxesIn boxIn doneRecord laterOn boxList countOf
   done-tiling =
-      let tiles = list-tiles g (wide t) k (c .most) a in
+      let tiles = list-tiles g (viewOf t) k (c .most) a in
       record {
         listed = list-length (are-found .placed);
         tiles = tiles;
         within = are-found .placed .within;
-        count = λ i h. counts-at g (wide t) boxes (b .counts) i noBox (in-list h) ∙ sum-of-held (are-found .placed .within i h) (wide t) 0;
-        some = λ i h. omega (arith, counts-at g (wide t) boxes (b .counts) i noBox (in-list h), are-found .some i h);
+        count = λ i h. counts-at g (viewOf t) boxes (b .counts) i noBox (in-list h) ∙ sum-of-held (are-found .placed .within i h) (viewOf t) 0;
+        some = λ i h. omega (arith, counts-at g (viewOf t) boxes (b .counts) i noBox (in-list h), are-found .some i h);
         all = counts-all;
         index = λ i p h l. box-of-index g boxes tiles i noBox p (in-list h) l;
         below = λ p l. omega (arith, map-below g boxes tiles p l, list-length (are-found .placed));
-        colour = λ i h. palette-at g (wide t) boxes (b .palette) i noBox (in-list h);
-        front = ap (frontOf (paletteLater g (wide t) boxes (b .palette))) (sym (list-length (are-found .placed))) ∙ front-filled g (wide t) boxes (b .palette) fits;
+        colour = λ i h. palette-at g (viewOf t) boxes (b .palette) i noBox (in-list h);
+        front = ap (frontOf (paletteLater g (viewOf t) boxes (b .palette))) (sym (list-length (are-found .placed))) ∙ front-filled g (viewOf t) boxes (b .palette) fits;
       }
 
 -- ---- the boxes of a loaded table
@@ -90,10 +91,10 @@ same-over (c ∷ cs) b f h e = over-more c cs f ∙ (λ i. e c (b .0) i + same-o
 
 -- the weight of a box: that of the loaded colours whose bin lies in it
 weight-loaded : {g : Grid} {x : Bounds} → Within g x → (cs : List Weighted) → AllBytes cs
-    → sumFrom 0 (binsOf g) (λ p. cond (holds g x p) (wide (tableOf g cs) p 0) 0) ≡ sumOver cs (λ c. cond (holds g x (colourPlace g (c .colour))) (c .weight) 0)
+    → sumFrom 0 (binsOf g) (λ p. cond (holds g x p) (viewOf (tableOf g cs) p 0) 0) ≡ sumOver cs (λ c. cond (holds g x (colourPlace g (c .colour))) (c .weight) 0)
 unfolding lies
 weight-loaded {g} {x} w cs b =
-    sym (sum-of-held w (wide (tableOf g cs)) 0)
+    sym (sum-of-held w (viewOf (tableOf g cs)) 0)
     ∙ box-same (table-holds g cs .at) w 0 (lit< tt)
     ∙ loaded-box w 0 cs b
     ∙ same-over cs b _ _ (λ c y. λ i. cond (sym (holds-colour w y) i) (share-weight c i) 0)
@@ -109,7 +110,7 @@ tiling-loaded {g} a cs b {r} {later} t =
     }
 
 -- ---- the promises
-module _ (b1 b2 b3 k : ℕ) (t : List ℕ) (b : Buffers) {g : Grid} (e : gridOf b1 b2 b3 ≡ Of g) (n : cutNumber b1 b2 b3 k t b ≡ 0) where
+module _ (b1 b2 b3 k : ℕ) (t : List ℕ) (b : Buffers) {g : Grid} (e : gridOf b1 b2 b3 ≡ chosen.Accepted g) (n : cutNumber b1 b2 b3 k t b ≡ 0) where
   -- at any total, of every table that a cut is done with
   pub tiling : Tiling g t (cutRecord b1 b2 b3 k t b) (cutLater b1 b2 b3 k t b)
   tiling = let d = cut-says b1 b2 b3 k t b e n in rw (d .hands, d .leaves) (done-tiling b (d .accepted) (d .can))

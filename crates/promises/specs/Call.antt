@@ -4,8 +4,9 @@ use mathlib.Core.List.{List}
 use Prim.Native.Nat.{ℕ, _+_, _*_, _≤_, _<_}
 use lib.ListN.{length, getD}
 use lib.Ieee.{nan}
-use Rattle.sums.specs.declared.Bounds.{Bounds}
-use Rattle.rounds.specs.Loop.{noBox, spent, boxSpread}
+use Rattle.boxes.specs.declared.sides.Bounds.{Bounds}
+use Rattle.boxes.specs.Box.{noBox}
+use Rattle.rounds.specs.Loop.{spent, boxSpread}
 use Rattle.cutter.specs.declared.CutRecord.{CutRecord}
 use Rattle.cutter.specs.Cut.{Buffers}
 use Rattle.seluvava.specs.declared.CutAnswer.{CutAnswer}

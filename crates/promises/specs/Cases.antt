@@ -6,13 +6,13 @@ use lib.IntN.{pos}
 use lib.ListN.{length, replicate}
 use lib.Ieee.{Float, inf, fin}
 use Rattle.grid.specs.Grid.{gridOf, onGrid}
-use Rattle.table.specs.Cell.{wide}
+use Rattle.table.specs.Table.{viewOf}
 use Rattle.loader.specs.Load.{loadNumber, loadLater}
 use Rattle.loader.specs.Plan.{Batch}
 use Rattle.spread.specs.Spread.{zeroOf}
 use Rattle.spread.specs.Cut.{Told, positionAnswer, bestCut}
 use Rattle.rounds.specs.declared.BoxSpread.{BoxSpread}
-use Rattle.rounds.specs.Loop.{wholeOf}
+use Rattle.boxes.specs.Box.{wholeOf}
 use Rattle.cutter.specs.declared.CutRecord.{CutRecord}
 use Rattle.cutter.specs.Cut.{Buffers, buffers, cutRecord, cutLater}
 
@@ -54,7 +54,7 @@ nowhere = record { number = 0; values = []; scores = [] }
 
 -- the best position to cut the whole grid
 unfoldable pub positionIn : ℕ → ℕ → ℕ → List ℕ → Told
-positionIn b1 b2 b3 t = onGrid (gridOf b1 b2 b3) nowhere (λ g. positionAnswer (bestCut g (wide t) (wholeOf g)))
+positionIn b1 b2 b3 t = onGrid (gridOf b1 b2 b3) nowhere (λ g. positionAnswer (bestCut g (viewOf t) (wholeOf g)))
 
 -- what is lent to the cut: long enough for every k here, and nowhere zero
 unfoldable pub lentTo : ℕ → Buffers

@@ -6,11 +6,11 @@ use mathlib.Core.List.{List, [], _∷_}
 use Prim.Native.Nat.{ℕ, zero, suc, _+_, _*_, _/_, _%_, _≤_}
 use lib.Dec.{eqb, leb, ltb}
 use lib.ListN.{length}
-use Rattle.grid.specs.declared.Grid.{Grid}
-use Rattle.grid.specs.declared.Chosen.{Chosen}
-use Rattle.grid.specs.declared.Chosen.the-variants.{Of}
+use Rattle.grid.specs.declared.place.Grid.{Grid}
+use Rattle.grid.specs.declared.place.Chosen.{Chosen}
+use Rattle.grid.specs.declared.place.Chosen.the-variants as chosen
 use Rattle.grid.specs.Grid.{gridOf, gridAnswer, onGrid, binsOf}
-use Rattle.table.specs.Cell.{wide}
+use Rattle.table.specs.Table.{viewOf}
 use Rattle.table.specs.Sound.{limit, total, sound}
 use Rattle.loader.specs.Load.{weightOf, batchOf}
 use Rattle.cutter.specs.Cut.{Buffers, lengthsOf, longEnough}
@@ -51,8 +51,8 @@ loadTests c t colours given weights =
     ∷ (3, not (eqb (length colours % 3) 0))
     ∷ (4, given && not (eqb (length weights) (length colours / 3)))
     ∷ (5, onBins c (λ g. not (eqb (length t) (5 * binsOf g))))
-    ∷ (6, onBins c (λ g. not (sound limit g (wide t))))
-    ∷ (7, onBins c (λ g. ltb limit (total g (wide t) + weightOf (batchOf colours given weights))))
+    ∷ (6, onBins c (λ g. not (sound limit g (viewOf t))))
+    ∷ (7, onBins c (λ g. ltb limit (total g (viewOf t) + weightOf (batchOf colours given weights))))
     ∷ []
 
 unfoldable pub loadApplies : ℕ → ℕ → ℕ → List ℕ → List ℕ → Bool → List ℕ → ℕ → Bool
@@ -64,9 +64,9 @@ mergeTests c t s =
     (1, noGrid c)
     ∷ (5, onBins c (λ g. not (eqb (length t) (5 * binsOf g))))
     ∷ (5, onBins c (λ g. not (eqb (length s) (5 * binsOf g))))
-    ∷ (6, onBins c (λ g. not (sound limit g (wide t))))
-    ∷ (6, onBins c (λ g. not (sound limit g (wide s))))
-    ∷ (7, onBins c (λ g. ltb limit (total g (wide t) + total g (wide s))))
+    ∷ (6, onBins c (λ g. not (sound limit g (viewOf t))))
+    ∷ (6, onBins c (λ g. not (sound limit g (viewOf s))))
+    ∷ (7, onBins c (λ g. ltb limit (total g (viewOf t) + total g (viewOf s))))
     ∷ []
 
 unfoldable pub mergeApplies : ℕ → ℕ → ℕ → List ℕ → List ℕ → ℕ → Bool
@@ -79,8 +79,8 @@ cutTests c k t b room =
     ∷ (2, not (leb 1 k && leb k 256))
     ∷ (5, onBins c (λ g. not (longEnough g k (length t) (lengthsOf b))))
     ∷ (5, not room)
-    ∷ (6, onBins c (λ g. not (sound limit g (wide t))))
-    ∷ (8, onBins c (λ g. eqb (total g (wide t)) 0))
+    ∷ (6, onBins c (λ g. not (sound limit g (viewOf t))))
+    ∷ (8, onBins c (λ g. eqb (total g (viewOf t)) 0))
     ∷ []
 
 unfoldable pub cutApplies : ℕ → ℕ → ℕ → ℕ → List ℕ → Buffers → ℕ → Bool
@@ -114,7 +114,7 @@ paintApplies b1 b2 b3 map palette frame first pixels =
 -- no 1: each size is among the seven; and on their grid, none of the call's other numbers
 pub record OnGrid (b1 b2 b3 : ℕ) (Can : Grid → Type 0) : Type 0 where
   pub g : Grid
-  pub chosen : gridOf b1 b2 b3 ≡ Of g
+  pub chosen : gridOf b1 b2 b3 ≡ chosen.Accepted g
   pub can : Can g
 
 -- of a load, no 3, 4, 5, 6, 7
@@ -122,14 +122,14 @@ pub record CanLoad (t colours : List ℕ) (given : Bool) (weights : List ℕ) (g
   pub threes : length colours % 3 ≡ 0
   pub paired : given ≡ true → length weights ≡ length colours / 3
   pub lent : length t ≡ 5 * binsOf g
-  pub is-sound : sound limit g (wide t) ≡ true
-  pub fits : total g (wide t) + weightOf (batchOf colours given weights) ≤ limit
+  pub is-sound : sound limit g (viewOf t) ≡ true
+  pub fits : total g (viewOf t) + weightOf (batchOf colours given weights) ≤ limit
 
 -- of a merge, no 5, 6, 7
 pub record CanMerge (t s : List ℕ) (g : Grid) : Type 0 where
   pub lent : (length t ≡ 5 * binsOf g) × (length s ≡ 5 * binsOf g)
-  pub are-sound : (sound limit g (wide t) ≡ true) × (sound limit g (wide s) ≡ true)
-  pub fits : total g (wide t) + total g (wide s) ≤ limit
+  pub are-sound : (sound limit g (viewOf t) ≡ true) × (sound limit g (viewOf s) ≡ true)
+  pub fits : total g (viewOf t) + total g (viewOf s) ≤ limit
 
 -- of a mapping, no 3, 5, 9
 pub record CanMap (map : List ℕ) (colours : ℕ) (frame indices : List ℕ) (first pixels : ℕ) (g : Grid) : Type 0 where

@@ -3,8 +3,8 @@ use mathlib.Core.Path.{_≡_}
 use mathlib.Core.List.{List}
 use Prim.Native.Nat.{ℕ}
 use lib.ListN.{getD}
-use Rattle.grid.specs.declared.Rgb.{Rgb}
-use Rattle.grid.specs.declared.Grid.{Grid}
+use Rattle.pixels.specs.declared.colour.Rgb.{Rgb}
+use Rattle.grid.specs.declared.place.Grid.{Grid}
 use Rattle.grid.specs.Grid.{colourPlace}
 use Rattle.loader.specs.Plan.{Plan, Table, run}
 use Rattle.cutter.specs.Cut.{Buffers, cutRecord, cutLater}

@@ -10,17 +10,18 @@ use native.Mathlib.Omega.{arith}
 use borrow.Author.Tests.{eq-eqb}
 use lib.ListN.{length}
 use lib.Ieee.{Float, nan, inf, fin, up, down, lt, eq}
-use Rattle.grid.specs.declared.Grid.{Grid}
+use Rattle.grid.specs.declared.place.Grid.{Grid}
 use Rattle.grid.specs.Grid.{Accepted}
 use Rattle.table.specs.Cell.{View}
 use Rattle.table.specs.Sound.{limit, total}
 use Rattle.table.proofs.Soundness.{Sound}
-use Rattle.sums.specs.declared.Bounds.{Bounds}
-use Rattle.sums.specs.Box.{boxSum, statsOf, lowSide, highSide, Within}
+use Rattle.boxes.specs.declared.sides.Bounds.{Bounds}
+use Rattle.sums.specs.Box.{boxSum, statsOf}
+use Rattle.boxes.specs.Box.{lowSide, highSide, Within}
 use Rattle.spread.specs.Spread.{zeroOf, spreadOf}
 use Rattle.spread.proofs.Finite.{spread-finite}
 use Rattle.heap.specs.Heap.{Item, Room, item, putIn, takeOut, InOrder, NoNaN}
-use Rattle.floats.proofs.Compare.{not-less-trans, finite-number}
+use Rattle.basics.proofs.Compare.{not-less-trans, finite-number}
 use Rattle.heap.proofs.Order.{put-in-order, take-out-order, top-greatest}
 use Rattle.rounds.specs.Loop.{Heap, noItem, itself, spent, startRoom, start, goesOn, roundRoom, roundUsed, round, rounds, heapOf}
 use Rattle.rounds.proofs.Turning.{room-stops, used-stops, round-cases}

@@ -8,20 +8,23 @@ use lib.Dec.{ltb}
 use lib.ListN.{length, replicate, length-set, length-replicate}
 use lib.Ieee.{Float, inf}
 use borrow.Author.Tests.{ltb-true}
-use Rattle.grid.specs.declared.Grid.{Grid}
+use Rattle.grid.specs.declared.place.Grid.{Grid}
 use Rattle.grid.specs.Grid.{Accepted}
 use Rattle.table.specs.Cell.{View}
 use Rattle.table.specs.Sound.{total}
 use Rattle.table.proofs.Soundness.{total-is}
-use Rattle.sums.specs.declared.Bounds.{Bounds}
-use Rattle.sums.specs.Box.{boxSum, lowSide, highSide, Within}
+use Rattle.boxes.specs.declared.sides.Bounds.{Bounds}
+use Rattle.sums.specs.Box.{boxSum}
+use Rattle.boxes.specs.Box.{lowSide, highSide, Within}
 use Rattle.spread.specs.declared.Position.the-variants.{At, Nowhere}
 use Rattle.spread.specs.Cut.{bestCut}
 use Rattle.spread.proofs.Best.{answered}
 use Rattle.heap.specs.Heap.{Item, Room, item, putIn, takeOut}
 use Rattle.heap.proofs.Keeps.{put-in-long, put-in-all, take-out-long, take-out-all}
-use Rattle.rounds.specs.Loop.{Heap, noBox, noItem, itself, spent, wholeOf, startRoom, goesOn, roundRoom, roundUsed, round, rounds, start, heapOf}
-use Rattle.rounds.proofs.Grids.{whole-within, whole-sum}
+use Rattle.rounds.specs.Loop.{Heap, noItem, itself, spent, startRoom, goesOn, roundRoom, roundUsed, round, rounds, start, heapOf}
+use Rattle.boxes.specs.Box.{noBox, wholeOf}
+use Rattle.boxes.proofs.Whole.{whole-within}
+use Rattle.rounds.proofs.Grids.{whole-sum}
 use Rattle.rounds.proofs.Turning.{low-box, high-box, round-cases}
 
 -- a room with n places in use

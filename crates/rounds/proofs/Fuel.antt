@@ -10,10 +10,10 @@ use borrow.Author.Tests.{ltb-true, le-ltb, lt-ltb}
 use lib.Dec.{ltb}
 use lib.ListN.{length, take}
 use lib.Ieee.{lt, eq}
-use Rattle.grid.specs.declared.Grid.{Grid}
+use Rattle.grid.specs.declared.place.Grid.{Grid}
 use Rattle.table.specs.Cell.{View}
-use Rattle.sums.specs.declared.Bounds.{Bounds}
-use Rattle.sums.specs.Box.{lowSide, highSide}
+use Rattle.boxes.specs.declared.sides.Bounds.{Bounds}
+use Rattle.boxes.specs.Box.{lowSide, highSide}
 use Rattle.heap.specs.Heap.{Item, Room, item, putIn, takeOut, sumItems}
 use Rattle.heap.proofs.Keeps.{put-in-long, put-in-sum, take-out-sum}
 use Rattle.rounds.specs.Loop.{Heap, noItem, itself, spent, startRoom, start, goesOn, roundRoom, roundUsed, round, rounds, heapOf}

@@ -7,14 +7,15 @@ use Prim.Native.Nat.{ℕ, zero, suc, _*_, _≤_, _<_, min}
 use native.Mathlib.Omega.{arith}
 use lib.ListN.{length}
 use lib.Ieee.{lt, eq}
-use Rattle.grid.specs.declared.Grid.{Grid}
-use Rattle.grid.specs.Range.{sumFrom}
+use Rattle.grid.specs.declared.place.Grid.{Grid}
+use Rattle.basics.specs.Range.{sumFrom}
 use Rattle.grid.specs.Grid.{Accepted, binsOf}
 use Rattle.table.specs.Cell.{View}
 use Rattle.table.specs.Sound.{limit, total}
 use Rattle.table.proofs.Soundness.{Sound}
-use Rattle.sums.specs.declared.Bounds.{Bounds}
-use Rattle.sums.specs.Box.{statsOf, lowSide, highSide, marks, occupiedIn}
+use Rattle.boxes.specs.declared.sides.Bounds.{Bounds}
+use Rattle.sums.specs.Box.{statsOf, marks, occupiedIn}
+use Rattle.boxes.specs.Box.{lowSide, highSide}
 use Rattle.sums.proofs.Laws.{cut-sum}
 use Rattle.sums.proofs.Occupied.{Two, some-occupied, one-at-most}
 use Rattle.spread.specs.declared.Position.the-variants.{Nowhere}
@@ -22,7 +23,8 @@ use Rattle.spread.specs.Spread.{spreadOf, SpreadsAbove}
 use Rattle.spread.specs.Cut.{bestCut}
 use Rattle.spread.proofs.Best.{two-occupied}
 use Rattle.heap.specs.Heap.{Item, Room, item, sumItems}
-use Rattle.rounds.specs.Loop.{noItem, itself, wholeOf, start, goesOn, heapOf}
+use Rattle.rounds.specs.Loop.{noItem, itself, start, goesOn, heapOf}
+use Rattle.boxes.specs.Box.{wholeOf}
 use Rattle.rounds.proofs.Grids.{whole-sum}
 use Rattle.rounds.proofs.Filled.{Each, Kept, Fit, atStart, each-rounds, start-each, heap-fit, heap-most}
 use Rattle.rounds.proofs.Cover.{Additive, over, over-heap}

@@ -11,11 +11,12 @@ use borrow.Author.Tests.{lt-ltb, le-ltb}
 use lib.Dec.{ltb}
 use lib.ListN.{length, getD, set, replicate, length-set, length-replicate, getD-replicate}
 use lib.Seq.{getD-set-same, getD-set-other}
-use Rattle.grid.proofs.Range.{list-is}
-use Rattle.sums.specs.declared.Bounds.{Bounds}
+use Rattle.basics.proofs.Range.{list-is}
+use Rattle.boxes.specs.declared.sides.Bounds.{Bounds}
 use Rattle.heap.specs.Heap.{Room, item}
 use Rattle.rounds.specs.declared.BoxSpread.{BoxSpread}
-use Rattle.rounds.specs.Loop.{noBox, noItem, spent, boxSpread, placesOf}
+use Rattle.boxes.specs.Box.{noBox}
+use Rattle.rounds.specs.Loop.{noItem, spent, boxSpread, placesOf}
 
 -- a place without a box
 abbrev pub noPlace : BoxSpread

@@ -8,74 +8,24 @@ use native.Mathlib.Nat.{le-of-lt}
 use native.Mathlib.Omega.{arith}
 use lib.ListN.{getD, set, replicate}
 use lib.Ieee.{Float, nan, inf}
-use Rattle.grid.specs.declared.Grid.{Grid}
-use Rattle.grid.specs.Grid.{choose, sizeAt}
+use Rattle.grid.specs.declared.place.Grid.{Grid}
+use Rattle.basics.specs.Dimension.{choose}
+use Rattle.grid.specs.Grid.{sizeAt}
 use Rattle.grid.proofs.Size.{size-high}
 use Rattle.grid.proofs.Places.{sized-at}
-use Rattle.sums.specs.declared.Bounds.{Bounds}
-use Rattle.sums.specs.Box.{Within}
-use Rattle.sums.proofs.Corners.{sides}
-use Rattle.spread.specs.Spread.{zeroOf, Ordered}
+use Rattle.boxes.specs.declared.sides.Bounds.{Bounds}
+use Rattle.boxes.specs.Box.{Within}
+use Rattle.boxes.proofs.Within.{sides}
+use Rattle.spread.specs.Spread.{zeroOf}
+use Rattle.boxes.specs.Box.{Ordered}
 use Rattle.heap.specs.Heap.{item, putIn, takeOut, viewItem, viewRoom}
 use Rattle.heap.specs.Lent.{Lent, roomOf, spreadsOf, boxesOf, noItem as noPacked}
 use Rattle.heap.proofs.Lent.{alike, room-item, room-is, room-long, lent-of}
 use Rattle.heap.proofs.Keeps.{put-in-long, take-out-long}
 use Rattle.heap.proofs.View.{item-view, put-in-view, take-out-view}
-use Rattle.rounds.specs.Pack.{packOf, boxOf, Bytes}
-use Rattle.rounds.specs.Loop.{noBox, noItem, spent, wholeOf, startRoom, roomIn}
-
-low-byte : (a n : ℕ) → a < 256 → (a + 256 * n) % 256 ≡ a
-low-byte a n h = omega arith
-
-other-bytes : (a n : ℕ) → a < 256 → (a + 256 * n) / 256 ≡ n
-other-bytes a n h = omega arith
-
-pub box-pack : (x : Bounds) → Bytes x → boxOf (packOf x) ≡ x
-unfolding packOf boxOf
-box-pack x h =
-    let n5 = x .b1 in
-    let n4 = x .b0 + 256 * n5 in
-    let n3 = x .g1 + 256 * n4 in
-    let n2 = x .g0 + 256 * n3 in
-    let n1 = x .r1 + 256 * n2 in
-    let d1 = other-bytes (x .r0) n1 (h .r0) in
-    let d2 = ap (λ (m : ℕ). m / 256) d1 ∙ other-bytes (x .r1) n2 (h .r1) in
-    let d3 = ap (λ (m : ℕ). m / 256) d2 ∙ other-bytes (x .g0) n3 (h .g0) in
-    let d4 = ap (λ (m : ℕ). m / 256) d3 ∙ other-bytes (x .g1) n4 (h .g1) in
-    let d5 = ap (λ (m : ℕ). m / 256) d4 ∙ other-bytes (x .b0) n5 (h .b0) in
-    λ i.
-    record {
-      r0 = low-byte (x .r0) n1 (h .r0) i;
-      r1 = (ap (λ (m : ℕ). m % 256) d1 ∙ low-byte (x .r1) n2 (h .r1)) i;
-      g0 = (ap (λ (m : ℕ). m % 256) d2 ∙ low-byte (x .g0) n3 (h .g0)) i;
-      g1 = (ap (λ (m : ℕ). m % 256) d3 ∙ low-byte (x .g1) n4 (h .g1)) i;
-      b0 = (ap (λ (m : ℕ). m % 256) d4 ∙ low-byte (x .b0) n5 (h .b0)) i;
-      b1 = (ap (λ (m : ℕ). m % 256) d5 ∙ last (x .b1) (h .b1)) i;
-    }
-  where
-    last : (a : ℕ) → a < 256 → a % 256 ≡ a
-    last a l = omega arith
-
--- the ends of a box of a grid are bytes
-pub within-bytes : {g : Grid} {x : Bounds} → Within g x → Bytes x
-unfolding sizeAt choose
-within-bytes {g} {x} w =
-    let s = sides w in
-    let high : (d : ℕ) → sizeAt g d ≤ 128 = λ d. size-high (sized-at (w .accepted) d) in
-    let one : g .b1 ≤ 128 = high 0 in
-    let two : g .b2 ≤ 128 = high 1 in
-    let three : g .b3 ≤ 128 = high 2 in
-    record {
-      r0 = omega (arith, s .one, s .one-fits);
-      r1 = omega (arith, s .one-fits);
-      g0 = omega (arith, s .two, s .two-fits);
-      g1 = omega (arith, s .two-fits);
-      b0 = omega (arith, s .three, s .three-fits);
-      b1 = omega (arith, s .three-fits);
-    }
-
-pub within-ordered : {g : Grid} {x : Bounds} → Within g x → Ordered x
-within-ordered w = let s = sides w in record { one = le-of-lt (s .one); two = le-of-lt (s .two); three = le-of-lt (s .three) }
+use Rattle.boxes.specs.Bytes.{packOf, boxOf, Bytes}
+use Rattle.boxes.specs.Box.{noBox, wholeOf}
+use Rattle.rounds.specs.Loop.{noItem, spent, startRoom, roomIn}
 
 -- ---- what the heap says of two lent arrays, said of the boxes in them
 nothing-there : viewItem boxOf noPacked ≡ noItem

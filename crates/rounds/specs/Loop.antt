@@ -5,11 +5,12 @@ use Prim.Native.Nat.{ℕ, zero, suc, _+_, _-_, _*_}
 use lib.Dec.{ltb}
 use lib.ListN.{set, replicate}
 use lib.Ieee.{Float, nan, inf, lt, eq}
-use Rattle.grid.specs.declared.Grid.{Grid}
-use Rattle.grid.specs.Range.{listFrom}
+use Rattle.grid.specs.declared.place.Grid.{Grid}
+use Rattle.basics.specs.Range.{listFrom}
 use Rattle.table.specs.Cell.{View}
-use Rattle.sums.specs.declared.Bounds.{Bounds}
-use Rattle.sums.specs.Box.{statsOf, lowSide, highSide}
+use Rattle.boxes.specs.declared.sides.Bounds.{Bounds}
+use Rattle.sums.specs.Box.{statsOf}
+use Rattle.boxes.specs.Box.{lowSide, highSide}
 use Rattle.spread.specs.declared.Position.{Position}
 use Rattle.spread.specs.declared.Position.the-variants.{At, Nowhere}
 use Rattle.spread.specs.Spread.{zeroOf, spreadOf}
@@ -18,10 +19,7 @@ use Rattle.heap.specs.Heap.{Item, Room, item, putIn, takeOut, viewRoom}
 use Rattle.heap.specs.Lent.{roomOf}
 use Rattle.rounds.specs.declared.BoxSpread.{BoxSpread}
 use Rattle.rounds.specs.declared.Boxes.{Boxes}
-use Rattle.rounds.specs.Pack.{boxOf}
-
-abbrev pub noBox : Bounds
-noBox = record { r0 = 0; r1 = 0; g0 = 0; g1 = 0; b0 = 0; b1 = 0 }
+use Rattle.boxes.specs.Bytes.{boxOf}
 
 -- what a place past the room would have
 abbrev pub noItem : Item Bounds
@@ -40,9 +38,6 @@ pub record Heap : Type 0 where
   pub room : Room Bounds
   pub used : ℕ
   pub rounds : ℕ
-
-unfoldable pub wholeOf : Grid → Bounds
-wholeOf g = record { r0 = 0; r1 = g .b1; g0 = 0; g1 = g .b2; b0 = 0; b1 = g .b3 }
 
 -- "Start with the whole grid at spread infinity"
 unfoldable pub startRoom : Grid → Room Bounds

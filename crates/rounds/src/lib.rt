@@ -1,25 +1,26 @@
 // The loop of a cut: the top of the heap is taken out and cut in two, until there are k boxes.
-use grid::Grid;
+use grid::place::Grid;
 use heap::put_in;
 use heap::take_out;
 use spread::Position;
 use spread::best_cut;
-use spread::high_side;
-use spread::low_side;
+use boxes::sides::high_side;
+use boxes::sides::low_side;
 use spread::spread;
-use sums::Bounds;
+use boxes::sides::Bounds;
 use sums::box_sum;
 ghost use mathlib.Core.Path.{_≡_};
 ghost use Prim.Native.Nat.{_+_, _-_, _<_, _≤_};
 ghost use Rattle.grid.specs.Grid.{Accepted};
-ghost use Rattle.table.specs.Cell.{wide};
-ghost use Rattle.sums.specs.Box.{Within};
+ghost use Rattle.table.specs.Table.{viewOf};
+ghost use Rattle.boxes.specs.Box.{Within};
 ghost use Rattle.sums.specs.Moments.{Worked};
 ghost use Rattle.spread.specs.Cut.{bestCut};
 ghost use Rattle.heap.specs.Heap.{item, putIn, takeOut};
 ghost use Rattle.heap.specs.Lent.{Lent};
-ghost use Rattle.rounds.specs.Pack.{packOf, boxOf, Bytes};
-ghost use Rattle.rounds.specs.Loop.{noItem, itself, wholeOf, startRoom, roomAfter, usedAfter, goesOn, roundRoom, roundUsed, heapOf, boxSpread, placesOf, boxesOf, roomIn};
+ghost use Rattle.boxes.specs.Bytes.{packOf, boxOf, Bytes};
+ghost use Rattle.rounds.specs.Loop.{noItem, itself, startRoom, roomAfter, usedAfter, goesOn, roundRoom, roundUsed, heapOf, boxSpread, placesOf, boxesOf, roomIn};
+ghost use Rattle.boxes.specs.Box.{wholeOf};
 
 // A box with its spread (`CubeVar`).
 pub struct BoxSpread {
@@ -36,32 +37,6 @@ pub struct BoxSpread {
 pub struct Boxes {
     pub found: usize,
     pub places: [BoxSpread; 256],
-}
-
-// ---- A box as a number
-
-fn packed(x: Bounds) -> u64
-    requires { ⌜ Bytes x ⌝ }
-    ensures { λ r. ⌜ r ≡ packOf x ⌝ }
-{
-    let blue = x.b0 as u64 + 256 * (x.b1 as u64);
-    let green = x.g0 as u64 + 256 * (x.g1 as u64 + 256 * blue);
-    x.r0 as u64 + 256 * (x.r1 as u64 + 256 * green)
-}
-
-fn unpacked(n: u64) -> Bounds
-    ensures { λ r. ⌜ r ≡ boxOf n ⌝ }
-{
-    let green = n / 256 / 256;
-    let blue = green / 256 / 256;
-    Bounds {
-        r0: (n % 256) as u8,
-        r1: (n / 256 % 256) as u8,
-        g0: (green % 256) as u8,
-        g1: (green / 256 % 256) as u8,
-        b0: (blue % 256) as u8,
-        b1: (blue / 256 % 256) as u8,
-    }
 }
 
 // ---- The heap of boxes
@@ -87,7 +62,7 @@ fn put_itself(
 )
     requires { ⌜ Worked g (now table) (now work) × Within g x ⌝ }
     requires { ⌜ Lent (now spreads) (now boxes) × (len < 256) ⌝ }
-    ensures { λ r. ⌜ roomIn (now (spreads .exit)) (now (boxes .exit)) ≡ putIn noItem (roomIn (now (spreads .entry)) (now (boxes .entry))) len (itself g (wide (now (table .entry))) x) ⌝ }
+    ensures { λ r. ⌜ roomIn (now (spreads .exit)) (now (boxes .exit)) ≡ putIn noItem (roomIn (now (spreads .entry)) (now (boxes .entry))) len (itself g (viewOf (now (table .entry))) x) ⌝ }
     ensures { λ r. ⌜ Lent (now (spreads .exit)) (now (boxes .exit)) ⌝ }
 {
     let s = spread(x, box_sum(table, work, g, x));
@@ -117,8 +92,8 @@ fn cut_top(
 ) -> usize
     requires { ⌜ Worked g (now table) (now work) × Within g x ⌝ }
     requires { ⌜ Lent (now spreads) (now boxes) × (left + 1 < 256) ⌝ }
-    ensures { λ r. ⌜ r ≡ usedAfter left (bestCut g (wide (now (table .entry))) x) ⌝ }
-    ensures { λ r. ⌜ roomIn (now (spreads .exit)) (now (boxes .exit)) ≡ roomAfter g (wide (now (table .entry))) (roomIn (now (spreads .entry)) (now (boxes .entry))) left x (bestCut g (wide (now (table .entry))) x) ⌝ }
+    ensures { λ r. ⌜ r ≡ usedAfter left (bestCut g (viewOf (now (table .entry))) x) ⌝ }
+    ensures { λ r. ⌜ roomIn (now (spreads .exit)) (now (boxes .exit)) ≡ roomAfter g (viewOf (now (table .entry))) (roomIn (now (spreads .entry)) (now (boxes .entry))) left x (bestCut g (viewOf (now (table .entry))) x) ⌝ }
     ensures { λ r. ⌜ Lent (now (spreads .exit)) (now (boxes .exit)) ⌝ }
 {
     let Position::At {
@@ -158,8 +133,8 @@ fn round(
 ) -> usize
     requires { ⌜ Worked g (now table) (now work) ⌝ }
     requires { ⌜ Lent (now spreads) (now boxes) × (0 < len) × (len < 256) × Within g (item noItem (roomIn (now spreads) (now boxes)) 0 .box) ⌝ }
-    ensures { λ r. ⌜ r ≡ roundUsed g (wide (now (table .entry))) (roomIn (now (spreads .entry)) (now (boxes .entry))) len ⌝ }
-    ensures { λ r. ⌜ roomIn (now (spreads .exit)) (now (boxes .exit)) ≡ roundRoom g (wide (now (table .entry))) (roomIn (now (spreads .entry)) (now (boxes .entry))) len ⌝ }
+    ensures { λ r. ⌜ r ≡ roundUsed g (viewOf (now (table .entry))) (roomIn (now (spreads .entry)) (now (boxes .entry))) len ⌝ }
+    ensures { λ r. ⌜ roomIn (now (spreads .exit)) (now (boxes .exit)) ≡ roundRoom g (viewOf (now (table .entry))) (roomIn (now (spreads .entry)) (now (boxes .entry))) len ⌝ }
     ensures { λ r. ⌜ Lent (now (spreads .exit)) (now (boxes .exit)) ⌝ }
 {
     let s = spreads[0];
@@ -184,8 +159,8 @@ fn run(
 ) -> usize
     requires { ⌜ Worked g (now table) (now work) × (k ≤ 256) ⌝ }
     requires { ⌜ Lent (now spreads) (now boxes) × (roomIn (now spreads) (now boxes) ≡ startRoom g) ⌝ }
-    ensures { λ r. ⌜ r ≡ heapOf g (wide (now (table .entry))) k .used ⌝ }
-    ensures { λ r. ⌜ roomIn (now (spreads .exit)) (now (boxes .exit)) ≡ heapOf g (wide (now (table .entry))) k .room ⌝ }
+    ensures { λ r. ⌜ r ≡ heapOf g (viewOf (now (table .entry))) k .used ⌝ }
+    ensures { λ r. ⌜ roomIn (now (spreads .exit)) (now (boxes .exit)) ≡ heapOf g (viewOf (now (table .entry))) k .room ⌝ }
     ensures { λ r. ⌜ Lent (now (spreads .exit)) (now (boxes .exit)) ⌝ }
 {
     let mut len = 1;
@@ -230,25 +205,10 @@ fn gathered(spreads: &[f64; 256], boxes: &[u64; 256], len: usize) -> [BoxSpread;
     places
 }
 
-// The whole grid as a box.
-fn whole(g: Grid) -> Bounds
-    requires { ⌜ Accepted g ⌝ }
-    ensures { λ r. ⌜ r ≡ wholeOf g ⌝ }
-{
-    Bounds {
-        r0: 0,
-        r1: g.b1 as u8,
-        g0: 0,
-        g1: g.b2 as u8,
-        b0: 0,
-        b1: g.b3 as u8,
-    }
-}
-
 // The boxes that a table is cut into, at most k, or one where k is 0 (`cubes_heap`).
 pub fn cut_boxes(table: &[u64], work: &[u64], g: Grid, k: usize) -> Boxes
     requires { ⌜ Worked g (now table) (now work) × (k ≤ 256) ⌝ }
-    ensures { λ r. ⌜ r ≡ boxesOf g (wide (now (table .entry))) k ⌝ }
+    ensures { λ r. ⌜ r ≡ boxesOf g (viewOf (now (table .entry))) k ⌝ }
 {
     let mut spreads = [0.0; 256];
     let mut boxes = [0u64; 256];

@@ -9,15 +9,15 @@ use borrow.Author.Tests.{le-leb, lt-leb, leb-true, not-false}
 use lib.Dec.{eqb, leb}
 use lib.ListN.{length}
 use lib.Ieee.{Float}
-use Rattle.grid.specs.declared.Grid.{Grid}
-use Rattle.grid.specs.declared.Chosen.{Chosen}
-use Rattle.grid.specs.declared.Chosen.the-variants as chosen
-use Rattle.grid.specs.Answer.{refuse, whenDone}
+use Rattle.grid.specs.declared.place.Grid.{Grid}
+use Rattle.grid.specs.declared.place.Chosen.{Chosen}
+use Rattle.grid.specs.declared.place.Chosen.the-variants as chosen
+use Rattle.basics.specs.Answer.{refuse, whenDone}
 use Rattle.grid.specs.Grid.{gridOf, gridAnswer, onGrid, numberOn, binsOf}
 use Rattle.grid.proofs.Places.{chose, bins-high}
-use Rattle.grid.proofs.Range.{and-left, and-right}
-use Rattle.grid.proofs.Ends.{passed}
-use Rattle.table.specs.Cell.{wide}
+use Rattle.basics.proofs.Range.{and-left, and-right}
+use Rattle.basics.proofs.Ends.{passed}
+use Rattle.table.specs.Table.{viewOf}
 use Rattle.table.specs.Sound.{limit, total, sound, unsoundNumber}
 use Rattle.cutter.specs.declared.CutRecord.{CutRecord}
 use Rattle.cutter.specs.Fronts.{filled}
@@ -35,7 +35,7 @@ module _ (b1 b2 b3 : ℕ) where
   unfolding binsFor onGrid
   bins-refused e = rw e refl
 
-  pub bins-on : {g : Grid} → gridOf b1 b2 b3 ≡ chosen.Of g → binsFor b1 b2 b3 ≡ binsOf g
+  pub bins-on : {g : Grid} → gridOf b1 b2 b3 ≡ chosen.Accepted g → binsFor b1 b2 b3 ≡ binsOf g
   unfolding binsFor onGrid
   bins-on e = rw e refl
 
@@ -44,7 +44,7 @@ module _ (b1 b2 b3 : ℕ) where
   bins-small = go (gridOf b1 b2 b3) refl
     where
       go : (c : Chosen) → gridOf b1 b2 b3 ≡ c → onGrid c 0 binsOf ≤ 2097152
-      go (chosen.Of g) e = bins-high (chose b1 b2 b3 g e .accepted)
+      go (chosen.Accepted g) e = bins-high (chose b1 b2 b3 g e .accepted)
       go chosen.Refused e = omega arith
 
   -- ---- the room for the boxes
@@ -53,7 +53,7 @@ module _ (b1 b2 b3 : ℕ) where
     unfolding roomNumber numberOn onGrid gridAnswer
     room-refused e = rw e refl
 
-    pub room-on : {g : Grid} → gridOf b1 b2 b3 ≡ chosen.Of g → roomNumber b1 b2 b3 k boxes spreads ≡ roomOn k boxes spreads
+    pub room-on : {g : Grid} → gridOf b1 b2 b3 ≡ chosen.Accepted g → roomNumber b1 b2 b3 k boxes spreads ≡ roomOn k boxes spreads
     unfolding roomNumber numberOn onGrid
     room-on e = rw e refl
 
@@ -108,7 +108,7 @@ roomy b1 b2 b3 k boxes spreads = go (gridOf b1 b2 b3)
     never q = omega arith
 
     go : (c : Chosen) → onGrid c (gridAnswer c .number) (λ g. roomOn k boxes spreads) ≡ 0 → Roomy k boxes spreads
-    go (chosen.Of g) e = roomy-on k boxes spreads e
+    go (chosen.Accepted g) e = roomy-on k boxes spreads e
     go chosen.Refused e = absurd (never e)
 
 -- ---- the call: what it answers, and what it leaves behind
@@ -137,9 +137,9 @@ module _ (b1 b2 b3 k : ℕ) (t : List ℕ) (l : Lent) where
   in-stages = go (gridOf b1 b2 b3)
     where
       go : (c : Chosen) → numberOn c (λ g. callNumberOn g k t l) ≡ whenDone (numberOn c (λ g. roomOn k (length (l .boxes)) (length (l .spreads)))) (numberOn c (λ g. cutNumberOn limit g k t (lengthsOf (l .buffers)))) (numberOn c (λ g. roomOn k (length (l .boxes)) (length (l .spreads))))
-      go (chosen.Of g) =
+      go (chosen.Accepted g) =
           stages (leb 1 k && leb k 256) (longEnough g k (length t) (lengthsOf (l .buffers))) (hasRoom k (length (l .boxes)) (length (l .spreads)))
-          (refuse (not (sound limit g (wide t))) unsoundNumber (refuse (eqb (total g (wide t)) 0) 8 0))
+          (refuse (not (sound limit g (viewOf t))) unsoundNumber (refuse (eqb (total g (viewOf t)) 0) 8 0))
       go chosen.Refused = refl
 
   abbrev Ends : CutAnswer → Lent → Type 0

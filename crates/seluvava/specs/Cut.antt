@@ -5,10 +5,10 @@ use Prim.Native.Nat.{ℕ, _*_}
 use lib.Dec.{eqb, leb}
 use lib.ListN.{length, take}
 use lib.Ieee.{Float}
-use Rattle.grid.specs.declared.Grid.{Grid}
-use Rattle.grid.specs.Answer.{refuse, whenDone}
+use Rattle.grid.specs.declared.place.Grid.{Grid}
+use Rattle.basics.specs.Answer.{refuse, whenDone}
 use Rattle.grid.specs.Grid.{gridOf, numberOn}
-use Rattle.table.specs.Cell.{wide}
+use Rattle.table.specs.Table.{viewOf}
 use Rattle.table.specs.Sound.{limit, total, sound, unsoundNumber}
 use Rattle.rounds.specs.declared.BoxSpread.{BoxSpread}
 use Rattle.cutter.specs.declared.CutRecord.{CutRecord}
@@ -38,8 +38,8 @@ unfoldable pub callNumberOn : Grid → ℕ → List ℕ → Lent → ℕ
 callNumberOn g k t l =
     refuse (not (leb 1 k && leb k 256)) 2
     (refuse (not (allLong g k (length t) l)) 5
-    (refuse (not (sound limit g (wide t))) unsoundNumber
-    (refuse (eqb (total g (wide t)) 0) 8 0)))
+    (refuse (not (sound limit g (viewOf t))) unsoundNumber
+    (refuse (eqb (total g (viewOf t)) 0) 8 0)))
 
 unfoldable pub callNumber : ℕ → ℕ → ℕ → ℕ → List ℕ → Lent → ℕ
 callNumber b1 b2 b3 k t l = numberOn (gridOf b1 b2 b3) (λ g. callNumberOn g k t l)

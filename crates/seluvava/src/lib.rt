@@ -1,9 +1,9 @@
 // The calls for C and Rust; include/seluvava.h says the same to their callers.
 use cutter::CutRecord;
 use cutter::cut;
-use grid::Chosen;
-use grid::bins;
-use grid::grid_of;
+use grid::place::Chosen;
+use grid::place::bins;
+use grid::place::grid_of;
 use rounds::BoxSpread;
 ghost use mathlib.Core.Path.{_≡_};
 ghost use Prim.Native.Nat.{_+_, _*_, _≤_, _<_};
@@ -24,7 +24,7 @@ ghost use Rattle.seluvava.specs.Cut.{lent, roomNumber, cutAnswer, callLa
 pub extern "C" fn seluvava_bins(b1: usize, b2: usize, b3: usize) -> usize
     ensures { λ r. ⌜ r ≡ binsFor b1 b2 b3 ⌝ }
 {
-    let Chosen::Of(g) = grid_of(b1, b2, b3) else {
+    let Chosen::Accepted(g) = grid_of(b1, b2, b3) else {
         return 0;
     };
     bins(g)
@@ -85,7 +85,7 @@ pub struct CutAnswer {
 fn room_number(b1: usize, b2: usize, b3: usize, k: usize, boxes: usize, spreads: usize) -> u8
     ensures { λ r. ⌜ r ≡ roomNumber b1 b2 b3 k boxes spreads ⌝ }
 {
-    let Chosen::Of(accepted) = grid_of(b1, b2, b3) else {
+    let Chosen::Accepted(accepted) = grid_of(b1, b2, b3) else {
         return 1;
     };
     if k < 1 {

@@ -9,13 +9,15 @@ use mathlib.Core.Bool.{Bool, true, false}
 use lib.Dec.{T}
 use lib.Ieee.{Float, lt}
 use lib.Ieee.Exact.{HasValue}
-use Rattle.grid.specs.declared.Grid.{Grid}
+use Rattle.grid.specs.declared.place.Grid.{Grid}
 use Rattle.table.specs.Cell.{View}
 use Rattle.table.specs.Sound.{limit}
 use Rattle.table.proofs.Soundness.{Sound}
-use Rattle.sums.specs.declared.Bounds.{Bounds}
-use Rattle.sums.specs.Box.{boxSum, statsOf, Within}
-use Rattle.spread.specs.Spread.{exactQ, zeroOf, oneBin, spreadOf}
+use Rattle.boxes.specs.declared.sides.Bounds.{Bounds}
+use Rattle.sums.specs.Box.{boxSum, statsOf}
+use Rattle.boxes.specs.Box.{Within}
+use Rattle.spread.specs.Spread.{exactQ, zeroOf, spreadOf}
+use Rattle.boxes.specs.Box.{oneBin}
 use Rattle.spread.proofs.Numbers.{Numbers, spreadAt, numbers, spread-is}
 use Rattle.spread.proofs.Sign.{above-zero}
 use Rattle.spread.proofs.Bound.{Closely, numbers-close}

@@ -12,13 +12,17 @@ use borrow.Author.Tests.{eq-eqb, ne-eqb}
 use lib.Arith.{lt-of-le-ne}
 use lib.Dec.{eqb}
 use lib.Ieee.{Float, lt}
-use Rattle.grid.specs.declared.Grid.{Grid}
-use Rattle.grid.specs.Grid.{choose, placeOf}
+use Rattle.grid.specs.declared.place.Grid.{Grid}
+use Rattle.basics.specs.Dimension.{choose}
+use Rattle.grid.specs.Grid.{placeOf}
 use Rattle.table.specs.Cell.{View}
-use Rattle.sums.specs.declared.Bounds.{Bounds}
+use Rattle.boxes.specs.declared.sides.Bounds.{Bounds}
 use Rattle.sums.specs.declared.Stats.{Stats}
-use Rattle.sums.specs.Box.{boxSum, statsOf, minAt, maxAt, lowSide, highSide, InBox}
-use Rattle.sums.proofs.Laws.{bins-empty, in-low, in-high, in-box}
+use Rattle.sums.specs.Box.{boxSum, statsOf}
+use Rattle.boxes.specs.Box.{minAt, maxAt, lowSide, highSide}
+use Rattle.boxes.proofs.Within.{InBox}
+use Rattle.sums.proofs.Laws.{bins-empty}
+use Rattle.boxes.proofs.Within.{in-low, in-high, in-box}
 use Rattle.spread.specs.declared.Position.{Position}
 use Rattle.spread.specs.declared.Position.the-variants.{At, Nowhere}
 use Rattle.spread.specs.Spread.{scoreOf}

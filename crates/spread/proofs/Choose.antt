@@ -8,15 +8,16 @@ use native.Mathlib.Omega.{arith}
 use lib.Dec.{T, le→leb, lit<}
 use lib.IntN.{pos}
 use lib.Ieee.{binary64, inFloat}
-use Rattle.grid.specs.declared.Grid.{Grid}
+use Rattle.grid.specs.declared.place.Grid.{Grid}
 use Rattle.grid.proofs.Size.{size-high}
 use Rattle.grid.proofs.Places.{sized-at}
 use Rattle.table.specs.Cell.{View}
 use Rattle.table.specs.Sound.{limit}
 use Rattle.table.proofs.Soundness.{Sound}
-use Rattle.sums.specs.declared.Bounds.{Bounds}
+use Rattle.boxes.specs.declared.sides.Bounds.{Bounds}
 use Rattle.sums.specs.declared.Stats.{Stats}
-use Rattle.sums.specs.Box.{maxAt, statsOf, lowSide, highSide, Within}
+use Rattle.boxes.specs.Box.{maxAt, lowSide, highSide, Within}
+use Rattle.sums.specs.Box.{statsOf}
 use Rattle.sums.proofs.Laws.{box-sums-high, box-weight-high}
 use Rattle.spread.specs.declared.Position.{Position}
 use Rattle.spread.specs.declared.Position.the-variants.{Nowhere}

@@ -7,15 +7,18 @@ use Prim.Native.Nat.{ℕ, zero, suc, _+_, _-_, _*_, _≤_, _<_}
 use native.Mathlib.Nat.{add-zero, add-mul, mul-comm, mul-assoc, zero-mul, one-mul, le-trans, le-of-lt}
 use native.Mathlib.Omega.{arith}
 use lib.Dec.{lit<}
-use Rattle.grid.specs.declared.Grid.{Grid}
-use Rattle.grid.specs.Grid.{choose, sizeAt, placeOf, strideAt, Accepted, Inside}
+use Rattle.grid.specs.declared.place.Grid.{Grid}
+use Rattle.basics.specs.Dimension.{choose}
+use Rattle.grid.specs.Grid.{sizeAt, placeOf, strideAt, Accepted, Inside}
 use Rattle.grid.proofs.Size.{size-low}
 use Rattle.grid.proofs.Places.{one, two, three, place-lt, bins-high}
 use Rattle.table.specs.declared.Cell.{Cell}
-use Rattle.table.specs.Cell.{View, wide, numberOf, cellOf}
-use Rattle.sums.specs.declared.Bounds.{Bounds}
+use Rattle.table.specs.Cell.{View, numberOf, cellOf}
+use Rattle.table.specs.Table.{viewOf}
+use Rattle.boxes.specs.declared.sides.Bounds.{Bounds}
 use Rattle.sums.specs.declared.Stats.{Stats}
-use Rattle.sums.specs.Box.{minAt, maxAt, binSum, boxSum, statsFrom, statsOf, lowSide, highSide, slabTo, Within}
+use Rattle.boxes.specs.Box.{minAt, maxAt, lowSide, highSide, slabTo, Within}
+use Rattle.sums.specs.Box.{binSum, boxSum, statsFrom, statsOf}
 use Rattle.sums.specs.Moments.{Worked, Corner, binCell}
 use Rattle.sums.proofs.Corners.{first-from, second-from, third-from, no-first, no-second, no-third, zeros-are, corner-inside, corner-cell, corner-number, corner-squares, stats-by, cell-stats}
 use Rattle.spread.specs.Walk.{outerOf, innerOf, startOf, HasRecord}
@@ -68,15 +71,15 @@ module _ (g : Grid) (v : View) where
   none-before x d = cell-stats (boxSum g v (slabTo x d 0)) (none x d)
 
 -- ---- the place of a corner
-along-first : (g : Grid) (m a b : ℕ) → placeOf g 0 a b + g .b2 * g .b3 * m ≡ placeOf g m a b
+along-first : (g : Grid) (m a b : ℕ) → placeOf g 0 a b + g .size2 * g .size3 * m ≡ placeOf g m a b
 unfolding placeOf
 along-first g m a b =
-    omega (arith, add-mul (0 * g .b2) a (g .b3), zero-mul (g .b2), zero-mul (g .b3), ap (λ (z : ℕ). z * g .b3) (zero-mul (g .b2)), add-mul (m * g .b2) a (g .b3), mul-assoc m (g .b2) (g .b3), mul-comm m (g .b2 * g .b3))
+    omega (arith, add-mul (0 * g .size2) a (g .size3), zero-mul (g .size2), zero-mul (g .size3), ap (λ (z : ℕ). z * g .size3) (zero-mul (g .size2)), add-mul (m * g .size2) a (g .size3), mul-assoc m (g .size2) (g .size3), mul-comm m (g .size2 * g .size3))
 
-along-second : (g : Grid) (m a b : ℕ) → placeOf g a 0 b + g .b3 * m ≡ placeOf g a m b
+along-second : (g : Grid) (m a b : ℕ) → placeOf g a 0 b + g .size3 * m ≡ placeOf g a m b
 unfolding placeOf
 along-second g m a b =
-    omega (arith, ap (λ (z : ℕ). z * g .b3) (add-zero (a * g .b2)), add-mul (a * g .b2) m (g .b3), mul-comm m (g .b3))
+    omega (arith, ap (λ (z : ℕ). z * g .size3) (add-zero (a * g .size2)), add-mul (a * g .size2) m (g .size3), mul-comm m (g .size3))
 
 along-third : (g : Grid) (m a b : ℕ) → placeOf g a b 0 + 1 * m ≡ placeOf g a b m
 unfolding placeOf
@@ -87,8 +90,8 @@ module _ {g : Grid} (a : Accepted g) {i k p q : ℕ} (e : p ≡ i - 1) (f : q �
   pub first-start : (d : ℕ) → d ≡ 0 → i ≤ sizeAt g (outerOf d) → k ≤ sizeAt g (innerOf d) → Inside g 0 p q × (placeOf g 0 p q ≡ startOf g d i k)
   unfolding sizeAt outerOf innerOf startOf choose
   first-start zero z h l =
-      let h' : i ≤ g .b2 = h in
-      let l' : k ≤ g .b3 = l in (
+      let h' : i ≤ g .size2 = h in
+      let l' : k ≤ g .size3 = l in (
         record { accepted = a; one = omega (arith, size-low (one a)); two = omega (arith, size-low (two a)); three = omega (arith, size-low (three a)) },
         λ t. placeOf g 0 (e t) (f t),
       )
@@ -98,8 +101,8 @@ module _ {g : Grid} (a : Accepted g) {i k p q : ℕ} (e : p ≡ i - 1) (f : q �
   unfolding sizeAt outerOf innerOf startOf choose
   second-start zero z h l = absurd (omega arith)
   second-start (suc zero) z h l =
-      let h' : i ≤ g .b1 = h in
-      let l' : k ≤ g .b3 = l in (
+      let h' : i ≤ g .size1 = h in
+      let l' : k ≤ g .size3 = l in (
         record { accepted = a; one = omega (arith, size-low (one a)); two = omega (arith, size-low (two a)); three = omega (arith, size-low (three a)) },
         λ t. placeOf g (e t) 0 (f t),
       )
@@ -110,8 +113,8 @@ module _ {g : Grid} (a : Accepted g) {i k p q : ℕ} (e : p ≡ i - 1) (f : q �
   third-start zero n m h l = absurd (n refl)
   third-start (suc zero) n m h l = absurd (m refl)
   third-start (suc (suc d)) n m h l =
-      let h' : i ≤ g .b1 = h in
-      let l' : k ≤ g .b2 = l in (
+      let h' : i ≤ g .size1 = h in
+      let l' : k ≤ g .size2 = l in (
         record { accepted = a; one = omega (arith, size-low (one a)); two = omega (arith, size-low (two a)); three = omega (arith, size-low (three a)) },
         λ t. placeOf g (e t) (f t) 0,
       )
@@ -120,29 +123,29 @@ module _ {g : Grid} (a : Accepted g) {i k p q : ℕ} (e : p ≡ i - 1) (f : q �
 pub record Reads (w : List ℕ) (p : ℕ) (f : ℕ → ℕ) : Type 0 where
   pub low : p < 2097152
   pub has : HasRecord w p
-  pub exact : {y : Stats} → y ≡ statsFrom (wide w p) → Exact y f
+  pub exact : {y : Stats} → y ≡ statsFrom (viewOf w p) → Exact y f
 
 module _ {g : Grid} {t w : List ℕ} (worked : Worked g t w) where
   -- below r, gr and b
-  at-corner : (r gr b : ℕ) → r ≤ g .b1 → gr ≤ g .b2 → b ≤ g .b3 → 0 < r → 0 < gr → 0 < b → {p : ℕ} → p ≡ placeOf g (r - 1) (gr - 1) (b - 1) → Reads w p (binSum g (wide t) 0 r 0 gr 0 b)
+  at-corner : (r gr b : ℕ) → r ≤ g .size1 → gr ≤ g .size2 → b ≤ g .size3 → 0 < r → 0 < gr → 0 < b → {p : ℕ} → p ≡ placeOf g (r - 1) (gr - 1) (b - 1) → Reads w p (binSum g (viewOf t) 0 r 0 gr 0 b)
   at-corner r gr b h k l r0 gr0 b0 {p} at =
       let c : Corner g t w r gr b = record { worked = worked; one = h; two = k; three = l } in
       let squares = corner-squares c r0 gr0 b0 in
       record {
         low = omega (arith, at, place-lt (corner-inside c r0 gr0 b0), bins-high (worked .table .accepted));
         has = record { cell = corner-cell c r0 gr0 b0 at; squares = omega (arith, corner-number c r0 gr0 b0 at 4 (lit< tt)) };
-        exact = λ e. record { is = e ∙ stats-by (wide w p) (binSum g (wide t) 0 r 0 gr 0 b) (corner-number c r0 gr0 b0 at); squares = squares };
+        exact = λ e. record { is = e ∙ stats-by (viewOf w p) (binSum g (viewOf t) 0 r 0 gr 0 b) (corner-number c r0 gr0 b0 at); squares = squares };
       }
 
   -- below n in dimension d, i and k in the two others
-  reads : (d n i k : ℕ) → n ≤ sizeAt g d → i ≤ sizeAt g (outerOf d) → k ≤ sizeAt g (innerOf d) → 0 < n → 0 < i → 0 < k → Reads w (startOf g d i k + strideAt g d * (n - 1)) (crossSum g (wide t) d n 0 i 0 k)
+  reads : (d n i k : ℕ) → n ≤ sizeAt g d → i ≤ sizeAt g (outerOf d) → k ≤ sizeAt g (innerOf d) → 0 < n → 0 < i → 0 < k → Reads w (startOf g d i k + strideAt g d * (n - 1)) (crossSum g (viewOf t) d n 0 i 0 k)
   unfolding startOf strideAt sizeAt outerOf innerOf choose crossSum
   reads zero n i k N I K n0 i0 k0 = at-corner n i k N I K n0 i0 k0 (along-first g (n - 1) (i - 1) (k - 1))
   reads (suc zero) n i k N I K n0 i0 k0 = at-corner i n k I N K i0 n0 k0 (along-second g (n - 1) (i - 1) (k - 1))
   reads (suc (suc d)) n i k N I K n0 i0 k0 = at-corner i k n I K N i0 k0 n0 (along-third g (n - 1) (i - 1) (k - 1))
 
   -- the corners of a box
-  pub box-reads : {x : Bounds} → Within g x → (d n i k : ℕ) → n ≤ maxAt x d → i ≤ maxAt x (outerOf d) → k ≤ maxAt x (innerOf d) → 0 < n → 0 < i → 0 < k → Reads w (startOf g d i k + strideAt g d * (n - 1)) (crossSum g (wide t) d n 0 i 0 k)
+  pub box-reads : {x : Bounds} → Within g x → (d n i k : ℕ) → n ≤ maxAt x d → i ≤ maxAt x (outerOf d) → k ≤ maxAt x (innerOf d) → 0 < n → 0 < i → 0 < k → Reads w (startOf g d i k + strideAt g d * (n - 1)) (crossSum g (viewOf t) d n 0 i 0 k)
   box-reads b d n i k N I K = reads d n i k (le-trans N (b .fits d)) (le-trans I (b .fits (outerOf d))) (le-trans K (b .fits (innerOf d)))
 
 -- ---- inclusion and exclusion: first along the inner dimension, then along the outer

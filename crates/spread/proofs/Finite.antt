@@ -10,14 +10,16 @@ use lib.Pow.{pow-pos}
 use lib.Ieee.{Float, nan, inf, fin, add, neg}
 use lib.Ieee.Exact.{HasValue}
 use lib.Ieee.Scale.{grid, finite}
-use Rattle.grid.specs.declared.Grid.{Grid}
+use Rattle.grid.specs.declared.place.Grid.{Grid}
 use Rattle.table.specs.Cell.{View}
 use Rattle.table.specs.Sound.{limit}
 use Rattle.table.proofs.Soundness.{Sound}
-use Rattle.sums.specs.declared.Bounds.{Bounds}
-use Rattle.sums.specs.Box.{boxSum, statsOf, Within}
-use Rattle.sums.proofs.Laws.{low-within, high-within}
-use Rattle.spread.specs.Spread.{oneBin, spreadOf, scoreOf}
+use Rattle.boxes.specs.declared.sides.Bounds.{Bounds}
+use Rattle.sums.specs.Box.{boxSum, statsOf}
+use Rattle.boxes.specs.Box.{Within}
+use Rattle.boxes.proofs.Within.{low-within, high-within}
+use Rattle.boxes.specs.Box.{oneBin}
+use Rattle.spread.specs.Spread.{spreadOf, scoreOf}
 use Rattle.spread.specs.Best.{Good}
 use Rattle.spread.proofs.Numbers.{numbers, quot-is, spread-is, spread-one}
 use Rattle.spread.proofs.Rounding.{Is, add-of}

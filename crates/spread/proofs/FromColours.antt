@@ -9,24 +9,31 @@ use native.Mathlib.Nat.{le-trans, zero-add, zero-mul, mul-one, pos-of-ne-zero}
 use native.Mathlib.Omega.{arith}
 use borrow.Author.Tests.{eqb-true, ltb-true, ltb-false, le-leb, lt-ltb}
 use lib.Dec.{eqb, ltb, lit<, lit≤}
-use Rattle.grid.specs.declared.Grid.{Grid}
+use Rattle.grid.specs.declared.place.Grid.{Grid}
 use Rattle.grid.specs.Size.{binOf}
-use Rattle.grid.specs.Grid.{Accepted, choose, componentAt, binsOf, placeOf, colourPlace}
-use Rattle.grid.proofs.Range.{and-left, and-right}
+use Rattle.grid.specs.Grid.{Accepted, binsOf, placeOf, colourPlace}
+use Rattle.basics.specs.Dimension.{choose}
+use Rattle.pixels.specs.Colour.{componentAt}
+use Rattle.basics.proofs.Range.{and-left, and-right}
 use Rattle.grid.proofs.Places.{Bytes, colour-inside, place-lt, place-once}
-use Rattle.table.specs.Cell.{View, wide}
+use Rattle.table.specs.Cell.{View}
+use Rattle.table.specs.Table.{viewOf}
 use Rattle.table.specs.Sound.{limit}
 use Rattle.table.specs.Cell.{zeros}
 use Rattle.loader.specs.Load.{Weighted, share, sumOver, weightOf, loaded, tableOf, ColourAt}
 use Rattle.loader.proofs.Loading.{AllBytes, share-weight, share-sum, share-squares, load-sound, over-none, over-more}
 use Rattle.loader.proofs.Order.{table-holds}
 use Rattle.table.proofs.Soundness.{zeros-total, zeros-sound}
-use Rattle.sums.specs.declared.Bounds.{Bounds}
-use Rattle.sums.specs.Box.{boxSum, Within, InBox}
-use Rattle.sums.proofs.Laws.{bins-empty, bin-inside}
+use Rattle.boxes.specs.declared.sides.Bounds.{Bounds}
+use Rattle.sums.specs.Box.{boxSum}
+use Rattle.boxes.specs.Box.{Within}
+use Rattle.boxes.proofs.Within.{InBox}
+use Rattle.sums.proofs.Laws.{bins-empty}
+use Rattle.boxes.proofs.Within.{bin-inside}
 use Rattle.sums.proofs.Loaded.{among, lies, loaded-box, occupied-colour}
 use Rattle.sums.proofs.Same.{stats-same}
-use Rattle.spread.specs.Spread.{exactQ, oneBin, SpreadsAbove}
+use Rattle.spread.specs.Spread.{exactQ, SpreadsAbove}
+use Rattle.boxes.specs.Box.{oneBin}
 use Rattle.spread.proofs.Above.{box-above}
 use Rattle.spread.proofs.Colours.{Point, total, sumBy, sum1, sum2, sum3, squares, Positive, Alike, two-colours, colours-half}
 
@@ -141,9 +148,9 @@ module _ {g : Grid} {x : Bounds} (w : Within g x) (cs : List Weighted) (b : AllB
 -- ---- an occupied bin of a box has a point of the box
 -- a point with its bins
 record Binned (g : Grid) (p : Point) (r gr b : ℕ) : Type 0 where
-  one : binOf (g .s1) (p .one) ≡ r
-  two : binOf (g .s2) (p .two) ≡ gr
-  three : binOf (g .s3) (p .three) ≡ b
+  one : binOf (g .shift1) (p .one) ≡ r
+  two : binOf (g .shift2) (p .two) ≡ gr
+  three : binOf (g .shift3) (p .three) ≡ b
 
 record Found (g : Grid) (l : List Point) (r gr b : ℕ) : Type 0 where
   point : Point
@@ -182,9 +189,9 @@ module _ {g : Grid} {x : Bounds} (w : Within g x) {r gr b : ℕ} (i : InBox x r 
 -- points of different bins are not alike
 unlike : {g : Grid} {p q : Point} {r gr b r' gr' b' : ℕ} → Binned g p r gr b → Binned g q r' gr' b' → (placeOf g r gr b ≡ placeOf g r' gr' b' → ⊥) → Alike p q → ⊥
 unlike {g} e f n a =
-    let one = sym (e .one) ∙ ap (binOf (g .s1)) (a .one) ∙ f .one in
-    let two = sym (e .two) ∙ ap (binOf (g .s2)) (a .two) ∙ f .two in
-    let three = sym (e .three) ∙ ap (binOf (g .s3)) (a .three) ∙ f .three in
+    let one = sym (e .one) ∙ ap (binOf (g .shift1)) (a .one) ∙ f .one in
+    let two = sym (e .two) ∙ ap (binOf (g .shift2)) (a .two) ∙ f .two in
+    let three = sym (e .three) ∙ ap (binOf (g .shift3)) (a .three) ∙ f .three in
     n (λ j. placeOf g (one j) (two j) (three j))
 
 -- the property is one of the numbers at the places of the grid
@@ -221,5 +228,5 @@ module _ {g : Grid} (a : Accepted g) (cs : List Weighted) (b : AllBytes cs) wher
   few-colours few = from-colours (le-trans few (lit≤ tt))
 
   -- and of the list that the calls leave behind
-  pub table-above : weightOf cs ≤ limit → SpreadsAbove g (wide (tableOf g cs))
+  pub table-above : weightOf cs ≤ limit → SpreadsAbove g (viewOf (tableOf g cs))
   table-above most = spreads-same (table-holds g cs .at) (from-colours most)

@@ -9,13 +9,13 @@ use native.Mathlib.Omega.{arith}
 use lib.Dec.{T}
 use lib.Ieee.{Float, lt}
 use lib.Ieee.Scale.{finite}
-use Rattle.floats.proofs.Compare.{less-asym, less-through, not-less-trans, not-less-itself, finite-number}
-use Rattle.grid.specs.declared.Grid.{Grid}
+use Rattle.basics.proofs.Compare.{less-asym, less-through, not-less-trans, not-less-itself, finite-number}
+use Rattle.grid.specs.declared.place.Grid.{Grid}
 use Rattle.table.specs.Cell.{View}
 use Rattle.table.specs.Sound.{limit}
 use Rattle.table.proofs.Soundness.{Sound}
-use Rattle.sums.specs.declared.Bounds.{Bounds}
-use Rattle.sums.specs.Box.{minAt, maxAt, Within}
+use Rattle.boxes.specs.declared.sides.Bounds.{Bounds}
+use Rattle.boxes.specs.Box.{minAt, maxAt, Within}
 use Rattle.spread.specs.declared.Position.{Position}
 use Rattle.spread.specs.declared.Position.the-variants.{At, Nowhere}
 use Rattle.spread.specs.Cut.{positionAnswer, positionAt, better, laterWins, bestRun, bestIn, bestCut}

@@ -6,13 +6,14 @@ use Prim.Native.Nat.{ℕ, _+_, _-_, _^_, _≤_}
 use native.Mathlib.Nat.{le-trans, mul-one}
 use native.Mathlib.Omega.{arith}
 use lib.Ieee.{binary64, sub, round}
-use Rattle.grid.specs.declared.Grid.{Grid}
+use Rattle.grid.specs.declared.place.Grid.{Grid}
 use Rattle.table.specs.Cell.{View}
 use Rattle.table.specs.Sound.{limit}
 use Rattle.table.proofs.Soundness.{Sound}
-use Rattle.sums.specs.declared.Bounds.{Bounds}
+use Rattle.boxes.specs.declared.sides.Bounds.{Bounds}
 use Rattle.sums.specs.declared.Stats.{Stats}
-use Rattle.sums.specs.Box.{minAt, maxAt, boxSum, statsFrom, statsOf, lowSide, highSide, slabTo, Within}
+use Rattle.boxes.specs.Box.{minAt, maxAt, lowSide, highSide, slabTo, Within}
+use Rattle.sums.specs.Box.{boxSum, statsFrom, statsOf}
 use Rattle.sums.proofs.Corners.{box-squares}
 use Rattle.sums.proofs.Laws.{cut-sum, slab-sum, slab-squares}
 use Rattle.spread.specs.Spread.{whole}

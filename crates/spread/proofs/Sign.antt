@@ -17,13 +17,15 @@ use lib.Ieee.Back.{whole-unique}
 use lib.Ieee.Scale.{grid, overflow, round-same}
 use lib.Ieee.Order.{drop}
 use lib.Ieee.Positive.{first-pos}
-use Rattle.grid.specs.declared.Grid.{Grid}
+use Rattle.grid.specs.declared.place.Grid.{Grid}
 use Rattle.table.specs.Cell.{View}
 use Rattle.table.specs.Sound.{limit}
 use Rattle.table.proofs.Soundness.{Sound}
-use Rattle.sums.specs.declared.Bounds.{Bounds}
-use Rattle.sums.specs.Box.{boxSum, statsOf, Within}
-use Rattle.spread.specs.Spread.{whole, squareOf, qOf, exactQ, zeroOf, oneBin, spreadOf, Signed}
+use Rattle.boxes.specs.declared.sides.Bounds.{Bounds}
+use Rattle.sums.specs.Box.{boxSum, statsOf}
+use Rattle.boxes.specs.Box.{Within}
+use Rattle.spread.specs.Spread.{whole, squareOf, qOf, exactQ, zeroOf, spreadOf, Signed}
+use Rattle.boxes.specs.Box.{oneBin}
 use Rattle.spread.proofs.Numbers.{Numbers, quotAt, spreadAt, weight-value, squares-value, numbers, spread-is}
 use Rattle.spread.proofs.Rounding.{Is, value-of, exact, whole-is, of-whole, mul-of, add-whole, div-whole, less-of, less-under}
 use Rattle.spread.proofs.Error.{Half, F, U, spot-near, drop-le, spot-le, spot-pos, round-value, round-is-at}

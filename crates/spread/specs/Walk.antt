@@ -2,12 +2,13 @@
 use mathlib.Core.List.{List}
 use Prim.Native.Nat.{ℕ, _-_, _^_, _≤_}
 use lib.Ieee.{binary64, sub}
-use Rattle.grid.specs.declared.Grid.{Grid}
-use Rattle.grid.specs.Grid.{choose, placeOf, strideAt}
-use Rattle.table.specs.Cell.{wide, HasCell}
-use Rattle.sums.specs.declared.Bounds.{Bounds}
+use Rattle.grid.specs.declared.place.Grid.{Grid}
+use Rattle.basics.specs.Dimension.{choose}
+use Rattle.grid.specs.Grid.{placeOf, strideAt}
+use Rattle.table.specs.Table.{viewOf, HasCell}
+use Rattle.boxes.specs.declared.sides.Bounds.{Bounds}
 use Rattle.sums.specs.declared.Stats.{Stats}
-use Rattle.sums.specs.Box.{minAt, maxAt}
+use Rattle.boxes.specs.Box.{minAt, maxAt}
 use Rattle.spread.specs.declared.Walk.{Walk}
 
 -- the two dimensions other than d, in order
@@ -41,7 +42,7 @@ walkOf g x d =
 -- a place with its five numbers, and squares that f64 holds
 pub record HasRecord (w : List ℕ) (p : ℕ) : Type 0 where
   pub cell : HasCell w p
-  pub squares : wide w p 4 ≤ 2 ^ 53
+  pub squares : viewOf w p 4 ≤ 2 ^ 53
 
 -- one record less another: weight and sums in whole numbers, the squares in f64
 unfoldable pub minusStats : Stats → Stats → Stats

@@ -1,7 +1,7 @@
 // Spread and score of boxes in f64, and the best position to cut a box.
-use grid::Grid;
-use grid::place;
-use sums::Bounds;
+use grid::place::Grid;
+use grid::place::place;
+use boxes::sides::Bounds;
 use sums::Stats;
 use sums::ZEROS;
 use sums::box_sum;
@@ -11,11 +11,13 @@ ghost use mathlib.Core.Path.{_≡_};
 ghost use mathlib.Core.Bool.{true};
 ghost use Prim.Native.Nat.{_-_, _≤_, _<_};
 ghost use Rattle.grid.specs.Grid.{sizeAt, strideAt, Accepted};
-ghost use Rattle.table.specs.Cell.{wide};
+ghost use Rattle.table.specs.Table.{viewOf};
 ghost use Rattle.table.specs.Sound.{limit, sound};
-ghost use Rattle.sums.specs.Box.{statsFrom, statsOf, minAt, maxAt, lowSide, highSide, slabTo, Within};
+ghost use Rattle.sums.specs.Box.{statsFrom, statsOf};
+ghost use Rattle.boxes.specs.Box.{minAt, maxAt, lowSide, highSide, slabTo, Within};
 ghost use Rattle.sums.specs.Moments.{Worked};
-ghost use Rattle.spread.specs.Spread.{whole, quotientOf, oneBin, spreadOf, scoreOf, Plain, Ordered};
+ghost use Rattle.spread.specs.Spread.{whole, quotientOf, spreadOf, scoreOf, Plain};
+ghost use Rattle.boxes.specs.Box.{oneBin, Ordered};
 ghost use Rattle.spread.specs.Cut.{positionOf, positionAt, laterWins, better as betterOf, bestIn, bestCut};
 ghost use Rattle.spread.specs.Walk.{outerOf, innerOf, startOf, walkOf, minusStats, Covers, HasRecord};
 
@@ -39,20 +41,6 @@ fn quotient(s: Stats) -> f64
     let c = in_float(s.sum3);
     let n = in_float(s.weight);
     (a * a + b * b + c * c) / n
-}
-
-// Whether a box has one bin.
-fn is_one_bin(x: Bounds) -> bool
-    requires { ⌜ Ordered x ⌝ }
-    ensures { λ r. ⌜ r ≡ oneBin x ⌝ }
-{
-    if x.r1 - x.r0 != 1 {
-        return false;
-    }
-    if x.g1 - x.g0 != 1 {
-        return false;
-    }
-    x.b1 - x.b0 == 1
 }
 
 // The spread of a box (`variance`).
@@ -131,53 +119,6 @@ pub fn better(earlier: Position, later: Position) -> Position
     earlier
 }
 
-// The low side of a cut, [min, bin).
-pub fn low_side(x: Bounds, dimension: u8, bin: u8) -> Bounds
-    ensures { λ r. ⌜ r ≡ lowSide x dimension bin ⌝ }
-{
-    let mut low = x;
-    match dimension {
-        0 => low.r1 = bin,
-        1 => low.g1 = bin,
-        _ => low.b1 = bin,
-    }
-    low
-}
-
-// The high side of a cut, the rest.
-pub fn high_side(x: Bounds, dimension: u8, bin: u8) -> Bounds
-    ensures { λ r. ⌜ r ≡ highSide x dimension bin ⌝ }
-{
-    let mut high = x;
-    match dimension {
-        0 => high.r0 = bin,
-        1 => high.g0 = bin,
-        _ => high.b0 = bin,
-    }
-    high
-}
-
-// The first bin of a box in a dimension, and the bin past its last.
-fn first_bin(x: Bounds, dimension: u8) -> u8
-    ensures { λ r. ⌜ r ≡ minAt x dimension ⌝ }
-{
-    match dimension {
-        0 => x.r0,
-        1 => x.g0,
-        _ => x.b0,
-    }
-}
-
-fn end_bin(x: Bounds, dimension: u8) -> u8
-    ensures { λ r. ⌜ r ≡ maxAt x dimension ⌝ }
-{
-    match dimension {
-        0 => x.r1,
-        1 => x.g1,
-        _ => x.b1,
-    }
-}
-
 // The two other dimensions, in order.
 fn outer_of(dimension: u8) -> u8
     ensures { λ r. ⌜ r ≡ outerOf dimension ⌝ }
@@ -204,8 +145,8 @@ fn stride_of(g: Grid, dimension: u8) -> usize
     ensures { λ r. ⌜ r ≡ strideAt g dimension ⌝ }
 {
     match dimension {
-        0 => g.b2 * g.b3,
-        1 => g.b3,
+        0 => g.size2 * g.size3,
+        1 => g.size3,
         _ => 1,
     }
 }
@@ -268,7 +209,7 @@ fn walk_of(g: Grid, x: Bounds, dimension: u8) -> Walk
 // The record at a place of the moments.
 fn record_at(work: &[u64], place: usize) -> Stats
     requires { ⌜ HasRecord (now work) place ⌝ }
-    ensures { λ r. ⌜ r ≡ statsFrom (wide (now (work .entry)) place) ⌝ }
+    ensures { λ r. ⌜ r ≡ statsFrom (viewOf (now (work .entry)) place) ⌝ }
 {
     stats_of(cell_at(work, place))
 }
@@ -300,7 +241,7 @@ fn sums_before(
 ) -> Stats
     requires { ⌜ Worked g (now table) (now work) × Within g x × (bin ≤ maxAt x dimension) ⌝ }
     requires { ⌜ walk ≡ walkOf g x dimension ⌝ }
-    ensures { λ r. ⌜ r ≡ statsOf g (wide (now (table .entry))) (slabTo x dimension bin) ⌝ }
+    ensures { λ r. ⌜ r ≡ statsOf g (viewOf (now (table .entry))) (slabTo x dimension bin) ⌝ }
 {
     if bin == 0 {
         return stats_of(ZEROS);
@@ -334,11 +275,11 @@ fn position_at(
     base: Stats,
     before: Stats,
 ) -> Position
-    requires { ⌜ (sound limit g (wide (now table)) ≡ true) × Within g x × (minAt x dimension < bin) × (bin < maxAt x dimension) ⌝ }
-    requires { ⌜ all ≡ statsOf g (wide (now table)) x ⌝ }
-    requires { ⌜ base ≡ statsOf g (wide (now table)) (slabTo x dimension (minAt x dimension)) ⌝ }
-    requires { ⌜ before ≡ statsOf g (wide (now table)) (slabTo x dimension bin) ⌝ }
-    ensures { λ r. ⌜ r ≡ positionAt g (wide (now (table .entry))) x dimension bin ⌝ }
+    requires { ⌜ (sound limit g (viewOf (now table)) ≡ true) × Within g x × (minAt x dimension < bin) × (bin < maxAt x dimension) ⌝ }
+    requires { ⌜ all ≡ statsOf g (viewOf (now table)) x ⌝ }
+    requires { ⌜ base ≡ statsOf g (viewOf (now table)) (slabTo x dimension (minAt x dimension)) ⌝ }
+    requires { ⌜ before ≡ statsOf g (viewOf (now table)) (slabTo x dimension bin) ⌝ }
+    ensures { λ r. ⌜ r ≡ positionAt g (viewOf (now (table .entry))) x dimension bin ⌝ }
 {
     let low = less(before, base);
     let high = less(all, low);
@@ -348,8 +289,8 @@ fn position_at(
 // The best position of a box in one dimension. The first bin gives what lies before the box, each other bin a position.
 fn best_in(table: &[u64], work: &[u64], g: Grid, x: Bounds, dimension: u8, all: Stats) -> Position
     requires { ⌜ Worked g (now table) (now work) × Within g x ⌝ }
-    requires { ⌜ all ≡ statsOf g (wide (now table)) x ⌝ }
-    ensures { λ r. ⌜ r ≡ bestIn g (wide (now (table .entry))) x dimension ⌝ }
+    requires { ⌜ all ≡ statsOf g (viewOf (now table)) x ⌝ }
+    ensures { λ r. ⌜ r ≡ bestIn g (viewOf (now (table .entry))) x dimension ⌝ }
 {
     let end = end_bin(x, dimension);
     let first = first_bin(x, dimension);
@@ -378,7 +319,7 @@ fn best_in(table: &[u64], work: &[u64], g: Grid, x: Bounds, dimension: u8, all: 
 // The best position of a box, or that it has none (`cut`).
 pub fn best_cut(table: &[u64], work: &[u64], g: Grid, x: Bounds) -> Position
     requires { ⌜ Worked g (now table) (now work) × Within g x ⌝ }
-    ensures { λ r. ⌜ r ≡ bestCut g (wide (now (table .entry))) x ⌝ }
+    ensures { λ r. ⌜ r ≡ bestCut g (viewOf (now (table .entry))) x ⌝ }
 {
     let all = box_sum(table, work, g, x);
     let two = better(

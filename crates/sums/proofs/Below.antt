@@ -4,10 +4,11 @@ use mathlib.Core.Path.{_≡_, refl, sym, ap, _∙_}
 use Prim.Native.Nat.{ℕ, _+_, _*_, _^_, _≤_, _<_}
 use native.Mathlib.Nat.{add-zero, zero-add, le-trans}
 use native.Mathlib.Omega.{arith}
-use Rattle.grid.specs.declared.Grid.{Grid}
-use Rattle.grid.specs.Range.{sumFrom}
-use Rattle.grid.specs.Grid.{Accepted, choose, binsOf, placeOf}
-use Rattle.grid.proofs.Range.{sum-zero, sum-grow, sum-le}
+use Rattle.grid.specs.declared.place.Grid.{Grid}
+use Rattle.basics.specs.Range.{sumFrom}
+use Rattle.grid.specs.Grid.{Accepted, binsOf, placeOf}
+use Rattle.basics.specs.Dimension.{choose}
+use Rattle.basics.proofs.Range.{sum-zero, sum-grow, sum-le}
 use Rattle.grid.proofs.Places.{place-lt, bin-of-place}
 use Rattle.table.specs.Cell.{View}
 use Rattle.table.specs.Sound.{limit, total}
@@ -22,7 +23,7 @@ module _ (g : Grid) (v : View) where
   bin j r gr b = v (placeOf g r gr b) j
 
   -- the moments at a place, by its bins
-  pub moments-at : (r gr b j : ℕ) → gr < g .b2 → b < g .b3 → momentsOf g v (placeOf g r gr b) j ≡ belowSum g v (r + 1) (gr + 1) (b + 1) j
+  pub moments-at : (r gr b j : ℕ) → gr < g .size2 → b < g .size3 → momentsOf g v (placeOf g r gr b) j ≡ belowSum g v (r + 1) (gr + 1) (b + 1) j
   unfolding momentsOf choose
   moments-at r gr b j h k =
       λ i. belowSum g v (bin-of-place g 0 r gr b h k i + 1) (bin-of-place g 1 r gr b h k i + 1) (bin-of-place g 2 r gr b h k i + 1) j
@@ -65,27 +66,27 @@ module _ (g : Grid) (v : View) where
   below-rises r gr b j = omega (arith, below-plane r gr b j)
 
 -- number j of all bins
-pub all-bins : (g : Grid) (v : View) (j : ℕ) → belowSum g v (g .b1) (g .b2) (g .b3) j ≡ sumFrom 0 (binsOf g) (λ p. v p j)
+pub all-bins : (g : Grid) (v : View) (j : ℕ) → belowSum g v (g .size1) (g .size2) (g .size3) j ≡ sumFrom 0 (binsOf g) (λ p. v p j)
 unfolding belowSum binSum
 all-bins g v j = sym (all-places g (λ p. v p j))
 
 module _ {g : Grid} {v : View} (a : Accepted g) (s : Sound limit g v) where
   -- the whole grid has the most
-  pub below-all : (r gr b j : ℕ) → r ≤ g .b1 → gr ≤ g .b2 → b ≤ g .b3 → belowSum g v r gr b j ≤ belowSum g v (g .b1) (g .b2) (g .b3) j
+  pub below-all : (r gr b j : ℕ) → r ≤ g .size1 → gr ≤ g .size2 → b ≤ g .size3 → belowSum g v r gr b j ≤ belowSum g v (g .size1) (g .size2) (g .size3) j
   unfolding belowSum binSum sum3
   below-all r gr b j h k l =
-      le-trans (sum-grow 0 r (g .b1) _ h)
-      (sum-le 0 (g .b1) _ _
-      (λ x i t. le-trans (sum-grow 0 gr (g .b2) _ k) (sum-le 0 (g .b2) _ _ (λ y m u. sum-grow 0 b (g .b3) (λ z. v (placeOf g x y z) j) l))))
+      le-trans (sum-grow 0 r (g .size1) _ h)
+      (sum-le 0 (g .size1) _ _
+      (λ x i t. le-trans (sum-grow 0 gr (g .size2) _ k) (sum-le 0 (g .size2) _ _ (λ y m u. sum-grow 0 b (g .size3) (λ z. v (placeOf g x y z) j) l))))
 
-  all-high : (j : ℕ) → j < 5 → belowSum g v (g .b1) (g .b2) (g .b3) j ≤ 195075 * total g v
+  all-high : (j : ℕ) → j < 5 → belowSum g v (g .size1) (g .size2) (g .size3) j ≤ 195075 * total g v
   unfolding belowSum binSum
   all-high j h =
-      rw (total-is g v, all-places g (λ p. v p 0), ← sum3-scale 195075 0 (g .b1) 0 (g .b2) 0 (g .b3) (λ x y z. v (placeOf g x y z) 0))
-      (sum3-le 0 (g .b1) 0 (g .b2) 0 (g .b3) (λ x y z. v (placeOf g x y z) j) (λ x y z. 195075 * v (placeOf g x y z) 0)
+      rw (total-is g v, all-places g (λ p. v p 0), ← sum3-scale 195075 0 (g .size1) 0 (g .size2) 0 (g .size3) (λ x y z. v (placeOf g x y z) 0))
+      (sum3-le 0 (g .size1) 0 (g .size2) 0 (g .size3) (λ x y z. v (placeOf g x y z) j) (λ x y z. 195075 * v (placeOf g x y z) 0)
       (λ x y z t u w. number-high a s (placeOf g x y z) (place-lt (record { accepted = a; one = omega arith; two = omega arith; three = omega arith })) j h))
 
   -- every moment is below 2^50
-  pub below-small : (r gr b j : ℕ) → r ≤ g .b1 → gr ≤ g .b2 → b ≤ g .b3 → j < 5 → belowSum g v r gr b j < 2 ^ 50
+  pub below-small : (r gr b j : ℕ) → r ≤ g .size1 → gr ≤ g .size2 → b ≤ g .size3 → j < 5 → belowSum g v r gr b j < 2 ^ 50
   below-small r gr b j h k l m =
       omega (arith, below-all r gr b j h k l, all-high j m, sound-total s)

@@ -6,19 +6,22 @@ use Prim.Native.Nat.{ℕ, _+_, _-_, _^_, _≤_, _<_}
 use native.Mathlib.Nat.{zero-add}
 use native.Mathlib.Omega.{arith}
 use lib.Dec.{lit<}
-use Rattle.grid.specs.declared.Grid.{Grid}
-use Rattle.grid.specs.Range.{sumFrom}
-use Rattle.grid.specs.Grid.{Inside, choose, sizeAt, binsOf, placeOf}
-use Rattle.grid.proofs.Range.{sum-zero, sum-same}
+use Rattle.grid.specs.declared.place.Grid.{Grid}
+use Rattle.basics.specs.Range.{sumFrom}
+use Rattle.grid.specs.Grid.{Inside, sizeAt, binsOf, placeOf}
+use Rattle.basics.specs.Dimension.{choose}
+use Rattle.basics.proofs.Range.{sum-zero, sum-same}
 use Rattle.grid.proofs.Places.{place-lt}
 use Rattle.table.specs.declared.Cell.{Cell}
-use Rattle.table.specs.Cell.{View, wide, cellOf, numberOf, minusCell, AtLeast, HasCell}
+use Rattle.table.specs.Cell.{View, cellOf, numberOf, minusCell, AtLeast}
+use Rattle.table.specs.Table.{viewOf, HasCell}
 use Rattle.table.specs.Sound.{limit}
 use Rattle.table.proofs.Cells.{Holds, list-holds, number-cell, cell-by, Fields, cell-fields, minus-least, minus-is, zero-cell}
 use Rattle.table.proofs.Soundness.{Sound}
-use Rattle.sums.specs.declared.Bounds.{Bounds}
+use Rattle.boxes.specs.declared.sides.Bounds.{Bounds}
 use Rattle.sums.specs.declared.Stats.{Stats}
-use Rattle.sums.specs.Box.{minAt, maxAt, sum3, binSum, boxSum, statsFrom, Within}
+use Rattle.boxes.specs.Box.{minAt, maxAt, Within}
+use Rattle.sums.specs.Box.{sum3, binSum, boxSum, statsFrom}
 use Rattle.sums.specs.Moments.{belowSum, momentsOf, binCell, Corner}
 use Rattle.sums.proofs.Boxes.{sum3-first, sum3-second, sum3-third}
 use Rattle.sums.proofs.Below.{moments-at, below-small}
@@ -102,55 +105,34 @@ module _ {g : Grid} {t w : List ℕ} {r gr b : ℕ} (c : Corner g t w r gr b) wh
           three = omega (arith, c .three);
         }
 
-    holds : Holds (binsOf g) w (momentsOf g (wide t))
-    holds = rw (c .worked .moments) (list-holds (binsOf g) (momentsOf g (wide t)))
+    holds : Holds (binsOf g) w (momentsOf g (viewOf t))
+    holds = rw (c .worked .moments) (list-holds (binsOf g) (momentsOf g (viewOf t)))
 
     pub corner-cell : {p : ℕ} → p ≡ placeOf g (r - 1) (gr - 1) (b - 1) → HasCell w p
     corner-cell at = record { fits = omega (arith, place-lt corner-inside, holds .lent, at) }
 
-    pub corner-number : {p : ℕ} → p ≡ placeOf g (r - 1) (gr - 1) (b - 1) → (j : ℕ) → j < 5 → wide w p j ≡ binSum g (wide t) 0 r 0 gr 0 b j
+    pub corner-number : {p : ℕ} → p ≡ placeOf g (r - 1) (gr - 1) (b - 1) → (j : ℕ) → j < 5 → viewOf w p j ≡ binSum g (viewOf t) 0 r 0 gr 0 b j
     unfolding belowSum
     corner-number at j m =
-        ap (λ (n : ℕ). wide w n j) at
+        ap (λ (n : ℕ). viewOf w n j) at
         ∙ holds .at (placeOf g (r - 1) (gr - 1) (b - 1)) j (place-lt corner-inside) m
-        ∙ moments-at g (wide t) (r - 1) (gr - 1) (b - 1) j (corner-inside .two) (corner-inside .three)
-        ∙ (λ i. binSum g (wide t) 0 (before r h i) 0 (before gr k i) 0 (before b l i) j)
+        ∙ moments-at g (viewOf t) (r - 1) (gr - 1) (b - 1) j (corner-inside .two) (corner-inside .three)
+        ∙ (λ i. binSum g (viewOf t) 0 (before r h i) 0 (before gr k i) 0 (before b l i) j)
 
-    pub corner-is : {p : ℕ} → p ≡ placeOf g (r - 1) (gr - 1) (b - 1) → {x : Cell} → x ≡ cellOf (wide w p) → x ≡ binCell g (wide t) 0 r 0 gr 0 b
+    pub corner-is : {p : ℕ} → p ≡ placeOf g (r - 1) (gr - 1) (b - 1) → {x : Cell} → x ≡ cellOf (viewOf w p) → x ≡ binCell g (viewOf t) 0 r 0 gr 0 b
     unfolding binCell
     corner-is {p} at {x} e =
-        cell-by x (binCell g (wide t) 0 r 0 gr 0 b)
+        cell-by x (binCell g (viewOf t) 0 r 0 gr 0 b)
         (λ j m.
         ap (λ (y : Cell). numberOf y j) e
-        ∙ number-cell (wide w p) j m
+        ∙ number-cell (viewOf w p) j m
         ∙ corner-number at j m
-        ∙ sym (number-cell (binSum g (wide t) 0 r 0 gr 0 b) j m))
+        ∙ sym (number-cell (binSum g (viewOf t) 0 r 0 gr 0 b) j m))
 
-    pub corner-squares : binSum g (wide t) 0 r 0 gr 0 b 4 ≤ 2 ^ 53
+    pub corner-squares : binSum g (viewOf t) 0 r 0 gr 0 b 4 ≤ 2 ^ 53
     unfolding belowSum
     corner-squares =
         omega (arith, below-small (c .worked .table .accepted) (record { holds = c .worked .is-sound }) r gr b 4 (c .one) (c .two) (c .three) (lit< tt))
-
--- ---- boxes
-pub record Sides (g : Grid) (x : Bounds) : Type 0 where
-  pub one : x .r0 < x .r1
-  pub two : x .g0 < x .g1
-  pub three : x .b0 < x .b1
-  pub one-fits : x .r1 ≤ g .b1
-  pub two-fits : x .g1 ≤ g .b2
-  pub three-fits : x .b1 ≤ g .b3
-
-pub sides : {g : Grid} {x : Bounds} → Within g x → Sides g x
-unfolding minAt maxAt sizeAt choose
-sides w =
-    record {
-      one = w .some 0;
-      two = w .some 1;
-      three = w .some 2;
-      one-fits = w .fits 0;
-      two-fits = w .fits 1;
-      three-fits = w .fits 2;
-    }
 
 -- a box has no more than the bins below its ends
 pub box-below : (g : Grid) (v : View) (x : Bounds) (j : ℕ) → Sides g x → boxSum g v x j ≤ belowSum g v (x .r1) (x .g1) (x .b1) j

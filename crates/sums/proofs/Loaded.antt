@@ -10,19 +10,21 @@ use native.Mathlib.Nat.{zero-add, lt-of-not-le, pos-of-ne-zero}
 use native.Mathlib.Omega.{arith}
 use borrow.Author.Tests.{le-leb, lt-leb, lt-ltb, le-ltb}
 use lib.Dec.{leb, ltb}
-use Rattle.grid.specs.declared.Grid.{Grid}
-use Rattle.grid.specs.Range.{sumFrom}
+use Rattle.grid.specs.declared.place.Grid.{Grid}
+use Rattle.basics.specs.Range.{sumFrom}
 use Rattle.grid.specs.Size.{binOf}
-use Rattle.grid.specs.Grid.{Inside, choose, placeOf, colourPlace}
-use Rattle.grid.proofs.Range.{hit, hit-yes, hit-no, sum-hit, sum-zero, sum-same}
+use Rattle.grid.specs.Grid.{Inside, placeOf, colourPlace}
+use Rattle.basics.specs.Dimension.{choose}
+use Rattle.basics.proofs.Range.{hit, hit-yes, hit-no, sum-hit, sum-zero, sum-same}
 use Rattle.grid.proofs.Places.{Bytes, colour-inside, place-once}
 use Rattle.table.specs.Cell.{zeros}
 use Rattle.loader.specs.Load.{Weighted, share, adds, sumOver, loaded, ColourAt}
 use Rattle.loader.proofs.Loading.{AllBytes, share-weight, loaded-at, adds-at, over-none, over-more}
-use Rattle.sums.specs.declared.Bounds.{Bounds}
-use Rattle.sums.specs.Box.{sum3, binSum, boxSum, Within}
+use Rattle.boxes.specs.declared.sides.Bounds.{Bounds}
+use Rattle.sums.specs.Box.{sum3, binSum, boxSum}
+use Rattle.boxes.specs.Box.{Within}
 use Rattle.sums.proofs.Boxes.{sum3-same, sum3-plus, sum3-zero}
-use Rattle.sums.proofs.Corners.{sides}
+use Rattle.boxes.proofs.Within.{sides}
 
 -- q is among the n numbers from i on
 abbrev pub among : ℕ → ℕ → ℕ → Bool
@@ -73,9 +75,9 @@ three false b c y = refl
 -- the bin of a colour lies in a box
 unfoldable pub lies : Grid → Bounds → Weighted → Bool
 lies g x c =
-    among (x .r0) (x .r1 - x .r0) (binOf (g .s1) (c .colour .c1))
-    && (among (x .g0) (x .g1 - x .g0) (binOf (g .s2) (c .colour .c2))
-    && among (x .b0) (x .b1 - x .b0) (binOf (g .s3) (c .colour .c3)))
+    among (x .r0) (x .r1 - x .r0) (binOf (g .shift1) (c .colour .c1))
+    && (among (x .g0) (x .g1 - x .g0) (binOf (g .shift2) (c .colour .c2))
+    && among (x .b0) (x .b1 - x .b0) (binOf (g .shift3) (c .colour .c3)))
 
 -- a place that is hit once: by the bins of a box, if the place is among them
 pub hit-box : {g : Grid} {x : Bounds} → Within g x → {R G Z : ℕ} → Inside g R G Z → (y j : ℕ)

@@ -8,15 +8,18 @@ use native.Mathlib.Decide.{ℕ-discrete, decLe}
 use native.Mathlib.Omega.{arith}
 use borrow.Author.Tests.{eq-eqb, ne-eqb}
 use lib.Dec.{eqb}
-use Rattle.grid.specs.declared.Grid.{Grid}
-use Rattle.grid.specs.Range.{sumFrom}
+use Rattle.grid.specs.declared.place.Grid.{Grid}
+use Rattle.basics.specs.Range.{sumFrom}
 use Rattle.grid.specs.Grid.{placeOf}
-use Rattle.grid.proofs.Range.{hit, hit-yes, hit-no}
+use Rattle.basics.proofs.Range.{hit, hit-yes, hit-no}
 use Rattle.table.specs.Cell.{View}
-use Rattle.sums.specs.declared.Bounds.{Bounds}
-use Rattle.sums.specs.Box.{sum3, binSum, boxSum, Within, InBox, marks, occupiedIn}
+use Rattle.boxes.specs.declared.sides.Bounds.{Bounds}
+use Rattle.sums.specs.Box.{sum3, binSum, boxSum, marks, occupiedIn}
+use Rattle.boxes.specs.Box.{Within}
+use Rattle.boxes.proofs.Within.{InBox}
 use Rattle.sums.proofs.Boxes.{sum3-same, sum3-plus}
-use Rattle.sums.proofs.Laws.{bins-empty, bin-inside}
+use Rattle.sums.proofs.Laws.{bins-empty}
+use Rattle.boxes.proofs.Within.{bin-inside}
 use Rattle.sums.proofs.Loaded.{among, hit-box}
 
 -- 1 for an occupied bin

@@ -7,14 +7,15 @@ use native.Mathlib.Nat.{zero-add, mul-le-mul-right, add-mul, one-mul, suc-mul}
 use native.Mathlib.Decide.{decLe, ℕ-discrete}
 use native.Mathlib.Omega.{arith}
 use lib.ListN.{length}
-use Rattle.grid.specs.declared.Grid.{Grid}
+use Rattle.grid.specs.declared.place.Grid.{Grid}
 use Rattle.grid.specs.Grid.{Accepted, Inside, binsOf, placeOf}
-use Rattle.grid.specs.Range.{sumFrom}
-use Rattle.grid.proofs.Range.{sum-last}
+use Rattle.basics.specs.Range.{sumFrom}
+use Rattle.basics.proofs.Range.{sum-last}
 use Rattle.grid.proofs.Size.{size-low}
 use Rattle.grid.proofs.Places.{two, three, place-lt, place-along}
 use Rattle.table.specs.declared.Cell.{Cell}
-use Rattle.table.specs.Cell.{View, wide, wideList, numberOf, cellOf, plusCell, minusCell, putAt, HasCell, Room, AtLeast}
+use Rattle.table.specs.Cell.{View, numberOf, cellOf, plusCell, minusCell, Room, AtLeast}
+use Rattle.table.specs.Table.{viewOf, written, putAt, HasCell}
 use Rattle.table.specs.Sound.{limit}
 use Rattle.table.proofs.Cells.{number-cell, number-plus, number-minus, cell-by, zero-cell, holds-list, length-put, put-there, put-elsewhere}
 use Rattle.table.proofs.Soundness.{Sound}
@@ -40,24 +41,24 @@ module _ {g : Grid} {t w : List ℕ} {r gr b : ℕ} (ready : Ready g t w r gr b)
   sizes : Accepted g
   sizes = ready .inside .accepted
 
-  sound : Sound limit g (wide t)
+  sound : Sound limit g (viewOf t)
   sound = record { holds = ready .before .is-sound }
 
   -- the line through the bin
-  pub line-number : {c : Cell} → c ≡ lineCell g (wide t) r gr (b + 1) → (j : ℕ) → j < 5 → numberOf c j ≡ lineSum g (wide t) r gr (b + 1) j
+  pub line-number : {c : Cell} → c ≡ lineCell g (viewOf t) r gr (b + 1) → (j : ℕ) → j < 5 → numberOf c j ≡ lineSum g (viewOf t) r gr (b + 1) j
   unfolding lineCell
-  line-number {c} e j h = ap (λ (x : Cell). numberOf x j) e ∙ number-cell (lineSum g (wide t) r gr (b + 1)) j h
+  line-number {c} e j h = ap (λ (x : Cell). numberOf x j) e ∙ number-cell (lineSum g (viewOf t) r gr (b + 1)) j h
 
-  goal-number : (j : ℕ) → j < 5 → numberOf (momentCell g (wide t) (placeOf g r gr b)) j ≡ belowSum g (wide t) (r + 1) (gr + 1) (b + 1) j
+  goal-number : (j : ℕ) → j < 5 → numberOf (momentCell g (viewOf t) (placeOf g r gr b)) j ≡ belowSum g (viewOf t) (r + 1) (gr + 1) (b + 1) j
   unfolding momentCell
-  goal-number j h = number-cell (momentsOf g (wide t) (placeOf g r gr b)) j h ∙ moments-at g (wide t) r gr b j (ready .inside .two) (ready .inside .three)
+  goal-number j h = number-cell (momentsOf g (viewOf t) (placeOf g r gr b)) j h ∙ moments-at g (viewOf t) r gr b j (ready .inside .two) (ready .inside .three)
 
   -- a bin in the rows and planes before
   module _ (r' gr' : ℕ) (h : r' ≤ r) (k : gr' ≤ gr) where
     pub near : Inside g r' gr' b
     near = record { accepted = sizes; one = omega (arith, ready .inside .one); two = omega (arith, ready .inside .two); three = ready .inside .three }
 
-    small : (j : ℕ) → j < 5 → belowSum g (wide t) (r' + 1) (gr' + 1) (b + 1) j < 2 ^ 50
+    small : (j : ℕ) → j < 5 → belowSum g (viewOf t) (r' + 1) (gr' + 1) (b + 1) j < 2 ^ 50
     small j l =
         below-small sizes sound (r' + 1) (gr' + 1) (b + 1) j (omega (arith, ready .inside .one)) (omega (arith, ready .inside .two)) (omega (arith, ready .inside .three)) l
 
@@ -65,102 +66,102 @@ module _ {g : Grid} {t w : List ℕ} {r gr b : ℕ} (ready : Ready g t w r gr b)
       pub near-cell : HasCell w p
       near-cell = record { fits = omega (arith, place-lt near, ready .before .lent, at) }
 
-      pub near-number : r' + gr' < r + gr → {c : Cell} → c ≡ cellOf (wide w p) → (j : ℕ) → j < 5 → numberOf c j ≡ belowSum g (wide t) (r' + 1) (gr' + 1) (b + 1) j
+      pub near-number : r' + gr' < r + gr → {c : Cell} → c ≡ cellOf (viewOf w p) → (j : ℕ) → j < 5 → numberOf c j ≡ belowSum g (viewOf t) (r' + 1) (gr' + 1) (b + 1) j
       unfolding placeOf
       near-number l {c} e j m =
           ap (λ (x : Cell). numberOf x j) e
-          ∙ number-cell (wide w p) j m
-          ∙ ap (λ (q : ℕ). wide w q j) at
+          ∙ number-cell (viewOf w p) j m
+          ∙ ap (λ (q : ℕ). viewOf w q j) at
           ∙ ready .before .made (placeOf g r' gr' b) j
-          (earlier (r' * g .b2 + gr') (r * g .b2 + gr) (g .b3) b (omega (arith, size-low (three sizes))) (rows-earlier r' r gr' gr (g .b2) (omega (arith, size-low (two sizes))) h k l)) m
-          ∙ moments-at g (wide t) r' gr' b j (near .two) (near .three)
+          (earlier (r' * g .size2 + gr') (r * g .size2 + gr) (g .size3) b (omega (arith, size-low (three sizes))) (rows-earlier r' r gr' gr (g .size2) (omega (arith, size-low (two sizes))) h k l)) m
+          ∙ moments-at g (viewOf t) r' gr' b j (near .two) (near .three)
 
   -- the three neighbours, as the code reads them
   back : (n : ℕ) → 0 < n → (n - 1) + 1 ≡ n
   back n h = omega arith
 
-  pub above-has : 0 < gr → {p : ℕ} → p ≡ placeOf g r (gr - 1) b → {c : Cell} → c ≡ cellOf (wide w p) → Has g (wide t) b c (r + 1) gr
+  pub above-has : 0 < gr → {p : ℕ} → p ≡ placeOf g r (gr - 1) b → {c : Cell} → c ≡ cellOf (viewOf w p) → Has g (viewOf t) b c (r + 1) gr
   above-has h at e =
       record {
         at = λ j k.
             near-number r (gr - 1) (omega arith) (omega arith) at (omega arith) e j k
-            ∙ ap (λ (n : ℕ). belowSum g (wide t) (r + 1) n (b + 1) j) (back gr h);
+            ∙ ap (λ (n : ℕ). belowSum g (viewOf t) (r + 1) n (b + 1) j) (back gr h);
       }
 
-  pub before-has : 0 < r → {p : ℕ} → p ≡ placeOf g (r - 1) gr b → {c : Cell} → c ≡ cellOf (wide w p) → Has g (wide t) b c r (gr + 1)
+  pub before-has : 0 < r → {p : ℕ} → p ≡ placeOf g (r - 1) gr b → {c : Cell} → c ≡ cellOf (viewOf w p) → Has g (viewOf t) b c r (gr + 1)
   before-has h at e =
       record {
         at = λ j k.
             near-number (r - 1) gr (omega arith) (omega arith) at (omega arith) e j k
-            ∙ ap (λ (n : ℕ). belowSum g (wide t) n (gr + 1) (b + 1) j) (back r h);
+            ∙ ap (λ (n : ℕ). belowSum g (viewOf t) n (gr + 1) (b + 1) j) (back r h);
       }
 
-  pub corner-has : 0 < r → 0 < gr → {p : ℕ} → p ≡ placeOf g (r - 1) (gr - 1) b → {c : Cell} → c ≡ cellOf (wide w p) → Has g (wide t) b c r gr
+  pub corner-has : 0 < r → 0 < gr → {p : ℕ} → p ≡ placeOf g (r - 1) (gr - 1) b → {c : Cell} → c ≡ cellOf (viewOf w p) → Has g (viewOf t) b c r gr
   corner-has h l at e =
       record {
         at = λ j k.
             near-number (r - 1) (gr - 1) (omega arith) (omega arith) at (omega arith) e j k
-            ∙ (λ i. belowSum g (wide t) (back r h i) (back gr l i) (b + 1) j);
+            ∙ (λ i. belowSum g (viewOf t) (back r h i) (back gr l i) (b + 1) j);
       }
 
-  no-plane : r ≡ 0 → (gr' j : ℕ) → belowSum g (wide t) r gr' (b + 1) j ≡ 0
-  no-plane e gr' j = rw e (below-none g (wide t) gr' (b + 1) j)
+  no-plane : r ≡ 0 → (gr' j : ℕ) → belowSum g (viewOf t) r gr' (b + 1) j ≡ 0
+  no-plane e gr' j = rw e (below-none g (viewOf t) gr' (b + 1) j)
 
-  no-row : gr ≡ 0 → (r' j : ℕ) → belowSum g (wide t) r' gr (b + 1) j ≡ 0
-  no-row e r' j = rw e (below-no-row g (wide t) r' (b + 1) j)
+  no-row : gr ≡ 0 → (r' j : ℕ) → belowSum g (viewOf t) r' gr (b + 1) j ≡ 0
+  no-row e r' j = rw e (below-no-row g (viewOf t) r' (b + 1) j)
 
-  module _ {l : Cell} (e : l ≡ lineCell g (wide t) r gr (b + 1)) where
+  module _ {l : Cell} (e : l ≡ lineCell g (viewOf t) r gr (b + 1)) where
     -- what the moments at the bin are made of, and that they fit
     record Made (j : ℕ) : Type 0 where
-      step : belowSum g (wide t) (r + 1) (gr + 1) (b + 1) j + belowSum g (wide t) r gr (b + 1) j ≡ numberOf l j + belowSum g (wide t) (r + 1) gr (b + 1) j + belowSum g (wide t) r (gr + 1) (b + 1) j
-      row : belowSum g (wide t) r gr (b + 1) j ≤ belowSum g (wide t) r (gr + 1) (b + 1) j
-      plane : belowSum g (wide t) r gr (b + 1) j ≤ belowSum g (wide t) (r + 1) gr (b + 1) j
-      fits : belowSum g (wide t) (r + 1) (gr + 1) (b + 1) j < 2 ^ 50
-      goal : numberOf (momentCell g (wide t) (placeOf g r gr b)) j ≡ belowSum g (wide t) (r + 1) (gr + 1) (b + 1) j
+      step : belowSum g (viewOf t) (r + 1) (gr + 1) (b + 1) j + belowSum g (viewOf t) r gr (b + 1) j ≡ numberOf l j + belowSum g (viewOf t) (r + 1) gr (b + 1) j + belowSum g (viewOf t) r (gr + 1) (b + 1) j
+      row : belowSum g (viewOf t) r gr (b + 1) j ≤ belowSum g (viewOf t) r (gr + 1) (b + 1) j
+      plane : belowSum g (viewOf t) r gr (b + 1) j ≤ belowSum g (viewOf t) (r + 1) gr (b + 1) j
+      fits : belowSum g (viewOf t) (r + 1) (gr + 1) (b + 1) j < 2 ^ 50
+      goal : numberOf (momentCell g (viewOf t) (placeOf g r gr b)) j ≡ belowSum g (viewOf t) (r + 1) (gr + 1) (b + 1) j
 
     made : (j : ℕ) → j < 5 → Made j
     made j h =
         record {
-          step = below-step g (wide t) r gr (b + 1) j
-              ∙ ap (λ (x : ℕ). x + belowSum g (wide t) (r + 1) gr (b + 1) j + belowSum g (wide t) r (gr + 1) (b + 1) j) (sym (line-number e j h));
-          row = below-grows g (wide t) r gr (b + 1) j;
-          plane = below-rises g (wide t) r gr (b + 1) j;
+          step = below-step g (viewOf t) r gr (b + 1) j
+              ∙ ap (λ (x : ℕ). x + belowSum g (viewOf t) (r + 1) gr (b + 1) j + belowSum g (viewOf t) r (gr + 1) (b + 1) j) (sym (line-number e j h));
+          row = below-grows g (viewOf t) r gr (b + 1) j;
+          plane = below-rises g (viewOf t) r gr (b + 1) j;
           fits = small r gr (omega arith) (omega arith) j h;
           goal = goal-number j h;
         }
 
-    pub only-line : r ≡ 0 → gr ≡ 0 → l ≡ momentCell g (wide t) (placeOf g r gr b)
+    pub only-line : r ≡ 0 → gr ≡ 0 → l ≡ momentCell g (viewOf t) (placeOf g r gr b)
     only-line h k =
-        cell-by l (momentCell g (wide t) (placeOf g r gr b))
+        cell-by l (momentCell g (viewOf t) (placeOf g r gr b))
         (λ j m. let f = made j m in omega (arith, f .step, f .goal, no-plane h gr j, no-plane h (gr + 1) j, no-row k (r + 1) j))
 
-    module _ {a : Cell} (ha : Has g (wide t) b a (r + 1) gr) where
+    module _ {a : Cell} (ha : Has g (viewOf t) b a (r + 1) gr) where
       pub above-room : Room l a
       above-room = record { fits = λ j m. let f = made j m in omega (arith, f .step, f .row, f .fits, ha .at j m) }
 
-      pub with-above : r ≡ 0 → {s : Cell} → s ≡ plusCell l a → s ≡ momentCell g (wide t) (placeOf g r gr b)
+      pub with-above : r ≡ 0 → {s : Cell} → s ≡ plusCell l a → s ≡ momentCell g (viewOf t) (placeOf g r gr b)
       with-above h {s} q =
-          cell-by s (momentCell g (wide t) (placeOf g r gr b))
+          cell-by s (momentCell g (viewOf t) (placeOf g r gr b))
           (λ j m.
           let f = made j m in
           omega (arith, ap (λ (x : Cell). numberOf x j) q, number-plus l a j m, f .step, f .goal, ha .at j m, no-plane h gr j, no-plane h (gr + 1) j))
 
-    module _ {c : Cell} (hc : Has g (wide t) b c r (gr + 1)) where
+    module _ {c : Cell} (hc : Has g (viewOf t) b c r (gr + 1)) where
       pub before-room : Room l c
       before-room = record { fits = λ j m. let f = made j m in omega (arith, f .step, f .plane, f .fits, hc .at j m) }
 
-      pub with-before : gr ≡ 0 → {s : Cell} → s ≡ plusCell l c → s ≡ momentCell g (wide t) (placeOf g r gr b)
+      pub with-before : gr ≡ 0 → {s : Cell} → s ≡ plusCell l c → s ≡ momentCell g (viewOf t) (placeOf g r gr b)
       with-before h {s} q =
-          cell-by s (momentCell g (wide t) (placeOf g r gr b))
+          cell-by s (momentCell g (viewOf t) (placeOf g r gr b))
           (λ j m.
           let f = made j m in
           omega (arith, ap (λ (x : Cell). numberOf x j) q, number-plus l c j m, f .step, f .goal, hc .at j m, no-row h r j, no-row h (r + 1) j))
 
-      module _ {d : Cell} (hd : Has g (wide t) b d r gr) where
+      module _ {d : Cell} (hd : Has g (viewOf t) b d r gr) where
         pub corner-least : AtLeast c d
         corner-least = record { least = λ j m. let f = made j m in omega (arith, f .row, hc .at j m, hd .at j m) }
 
-        module _ {a : Cell} (ha : Has g (wide t) b a (r + 1) gr) {s : Cell} (q : s ≡ plusCell l a) {x : Cell} (o : x ≡ minusCell c d) where
+        module _ {a : Cell} (ha : Has g (viewOf t) b a (r + 1) gr) {s : Cell} (q : s ≡ plusCell l a) {x : Cell} (o : x ≡ minusCell c d) where
           pub rest-room : Room s x
           rest-room =
               record {
@@ -169,71 +170,71 @@ module _ {g : Grid} {t w : List ℕ} {r gr b : ℕ} (ready : Ready g t w r gr b)
                     omega (arith, ap (λ (y : Cell). numberOf y j) q, number-plus l a j m, ap (λ (y : Cell). numberOf y j) o, number-minus c d j m, f .step, f .row, f .fits, ha .at j m, hc .at j m, hd .at j m);
               }
 
-          pub with-all : {y : Cell} → y ≡ plusCell s x → y ≡ momentCell g (wide t) (placeOf g r gr b)
+          pub with-all : {y : Cell} → y ≡ plusCell s x → y ≡ momentCell g (viewOf t) (placeOf g r gr b)
           with-all {y} u =
-              cell-by y (momentCell g (wide t) (placeOf g r gr b))
+              cell-by y (momentCell g (viewOf t) (placeOf g r gr b))
               (λ j m.
               let f = made j m in
               omega (arith, ap (λ (z : Cell). numberOf z j) u, number-plus s x j m, ap (λ (z : Cell). numberOf z j) q, number-plus l a j m, ap (λ (z : Cell). numberOf z j) o, number-minus c d j m, f .step, f .goal, f .row, ha .at j m, hc .at j m, hd .at j m))
 
   -- ---- the line, one bin on
-  line-small : (j : ℕ) → j < 5 → lineSum g (wide t) r gr (b + 1) j < 2 ^ 50
+  line-small : (j : ℕ) → j < 5 → lineSum g (viewOf t) r gr (b + 1) j < 2 ^ 50
   line-small j h =
-      omega (arith, below-step g (wide t) r gr (b + 1) j, below-grows g (wide t) r gr (b + 1) j, small r gr (omega arith) (omega arith) j h)
+      omega (arith, below-step g (viewOf t) r gr (b + 1) j, below-grows g (viewOf t) r gr (b + 1) j, small r gr (omega arith) (omega arith) j h)
 
-  line-next : (j : ℕ) → lineSum g (wide t) r gr (b + 1) j ≡ lineSum g (wide t) r gr b j + wide t (placeOf g r gr b) j
+  line-next : (j : ℕ) → lineSum g (viewOf t) r gr (b + 1) j ≡ lineSum g (viewOf t) r gr b j + viewOf t (placeOf g r gr b) j
   unfolding lineSum
   line-next j =
-      sum-last 0 b (λ z. wide t (placeOf g r gr z) j)
-      ∙ ap (λ (z : ℕ). sumFrom 0 b (λ y. wide t (placeOf g r gr y) j) + wide t (placeOf g r gr z) j) (zero-add b)
+      sum-last 0 b (λ z. viewOf t (placeOf g r gr z) j)
+      ∙ ap (λ (z : ℕ). sumFrom 0 b (λ y. viewOf t (placeOf g r gr y) j) + viewOf t (placeOf g r gr z) j) (zero-add b)
 
-  module _ {l : Cell} (e : l ≡ lineCell g (wide t) r gr b) {p : ℕ} (at : p ≡ placeOf g r gr b) {c : Cell} (q : c ≡ cellOf (wide t p)) where
-    parts : (j : ℕ) → j < 5 → numberOf l j + numberOf c j ≡ lineSum g (wide t) r gr (b + 1) j
+  module _ {l : Cell} (e : l ≡ lineCell g (viewOf t) r gr b) {p : ℕ} (at : p ≡ placeOf g r gr b) {c : Cell} (q : c ≡ cellOf (viewOf t p)) where
+    parts : (j : ℕ) → j < 5 → numberOf l j + numberOf c j ≡ lineSum g (viewOf t) r gr (b + 1) j
     unfolding lineCell
     parts j h =
         (λ i.
-        (ap (λ (x : Cell). numberOf x j) e ∙ number-cell (lineSum g (wide t) r gr b) j h) i
-        + (ap (λ (x : Cell). numberOf x j) q ∙ number-cell (wide t p) j h ∙ ap (λ (n : ℕ). wide t n j) at) i)
+        (ap (λ (x : Cell). numberOf x j) e ∙ number-cell (lineSum g (viewOf t) r gr b) j h) i
+        + (ap (λ (x : Cell). numberOf x j) q ∙ number-cell (viewOf t p) j h ∙ ap (λ (n : ℕ). viewOf t n j) at) i)
         ∙ sym (line-next j)
 
     pub line-room : Room l c
     line-room = record { fits = λ j h. omega (arith, parts j h, line-small j h) }
 
-    pub line-through : {s : Cell} → s ≡ plusCell l c → s ≡ lineCell g (wide t) r gr (b + 1)
+    pub line-through : {s : Cell} → s ≡ plusCell l c → s ≡ lineCell g (viewOf t) r gr (b + 1)
     unfolding lineCell
     line-through {s} u =
-        cell-by s (lineCell g (wide t) r gr (b + 1))
+        cell-by s (lineCell g (viewOf t) r gr (b + 1))
         (λ j h.
         ap (λ (x : Cell). numberOf x j) u
         ∙ number-plus l c j h
         ∙ parts j h
-        ∙ sym (number-cell (lineSum g (wide t) r gr (b + 1)) j h))
+        ∙ sym (number-cell (lineSum g (viewOf t) r gr (b + 1)) j h))
 
   pub table-cell : {p : ℕ} → p ≡ placeOf g r gr b → HasCell t p
   table-cell at = record { fits = omega (arith, place-lt (ready .inside), ready .before .table .lent, at) }
 
   -- ---- the work table, one bin on
-  pub one-on : {e : List ℕ} → e ≡ putAt w (placeOf g r gr b) (momentCell g (wide t) (placeOf g r gr b)) → Before g t e (placeOf g r gr b + 1)
+  pub one-on : {e : List ℕ} → e ≡ putAt w (placeOf g r gr b) (momentCell g (viewOf t) (placeOf g r gr b)) → Before g t e (placeOf g r gr b + 1)
   unfolding momentCell
   one-on {e} u =
       record {
         table = ready .before .table;
         is-sound = ready .before .is-sound;
-        lent = ap length u ∙ length-put w (placeOf g r gr b) (momentCell g (wide t) (placeOf g r gr b)) ∙ ready .before .lent;
-        made = λ q j h k. ap (λ (x : List ℕ). wide x q j) u ∙ go q j h k (ℕ-discrete (placeOf g r gr b) q);
+        lent = ap length u ∙ length-put w (placeOf g r gr b) (momentCell g (viewOf t) (placeOf g r gr b)) ∙ ready .before .lent;
+        made = λ q j h k. ap (λ (x : List ℕ). viewOf x q j) u ∙ go q j h k (ℕ-discrete (placeOf g r gr b) q);
       }
     where
       has : 5 * placeOf g r gr b + 5 ≤ length w
       has = omega (arith, place-lt (ready .inside), ready .before .lent)
 
-      go : (q j : ℕ) → q < placeOf g r gr b + 1 → j < 5 → Dec (placeOf g r gr b ≡ q) → wide (putAt w (placeOf g r gr b) (momentCell g (wide t) (placeOf g r gr b))) q j ≡ momentsOf g (wide t) q j
+      go : (q j : ℕ) → q < placeOf g r gr b + 1 → j < 5 → Dec (placeOf g r gr b ≡ q) → viewOf (putAt w (placeOf g r gr b) (momentCell g (viewOf t) (placeOf g r gr b))) q j ≡ momentsOf g (viewOf t) q j
       go q j h k (yes d) =
-          ap (λ (n : ℕ). wide (putAt w (placeOf g r gr b) (momentCell g (wide t) (placeOf g r gr b))) n j) (sym d)
-          ∙ put-there w (placeOf g r gr b) (momentCell g (wide t) (placeOf g r gr b)) has j k
-          ∙ number-cell (momentsOf g (wide t) (placeOf g r gr b)) j k
-          ∙ ap (λ (n : ℕ). momentsOf g (wide t) n j) d
+          ap (λ (n : ℕ). viewOf (putAt w (placeOf g r gr b) (momentCell g (viewOf t) (placeOf g r gr b))) n j) (sym d)
+          ∙ put-there w (placeOf g r gr b) (momentCell g (viewOf t) (placeOf g r gr b)) has j k
+          ∙ number-cell (momentsOf g (viewOf t) (placeOf g r gr b)) j k
+          ∙ ap (λ (n : ℕ). momentsOf g (viewOf t) n j) d
       go q j h k (no d) =
-          put-elsewhere w (placeOf g r gr b) (momentCell g (wide t) (placeOf g r gr b)) has q j k d
+          put-elsewhere w (placeOf g r gr b) (momentCell g (viewOf t) (placeOf g r gr b)) has q j k d
           ∙ ready .before .made q j (omega arith) k
 
 -- ---- rows and planes of bins
@@ -256,5 +257,5 @@ pub none-made : {g : Grid} {t w : List ℕ} → Lent g t w → Before g t w 0
 none-made l =
     record { table = l .table; is-sound = l .is-sound; lent = l .work; made = λ q j h k. absurd (omega arith) }
 
-pub all-made : {g : Grid} {t w : List ℕ} → Before g t w (binsOf g) → w ≡ wideList (binsOf g) (momentsOf g (wide t))
+pub all-made : {g : Grid} {t w : List ℕ} → Before g t w (binsOf g) → w ≡ written (binsOf g) (momentsOf g (viewOf t))
 all-made b = holds-list (record { lent = b .lent; at = b .made })

@@ -4,11 +4,12 @@ use mathlib.Core.Bool.{true}
 use mathlib.Core.List.{List}
 use Prim.Native.Nat.{ℕ, _+_, _*_, _≤_, _<_}
 use lib.ListN.{length}
-use Rattle.grid.specs.declared.Grid.{Grid}
-use Rattle.grid.specs.Range.{sumFrom}
+use Rattle.grid.specs.declared.place.Grid.{Grid}
+use Rattle.basics.specs.Range.{sumFrom}
 use Rattle.grid.specs.Grid.{binsOf, placeOf, binAt, Inside}
 use Rattle.table.specs.declared.Cell.{Cell}
-use Rattle.table.specs.Cell.{View, wide, wideList, cellOf, TableOf}
+use Rattle.table.specs.Cell.{View, cellOf}
+use Rattle.table.specs.Table.{viewOf, written, TableOf}
 use Rattle.table.specs.Sound.{limit, sound}
 use Rattle.sums.specs.Box.{binSum}
 
@@ -23,13 +24,13 @@ momentsOf g v p j = belowSum g v (binAt g 0 p + 1) (binAt g 1 p + 1) (binAt g 2 
 -- a sound table, and the work table with its moments
 pub record Worked (g : Grid) (t w : List ℕ) : Type 0 where
   pub table : TableOf g t
-  pub is-sound : sound limit g (wide t) ≡ true
-  pub moments : w ≡ wideList (binsOf g) (momentsOf g (wide t))
+  pub is-sound : sound limit g (viewOf t) ≡ true
+  pub moments : w ≡ written (binsOf g) (momentsOf g (viewOf t))
 
 -- a sound table, and a work table for its moments
 pub record Lent (g : Grid) (t w : List ℕ) : Type 0 where
   pub table : TableOf g t
-  pub is-sound : sound limit g (wide t) ≡ true
+  pub is-sound : sound limit g (viewOf t) ≡ true
   pub work : length w ≡ 5 * binsOf g
 
 -- the sum along a row of bins, below b
@@ -47,9 +48,9 @@ lineCell g v r gr b = cellOf (lineSum g v r gr b)
 -- a sound table and a work table of its grid, whose places before p have their moments
 pub record Before (g : Grid) (t w : List ℕ) (p : ℕ) : Type 0 where
   pub table : TableOf g t
-  pub is-sound : sound limit g (wide t) ≡ true
+  pub is-sound : sound limit g (viewOf t) ≡ true
   pub lent : length w ≡ 5 * binsOf g
-  pub made : (q j : ℕ) → q < p → j < 5 → wide w q j ≡ momentsOf g (wide t) q j
+  pub made : (q j : ℕ) → q < p → j < 5 → viewOf w q j ≡ momentsOf g (viewOf t) q j
 
 -- that, before a bin of the grid
 pub record Ready (g : Grid) (t w : List ℕ) (r gr b : ℕ) : Type 0 where
@@ -60,9 +61,9 @@ pub record Ready (g : Grid) (t w : List ℕ) (r gr b : ℕ) : Type 0 where
 -- a work table with the moments of a table, and the end of some bins of the grid
 pub record Corner (g : Grid) (t w : List ℕ) (r gr b : ℕ) : Type 0 where
   pub worked : Worked g t w
-  pub one : r ≤ g .b1
-  pub two : gr ≤ g .b2
-  pub three : b ≤ g .b3
+  pub one : r ≤ g .size1
+  pub two : gr ≤ g .size2
+  pub three : b ≤ g .size3
 
 -- the cell of the sums over three runs of bins
 unfoldable pub binCell : Grid → View → ℕ → ℕ → ℕ → ℕ → ℕ → ℕ → Cell

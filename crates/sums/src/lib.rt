@@ -1,6 +1,6 @@
 // Moments of a table, and the sums of boxes from them.
-use grid::Grid;
-use grid::place;
+use grid::place::Grid;
+use grid::place::place;
 use table::Cell;
 use table::cell_at;
 use table::minus;
@@ -9,19 +9,11 @@ use table::put_at;
 ghost use mathlib.Core.Path.{_≡_};
 ghost use Prim.Native.Nat.{_+_, _-_, _*_, _^_, _≤_};
 ghost use Rattle.grid.specs.Grid.{binsOf, placeOf};
-ghost use Rattle.table.specs.Cell.{numberOf, wide, wideList, putAt};
-ghost use Rattle.sums.specs.Box.{boxCell, statsFrom, statsOf, Within};
+ghost use Rattle.table.specs.Cell.{numberOf};
+ghost use Rattle.table.specs.Table.{viewOf, written, putAt};
+ghost use Rattle.sums.specs.Box.{boxCell, statsFrom, statsOf};
+ghost use Rattle.boxes.specs.Box.{Within};
 ghost use Rattle.sums.specs.Moments.{momentsOf, momentCell, lineCell, binCell, Lent, Worked, Before, Ready, Corner};
-
-// A box: min inclusive, max exclusive, in each dimension (`Cube`).
-pub struct Bounds {
-    pub r0: u8,
-    pub r1: u8,
-    pub g0: u8,
-    pub g1: u8,
-    pub b0: u8,
-    pub b1: u8,
-}
 
 // The statistics of a box (`Stats`).
 pub struct Stats {
@@ -47,8 +39,8 @@ pub const ZEROS: Cell = Cell {
 // above in that plane. The table is named by the contract alone.
 fn joined(table: &[u64], work: &[u64], g: Grid, r: usize, gr: usize, b: usize, line: Cell) -> Cell
     requires { ⌜ Ready g (now table) (now work) r gr b ⌝ }
-    requires { ⌜ line ≡ lineCell g (wide (now table)) r gr (b + 1) ⌝ }
-    ensures { λ c. ⌜ c ≡ momentCell g (wide (now (table .entry))) (placeOf g r gr b) ⌝ }
+    requires { ⌜ line ≡ lineCell g (viewOf (now table)) r gr (b + 1) ⌝ }
+    ensures { λ c. ⌜ c ≡ momentCell g (viewOf (now (table .entry))) (placeOf g r gr b) ⌝ }
 {
     if gr == 0 {
         if r == 0 {
@@ -78,9 +70,9 @@ fn next_bin(
     line: Cell,
 ) -> Cell
     requires { ⌜ Ready g (now table) (now work) r gr b ⌝ }
-    requires { ⌜ line ≡ lineCell g (wide (now table)) r gr b ⌝ }
-    ensures { λ c. ⌜ c ≡ lineCell g (wide (now (table .entry))) r gr (b + 1) ⌝ }
-    ensures { λ c. ⌜ now (work .exit) ≡ putAt (now (work .entry)) (placeOf g r gr b) (momentCell g (wide (now (table .entry))) (placeOf g r gr b)) ⌝ }
+    requires { ⌜ line ≡ lineCell g (viewOf (now table)) r gr b ⌝ }
+    ensures { λ c. ⌜ c ≡ lineCell g (viewOf (now (table .entry))) r gr (b + 1) ⌝ }
+    ensures { λ c. ⌜ now (work .exit) ≡ putAt (now (work .entry)) (placeOf g r gr b) (momentCell g (viewOf (now (table .entry))) (placeOf g r gr b)) ⌝ }
 {
     let p = place(g, r, gr, b);
     let sum = plus(line, cell_at(table, p));
@@ -92,11 +84,11 @@ fn next_bin(
 // Writes the moments of a row of bins.
 fn next_row(table: &[u64], work: &mut [u64], g: Grid, r: usize, gr: usize)
     requires { ⌜ Ready g (now table) (now work) r gr 0 ⌝ }
-    ensures { λ c. ⌜ Before g (now (table .entry)) (now (work .exit)) (placeOf g r gr 0 + g .b3) ⌝ }
+    ensures { λ c. ⌜ Before g (now (table .entry)) (now (work .exit)) (placeOf g r gr 0 + g .size3) ⌝ }
 {
     let mut line = ZEROS;
     let mut b = 0;
-    while b < g.b3 {
+    while b < g.size3 {
         line = next_bin(table, work, g, r, gr, b, line);
         b = b + 1;
     }
@@ -105,10 +97,10 @@ fn next_row(table: &[u64], work: &mut [u64], g: Grid, r: usize, gr: usize)
 // Writes the moments of a plane of rows.
 fn next_plane(table: &[u64], work: &mut [u64], g: Grid, r: usize)
     requires { ⌜ Ready g (now table) (now work) r 0 0 ⌝ }
-    ensures { λ c. ⌜ Before g (now (table .entry)) (now (work .exit)) (placeOf g r 0 0 + g .b2 * g .b3) ⌝ }
+    ensures { λ c. ⌜ Before g (now (table .entry)) (now (work .exit)) (placeOf g r 0 0 + g .size2 * g .size3) ⌝ }
 {
     let mut gr = 0;
-    while gr < g.b2 {
+    while gr < g.size2 {
         next_row(table, work, g, r, gr);
         gr = gr + 1;
     }
@@ -117,10 +109,10 @@ fn next_plane(table: &[u64], work: &mut [u64], g: Grid, r: usize)
 // Fills the work table with the moments of a table.
 pub fn moments(table: &[u64], g: Grid, work: &mut [u64])
     requires { ⌜ Lent g (now table) (now work) ⌝ }
-    ensures { λ c. ⌜ now (work .exit) ≡ wideList (binsOf g) (momentsOf g (wide (now (table .entry)))) ⌝ }
+    ensures { λ c. ⌜ now (work .exit) ≡ written (binsOf g) (momentsOf g (viewOf (now (table .entry)))) ⌝ }
 {
     let mut r = 0;
-    while r < g.b1 {
+    while r < g.size1 {
         next_plane(table, work, g, r);
         r = r + 1;
     }
@@ -132,7 +124,7 @@ pub fn moments(table: &[u64], g: Grid, work: &mut [u64])
 // here and below.
 fn corner(table: &[u64], work: &[u64], g: Grid, r: usize, gr: usize, b: usize) -> Cell
     requires { ⌜ Corner g (now table) (now work) r gr b ⌝ }
-    ensures { λ c. ⌜ c ≡ binCell g (wide (now (table .entry))) 0 r 0 gr 0 b ⌝ }
+    ensures { λ c. ⌜ c ≡ binCell g (viewOf (now (table .entry))) 0 r 0 gr 0 b ⌝ }
 {
     if r == 0 {
         return ZEROS;
@@ -149,7 +141,7 @@ fn corner(table: &[u64], work: &[u64], g: Grid, r: usize, gr: usize, b: usize) -
 // The sums of the bins from b0 to b1, below r and gr.
 fn run(table: &[u64], work: &[u64], g: Grid, r: usize, gr: usize, b0: usize, b1: usize) -> Cell
     requires { ⌜ Corner g (now table) (now work) r gr b1 × (b0 ≤ b1) ⌝ }
-    ensures { λ c. ⌜ c ≡ binCell g (wide (now (table .entry))) 0 r 0 gr b0 (b1 - b0) ⌝ }
+    ensures { λ c. ⌜ c ≡ binCell g (viewOf (now (table .entry))) 0 r 0 gr b0 (b1 - b0) ⌝ }
 {
     let upper = corner(table, work, g, r, gr, b1);
     if b0 == 0 {
@@ -161,7 +153,7 @@ fn run(table: &[u64], work: &[u64], g: Grid, r: usize, gr: usize, b0: usize, b1:
 // The sums of the bins of a box's last two dimensions, below r.
 fn slab(table: &[u64], work: &[u64], g: Grid, r: usize, x: Bounds) -> Cell
     requires { ⌜ Corner g (now table) (now work) r (x .g1) (x .b1) × (x .g0 ≤ x .g1) × (x .b0 ≤ x .b1) ⌝ }
-    ensures { λ c. ⌜ c ≡ binCell g (wide (now (table .entry))) 0 r (x .g0) (x .g1 - x .g0) (x .b0) (x .b1 - x .b0) ⌝ }
+    ensures { λ c. ⌜ c ≡ binCell g (viewOf (now (table .entry))) 0 r (x .g0) (x .g1 - x .g0) (x .b0) (x .b1 - x .b0) ⌝ }
 {
     let b0 = x.b0 as usize;
     let b1 = x.b1 as usize;
@@ -175,7 +167,7 @@ fn slab(table: &[u64], work: &[u64], g: Grid, r: usize, x: Bounds) -> Cell
 // The five sums of a box, from the moments of its table (`volume`).
 fn box_cell(table: &[u64], work: &[u64], g: Grid, x: Bounds) -> Cell
     requires { ⌜ Worked g (now table) (now work) × Within g x ⌝ }
-    ensures { λ c. ⌜ c ≡ boxCell g (wide (now (table .entry))) x ⌝ }
+    ensures { λ c. ⌜ c ≡ boxCell g (viewOf (now (table .entry))) x ⌝ }
 {
     let upper = slab(table, work, g, x.r1 as usize, x);
     if x.r0 == 0 {
@@ -201,7 +193,7 @@ pub fn stats_of(c: Cell) -> Stats
 // The statistics of a box, from the moments of its table.
 pub fn box_sum(table: &[u64], work: &[u64], g: Grid, x: Bounds) -> Stats
     requires { ⌜ Worked g (now table) (now work) × Within g x ⌝ }
-    ensures { λ r. ⌜ r ≡ statsOf g (wide (now (table .entry))) x ⌝ }
+    ensures { λ r. ⌜ r ≡ statsOf g (viewOf (now (table .entry))) x ⌝ }
 {
     stats_of(box_cell(table, work, g, x))
 }

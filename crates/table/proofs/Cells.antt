@@ -11,9 +11,10 @@ use borrow.Author.Tests.{eq-eqb, ne-eqb}
 use lib.Dec.{eqb, lit<}
 use lib.ListN.{length, getD, set, length-set}
 use lib.Seq.{getD-set-same, getD-set-other}
-use Rattle.grid.proofs.Range.{length-list, list-at, list-is}
+use Rattle.basics.proofs.Range.{length-list, list-at, list-is}
 use Rattle.table.specs.declared.Cell.{Cell}
-use Rattle.table.specs.Cell.{View, numberOf, cellOf, wide, wideList, putAt, plusCell, minusCell, AtLeast}
+use Rattle.table.specs.Cell.{View, numberOf, cellOf, plusCell, minusCell, AtLeast}
+use Rattle.table.specs.Table.{viewOf, written, putAt}
 
 pub number-cell : (f : ℕ → ℕ) (j : ℕ) → j < 5 → numberOf (cellOf f) j ≡ f j
 unfolding numberOf cellOf
@@ -29,9 +30,9 @@ pub cell-is : (f : ℕ → ℕ) → cellOf f ≡ record { weight = f 0; sum1 = f
 unfolding cellOf
 cell-is f = refl
 
-pub wide-at : (t : List ℕ) (p j : ℕ) → wide t p j ≡ getD t (5 * p + j) 0
-unfolding wide
-wide-at t p j = refl
+pub view-at : (t : List ℕ) (p j : ℕ) → viewOf t p j ≡ getD t (5 * p + j) 0
+unfolding viewOf
+view-at t p j = refl
 
 pub number-plus : (c d : Cell) (j : ℕ) → j < 5 → numberOf (plusCell c d) j ≡ numberOf c j + numberOf d j
 unfolding plusCell
@@ -94,10 +95,10 @@ zero-cell = refl
 -- ---- a table of n bins holds a view
 pub record Holds (n : ℕ) (t : List ℕ) (v : View) : Type 0 where
   pub lent : length t ≡ 5 * n
-  pub at : (p j : ℕ) → p < n → j < 5 → wide t p j ≡ v p j
+  pub at : (p j : ℕ) → p < n → j < 5 → viewOf t p j ≡ v p j
 
-pub list-holds : (n : ℕ) (v : View) → Holds n (wideList n v) v
-unfolding wide wideList
+pub list-holds : (n : ℕ) (v : View) → Holds n (written n v) v
+unfolding viewOf written
 list-holds n v =
     record {
       lent = length-list 0 (5 * n) (λ i. v (i / 5) (i % 5));
@@ -112,8 +113,8 @@ list-holds n v =
     rest : (p j : ℕ) → j < 5 → (0 + (5 * p + j)) % 5 ≡ j
     rest p j k = omega arith
 
-pub holds-list : {n : ℕ} {t : List ℕ} {v : View} → Holds n t v → t ≡ wideList n v
-unfolding wide wideList
+pub holds-list : {n : ℕ} {t : List ℕ} {v : View} → Holds n t v → t ≡ written n v
+unfolding viewOf written
 holds-list {n} {t} {v} h =
     list-is (5 * n) (λ i. v (i / 5) (i % 5)) t 0 (h .lent)
     (λ k b. ap (λ (i : ℕ). getD t i 0) (split k) ∙ h .at (k / 5) (k % 5) (omega arith) (omega arith))
@@ -121,7 +122,7 @@ holds-list {n} {t} {v} h =
     split : (k : ℕ) → k ≡ 5 * (k / 5) + k % 5
     split k = omega arith
 
-pub holds-itself : (n : ℕ) (t : List ℕ) → length t ≡ 5 * n → Holds n t (wide t)
+pub holds-itself : (n : ℕ) (t : List ℕ) → length t ≡ 5 * n → Holds n t (viewOf t)
 holds-itself n t e = record { lent = e; at = λ p j h k. refl }
 
 -- a table that holds a view holds each view that agrees with it
@@ -150,8 +151,8 @@ module _ (t : List ℕ) (p : ℕ) (c : Cell) (has : 5 * p + 5 ≤ length t) wher
   past : (l : List ℕ) (i x k : ℕ) → (k ≡ i → ⊥) → getD (set l i x) k 0 ≡ getD l k 0
   past l i x k n = getD-set-other l i k x 0 n
 
-  pub put-there : (j : ℕ) → j < 5 → wide (putAt t p c) p j ≡ numberOf c j
-  unfolding wide putAt numberOf t1 t2 t3 t4
+  pub put-there : (j : ℕ) → j < 5 → viewOf (putAt t p c) p j ≡ numberOf c j
+  unfolding viewOf putAt numberOf t1 t2 t3 t4
   put-there zero h =
       ap (λ (k : ℕ). getD (putAt t p c) k 0) (add-zero (5 * p))
       ∙ past t4 (5 * p + 4) (c .squares) (5 * p) (λ e. omega arith)
@@ -174,8 +175,8 @@ module _ (t : List ℕ) (p : ℕ) (c : Cell) (has : 5 * p + 5 ≤ length t) wher
   put-there (suc (suc (suc (suc zero)))) h = getD-set-same t4 (5 * p + 4) (c .squares) 0 (simp length-set (omega arith))
   put-there (suc (suc (suc (suc (suc j))))) h = absurd (omega arith)
 
-  pub put-elsewhere : (q j : ℕ) → j < 5 → (p ≡ q → ⊥) → wide (putAt t p c) q j ≡ wide t q j
-  unfolding wide putAt t1 t2 t3 t4
+  pub put-elsewhere : (q j : ℕ) → j < 5 → (p ≡ q → ⊥) → viewOf (putAt t p c) q j ≡ viewOf t q j
+  unfolding viewOf putAt t1 t2 t3 t4
   put-elsewhere q j h n =
       past t4 (5 * p + 4) (c .squares) (5 * q + j) (λ e. n (omega arith))
       ∙ past t3 (5 * p + 3) (c .sum3) (5 * q + j) (λ e. n (omega arith))
@@ -191,20 +192,20 @@ put-holds {n} {t} {v} h p c b =
     has : 5 * p + 5 ≤ length t
     has = omega (arith, h .lent)
 
-    go : (q j : ℕ) → q < n → j < 5 → Dec (p ≡ q) → wide (putAt t p c) q j ≡ cond (eqb p q) (numberOf c j) (v q j)
+    go : (q j : ℕ) → q < n → j < 5 → Dec (p ≡ q) → viewOf (putAt t p c) q j ≡ cond (eqb p q) (numberOf c j) (v q j)
     go q j a k (yes e) = rw (eq-eqb p q e, ← e) (put-there t p c has j k)
     go q j a k (no d) = rw (ne-eqb p q d) (put-elsewhere t p c has q j k d ∙ h .at q j a k)
 
 -- and with a cell added at a place
-pub add-holds : {n : ℕ} {t : List ℕ} {v : View} → Holds n t v → (p : ℕ) (c : Cell) → p < n → Holds n (putAt t p (plusCell (cellOf (wide t p)) c)) (λ q j. v q j + cond (eqb p q) (numberOf c j) 0)
+pub add-holds : {n : ℕ} {t : List ℕ} {v : View} → Holds n t v → (p : ℕ) (c : Cell) → p < n → Holds n (putAt t p (plusCell (cellOf (viewOf t p)) c)) (λ q j. v q j + cond (eqb p q) (numberOf c j) 0)
 add-holds {n} {t} {v} h p c b =
-    holds-same (put-holds h p (plusCell (cellOf (wide t p)) c) b) (λ q j a k. go q j a k (ℕ-discrete p q))
+    holds-same (put-holds h p (plusCell (cellOf (viewOf t p)) c) b) (λ q j a k. go q j a k (ℕ-discrete p q))
   where
-    there : (j : ℕ) → j < 5 → numberOf (plusCell (cellOf (wide t p)) c) j ≡ v p j + numberOf c j
+    there : (j : ℕ) → j < 5 → numberOf (plusCell (cellOf (viewOf t p)) c) j ≡ v p j + numberOf c j
     there j k =
-        number-plus (cellOf (wide t p)) c j k
-        ∙ ap (λ (x : ℕ). x + numberOf c j) (number-cell (wide t p) j k ∙ h .at p j b k)
+        number-plus (cellOf (viewOf t p)) c j k
+        ∙ ap (λ (x : ℕ). x + numberOf c j) (number-cell (viewOf t p) j k ∙ h .at p j b k)
 
-    go : (q j : ℕ) → q < n → j < 5 → Dec (p ≡ q) → cond (eqb p q) (numberOf (plusCell (cellOf (wide t p)) c) j) (v q j) ≡ v q j + cond (eqb p q) (numberOf c j) 0
+    go : (q j : ℕ) → q < n → j < 5 → Dec (p ≡ q) → cond (eqb p q) (numberOf (plusCell (cellOf (viewOf t p)) c) j) (v q j) ≡ v q j + cond (eqb p q) (numberOf c j) 0
     go q j a k (yes e) = rw (eq-eqb p q e, ← e) (there j k)
     go q j a k (no d) = rw (ne-eqb p q d) (sym (add-zero (v q j)))

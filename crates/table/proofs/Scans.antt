@@ -8,18 +8,20 @@ use native.Mathlib.Nat.{add-assoc, add-zero, zero-add, add-mul, one-mul}
 use native.Mathlib.Omega.{arith}
 use borrow.Author.Tests.{le-leb, lt-leb, leb-true, leb-false}
 use lib.Dec.{leb}
-use Rattle.grid.specs.declared.Grid.{Grid}
-use Rattle.grid.specs.declared.Span.{Span}
-use Rattle.grid.specs.Range.{sumFrom, allFrom}
+use Rattle.grid.specs.declared.place.Grid.{Grid}
+use Rattle.grid.specs.declared.dimension.Span.{Span}
+use Rattle.basics.specs.Range.{sumFrom, allFrom}
 use Rattle.grid.specs.Size.{spanOf, InSize}
-use Rattle.grid.specs.Grid.{Accepted, Inside, choose, shiftAt, binAt, binsOf, placeOf}
-use Rattle.grid.proofs.Range.{sum-append, all-append, all-at, term-le, and-left, and-right, and-false}
+use Rattle.grid.specs.Grid.{Accepted, Inside, shiftAt, binAt, binsOf, placeOf}
+use Rattle.basics.specs.Dimension.{choose}
+use Rattle.basics.proofs.Range.{sum-append, all-append, all-at, term-le, and-left, and-right, and-false}
 use Rattle.grid.proofs.Size.{in-size, span-byte}
 use Rattle.grid.proofs.Places.{one, two, three, place-lt, bin-of-place, place-along}
 use Rattle.table.specs.declared.Cell.{Cell}
 use Rattle.table.specs.declared.Weighed.{Weighed}
 use Rattle.table.specs.declared.Weighed.the-variants.{Total, Unsound}
-use Rattle.table.specs.Cell.{View, cellOf, numberOf, HasCell}
+use Rattle.table.specs.Cell.{View, cellOf, numberOf}
+use Rattle.table.specs.Table.{HasCell}
 use Rattle.table.specs.Sound.{limit, inBounds, spanAt, binSound, total, sound, weighed}
 use Rattle.table.specs.Scan.{scanned, Row, ByteSpan}
 use Rattle.table.proofs.Cells.{number-cell}
@@ -135,7 +137,7 @@ unfolding weighed
 weighed-total most g v x e = cond-total (sound most g v) (total g v) x e
 
 -- ---- a row of bins
-chosen-span : (g : Grid) (r gr b d : ℕ) → spanOf (shiftAt g d) (choose d r gr b) ≡ choose d (spanOf (g .s1) r) (spanOf (g .s2) gr) (spanOf (g .s3) b)
+chosen-span : (g : Grid) (r gr b d : ℕ) → spanOf (shiftAt g d) (choose d r gr b) ≡ choose d (spanOf (g .shift1) r) (spanOf (g .shift2) gr) (spanOf (g .shift3) b)
 unfolding shiftAt choose
 chosen-span g r gr b zero = refl
 chosen-span g r gr b (suc zero) = refl
@@ -149,25 +151,25 @@ module _ {g : Grid} {t : List ℕ} {r gr had : ℕ} (row : Row g t r gr had) whe
   sizes : Accepted g
   sizes = row .table .accepted
 
-  inside : (b : ℕ) → b < g .b3 → Inside g r gr b
+  inside : (b : ℕ) → b < g .size3 → Inside g r gr b
   inside b h = record { accepted = sizes; one = row .inside .one; two = row .inside .two; three = h }
 
-  pub row-place : (b : ℕ) → b < g .b3 → {from : ℕ} → from ≡ placeOf g r gr 0 → from + b < binsOf g
+  pub row-place : (b : ℕ) → b < g .size3 → {from : ℕ} → from ≡ placeOf g r gr 0 → from + b < binsOf g
   row-place b h e = rw (e, place-along g r gr b) (place-lt (inside b h))
 
-  pub row-cell : (b : ℕ) → b < g .b3 → {from : ℕ} → from ≡ placeOf g r gr 0 → HasCell t (from + b)
+  pub row-cell : (b : ℕ) → b < g .size3 → {from : ℕ} → from ≡ placeOf g r gr 0 → HasCell t (from + b)
   row-cell b h e = record { fits = omega (arith, row-place b h e, row .table .lent) }
 
-  pub row-one : InSize (g .s1) r
+  pub row-one : InSize (g .shift1) r
   row-one = in-size (one sizes) r (row .inside .one)
 
-  pub row-two : InSize (g .s2) gr
+  pub row-two : InSize (g .shift2) gr
   row-two = in-size (two sizes) gr (row .inside .two)
 
-  pub row-three : (b : ℕ) → b < g .b3 → InSize (g .s3) b
+  pub row-three : (b : ℕ) → b < g .size3 → InSize (g .shift3) b
   row-three b h = in-size (three sizes) b h
 
-  row-span : (b : ℕ) → b < g .b3 → (d : ℕ) → choose d (spanOf (g .s1) r) (spanOf (g .s2) gr) (spanOf (g .s3) b) ≡ spanAt g (placeOf g r gr 0 + b) d
+  row-span : (b : ℕ) → b < g .size3 → (d : ℕ) → choose d (spanOf (g .shift1) r) (spanOf (g .shift2) gr) (spanOf (g .shift3) b) ≡ spanAt g (placeOf g r gr 0 + b) d
   unfolding spanAt
   row-span b h d =
       sym
@@ -176,8 +178,8 @@ module _ {g : Grid} {t : List ℕ} {r gr had : ℕ} (row : Row g t r gr had) whe
       ∙ chosen-span g r gr b d)
 
   -- the test of a cell of the row is that of its bin
-  pub row-bin : (v : View) (b : ℕ) → b < g .b3 → {from : ℕ} → from ≡ placeOf g r gr 0
-      → {s1 s2 s3 : Span} → s1 ≡ spanOf (g .s1) r → s2 ≡ spanOf (g .s2) gr → s3 ≡ spanOf (g .s3) b
+  pub row-bin : (v : View) (b : ℕ) → b < g .size3 → {from : ℕ} → from ≡ placeOf g r gr 0
+      → {s1 s2 s3 : Span} → s1 ≡ spanOf (g .shift1) r → s2 ≡ spanOf (g .shift2) gr → s3 ≡ spanOf (g .shift3) b
       → {c : Cell} → c ≡ cellOf (v (from + b))
       → {x : Bool} → x ≡ (leb (c .weight) limit && inBounds (λ d. choose d s1 s2 s3) (numberOf c))
       → (leb (v (from + b) 0) limit && binSound g v (from + b)) ≡ x

@@ -7,12 +7,13 @@ use native.Mathlib.Nat.{add-mul, zero-mul, mul-le-mul-left, mul-comm}
 use native.Mathlib.Omega.{arith}
 use borrow.Author.Tests.{le-leb, lt-leb, leb-true}
 use lib.Dec.{leb, leb·zero, lit<}
-use Rattle.grid.specs.declared.Grid.{Grid}
-use Rattle.grid.specs.declared.Span.{Span}
-use Rattle.grid.specs.Range.{sumFrom, allFrom}
+use Rattle.grid.specs.declared.place.Grid.{Grid}
+use Rattle.grid.specs.declared.dimension.Span.{Span}
+use Rattle.basics.specs.Range.{sumFrom, allFrom}
 use Rattle.grid.specs.Size.{spanOf}
-use Rattle.grid.specs.Grid.{Accepted, binsOf, binAt, shiftAt, choose}
-use Rattle.grid.proofs.Range.{sum-same, sum-zero, term-le, and-left, and-right, all-true, all-at, all-same}
+use Rattle.grid.specs.Grid.{Accepted, binsOf, binAt, shiftAt}
+use Rattle.basics.specs.Dimension.{choose}
+use Rattle.basics.proofs.Range.{sum-same, sum-zero, term-le, and-left, and-right, all-true, all-at, all-same}
 use Rattle.grid.proofs.Size.{in-size, span-byte}
 use Rattle.grid.proofs.Places.{sized-at, bin-at-below}
 use Rattle.table.specs.declared.Cell.{Cell}
@@ -73,12 +74,6 @@ flat true false c d = refl
 flat false b c d = refl
 
 -- the tests before one that held, and it or the rest
-pub and-first : {a : Bool} (b : Bool) → a ≡ true → (a && b) ≡ b
-and-first b p = ap (λ (x : Bool). x && b) p
-
-pub and-stop : {a : Bool} (b : Bool) → a ≡ false → (a && b) ≡ false
-and-stop b p = ap (λ (x : Bool). x && b) p
-
 cell-bounds : (s1 s2 s3 : Span) (c : Cell)
     → inBounds (λ d. choose d s1 s2 s3) (numberOf c)
     ≡ (between s1 (c .weight) (c .sum1) && (between s2 (c .weight) (c .sum2) && (between s3 (c .weight) (c .sum3) && leb (c .squares) (195075 * c .weight))))

@@ -3,13 +3,14 @@ use mathlib.Core.Bool.{_&&_, cond}
 use mathlib.Core.List.{List}
 use Prim.Native.Nat.{ℕ, _+_, _≤_}
 use lib.Dec.{leb}
-use Rattle.grid.specs.declared.Grid.{Grid}
-use Rattle.grid.specs.declared.Span.{Span}
-use Rattle.grid.specs.Range.{sumFrom, allFrom}
+use Rattle.grid.specs.declared.place.Grid.{Grid}
+use Rattle.grid.specs.declared.dimension.Span.{Span}
+use Rattle.basics.specs.Range.{sumFrom, allFrom}
 use Rattle.grid.specs.Grid.{Inside}
 use Rattle.table.specs.declared.Weighed.{Weighed}
 use Rattle.table.specs.declared.Weighed.the-variants.{Total, Unsound}
-use Rattle.table.specs.Cell.{View, TableOf}
+use Rattle.table.specs.Cell.{View}
+use Rattle.table.specs.Table.{TableOf}
 use Rattle.table.specs.Sound.{limit, binSound}
 
 -- the total with the n bins from place p on, or that one of them breaks its bounds or the total passes the limit

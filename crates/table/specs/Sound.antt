@@ -3,10 +3,10 @@ use mathlib.Core.Bool.{Bool, _&&_, cond}
 use mathlib.Core.List.{[], _∷_}
 use Prim.Native.Nat.{ℕ, _+_, _*_}
 use lib.Dec.{leb}
-use Rattle.grid.specs.declared.Grid.{Grid}
-use Rattle.grid.specs.declared.Span.{Span}
-use Rattle.grid.specs.Answer.{Answer}
-use Rattle.grid.specs.Range.{sumFrom, allFrom}
+use Rattle.grid.specs.declared.place.Grid.{Grid}
+use Rattle.grid.specs.declared.dimension.Span.{Span}
+use Rattle.basics.specs.Answer.{Answer}
+use Rattle.basics.specs.Range.{sumFrom, allFrom}
 use Rattle.grid.specs.Size.{spanOf}
 use Rattle.grid.specs.Grid.{shiftAt, binAt, binsOf}
 use Rattle.table.specs.declared.Weighed.{Weighed}

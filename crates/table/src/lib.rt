@@ -1,14 +1,16 @@
 // Tables: five numbers per bin, and soundness.
-use grid::Grid;
-use grid::Span;
-use grid::place;
-use grid::span_of;
+use grid::place::Grid;
+use grid::dimension::Span;
+use grid::place::place;
+use grid::dimension::span_of;
 ghost use mathlib.Core.Path.{_≡_};
 ghost use mathlib.Core.Bool.{_&&_};
 ghost use Prim.Native.Nat.{_*_, _≤_};
 ghost use lib.Dec.{leb};
-ghost use Rattle.grid.specs.Grid.{choose, placeOf};
-ghost use Rattle.table.specs.Cell.{wide, numberOf, cellOf, plusCell, minusCell, putAt, HasCell, Room, AtLeast, TableOf};
+ghost use Rattle.basics.specs.Dimension.{choose};
+ghost use Rattle.grid.specs.Grid.{placeOf};
+ghost use Rattle.table.specs.Table.{viewOf, putAt, HasCell, TableOf};
+ghost use Rattle.table.specs.Cell.{numberOf, cellOf, plusCell, minusCell, Room, AtLeast};
 ghost use Rattle.table.specs.Sound.{limit, between, inBounds, weighed};
 ghost use Rattle.table.specs.Scan.{scanned, Row, ByteSpan};
 
@@ -29,7 +31,7 @@ pub struct Cell {
 // The cell at a place.
 pub fn cell_at(table: &[u64], place: usize) -> Cell
     requires { ⌜ HasCell (now table) place ⌝ }
-    ensures { λ r. ⌜ r ≡ cellOf (wide (now (table .entry)) place) ⌝ }
+    ensures { λ r. ⌜ r ≡ cellOf (viewOf (now (table .entry)) place) ⌝ }
 {
     let at = 5 * place;
     Cell {
@@ -144,16 +146,16 @@ fn keeps_bounds(s1: Span, s2: Span, s3: Span, c: Cell) -> bool
 // The total with one row of bins.
 fn weigh_row(table: &[u64], g: Grid, r: usize, gr: usize, had: u64) -> Weighed
     requires { ⌜ Row g (now table) r gr had ⌝ }
-    ensures { λ w. ⌜ w ≡ scanned limit g (wide (now (table .entry))) (placeOf g r gr 0) (g .b3) had ⌝ }
+    ensures { λ w. ⌜ w ≡ scanned limit g (viewOf (now (table .entry))) (placeOf g r gr 0) (g .size3) had ⌝ }
 {
-    let s1 = span_of(g.s1, r);
-    let s2 = span_of(g.s2, gr);
+    let s1 = span_of(g.shift1, r);
+    let s2 = span_of(g.shift2, gr);
     let start = place(g, r, gr, 0);
     let mut total = had;
     let mut b = 0;
-    while b < g.b3 {
+    while b < g.size3 {
         let c = cell_at(table, start + b);
-        if !keeps_bounds(s1, s2, span_of(g.s3, b), c) {
+        if !keeps_bounds(s1, s2, span_of(g.shift3, b), c) {
             return Weighed::Unsound;
         }
         total = total + c.weight;
@@ -168,11 +170,11 @@ fn weigh_row(table: &[u64], g: Grid, r: usize, gr: usize, had: u64) -> Weighed
 // The total with one plane of rows.
 fn weigh_plane(table: &[u64], g: Grid, r: usize, had: u64) -> Weighed
     requires { ⌜ Row g (now table) r 0 had ⌝ }
-    ensures { λ w. ⌜ w ≡ scanned limit g (wide (now (table .entry))) (placeOf g r 0 0) (g .b2 * g .b3) had ⌝ }
+    ensures { λ w. ⌜ w ≡ scanned limit g (viewOf (now (table .entry))) (placeOf g r 0 0) (g .size2 * g .size3) had ⌝ }
 {
     let mut total = had;
     let mut gr = 0;
-    while gr < g.b2 {
+    while gr < g.size2 {
         match weigh_row(table, g, r, gr, total) {
             Weighed::Total(x) => total = x,
             Weighed::Unsound => return Weighed::Unsound,
@@ -185,11 +187,11 @@ fn weigh_plane(table: &[u64], g: Grid, r: usize, had: u64) -> Weighed
 // The total of a sound table, or that it is not sound.
 pub fn weigh(table: &[u64], g: Grid) -> Weighed
     requires { ⌜ TableOf g (now table) ⌝ }
-    ensures { λ w. ⌜ w ≡ weighed limit g (wide (now (table .entry))) ⌝ }
+    ensures { λ w. ⌜ w ≡ weighed limit g (viewOf (now (table .entry))) ⌝ }
 {
     let mut total = 0;
     let mut r = 0;
-    while r < g.b1 {
+    while r < g.size1 {
         match weigh_plane(table, g, r, total) {
             Weighed::Total(x) => total = x,
             Weighed::Unsound => return Weighed::Unsound,

@@ -3,8 +3,8 @@
 use mathlib.Core.Path.{_≡_, sym, _∙_}
 use borrow.Author.Needs.{needs}
 use denote.Ref.{now}
-use Rattle.grid.specs.declared.Chosen.the-variants.{Of}
-use Rattle.grid.specs.declared.Grid.{Grid}
+use Rattle.grid.specs.declared.place.Chosen.the-variants as chosen
+use Rattle.grid.specs.declared.place.Grid.{Grid}
 use Rattle.grid.specs.Grid.{gridOf, Accepted}
 use Rattle.grid.proofs.Places.{chose}
 use Rattle.cutter.specs.Cut.{Buffers, buffers}
@@ -16,7 +16,7 @@ use Rattle.cutter.proofs.cut.Tie as tie
 abbrev grid : tie.After-known-told → Grid
 grid k = k .before .g .given .0 .0
 
-on-grid : (k : tie.After-known-told) → gridOf (k .before .before .before .before .before .before .before .before .before .args .b1) (k .before .before .before .before .before .before .before .before .before .args .b2) (k .before .before .before .before .before .before .before .before .before .args .b3) ≡ Of (grid k)
+on-grid : (k : tie.After-known-told) → gridOf (k .before .before .before .before .before .before .before .before .before .args .b1) (k .before .before .before .before .before .before .before .before .before .args .b2) (k .before .before .before .before .before .before .before .before .before .args .b3) ≡ chosen.Accepted (grid k)
 on-grid k = sym (k .before .before .before .grid-of .ensures) ∙ k .before .g .given .1
 
 accepted : (k : tie.After-known-told) → Accepted (grid k)

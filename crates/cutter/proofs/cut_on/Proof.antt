@@ -6,7 +6,8 @@ use native.Mathlib.Nat.{le-trans}
 use native.Mathlib.Omega.{arith}
 use borrow.Author.Needs.{needs}
 use denote.Ref.{now}
-use Rattle.table.specs.Cell.{View, wide}
+use Rattle.table.specs.Cell.{View}
+use Rattle.table.specs.Table.{viewOf}
 use Rattle.rounds.specs.declared.Boxes.{Boxes}
 use Rattle.rounds.specs.Loop.{boxesOf}
 use Rattle.rounds.proofs.Filled.{heap-most}
@@ -19,7 +20,7 @@ use Rattle.cutter.proofs.cut_on.Statement.{statement}
 use Rattle.cutter.proofs.cut_on.Tie as tie
 
 abbrev view : tie.Start → View
-view s = wide (now (s .args .table))
+view s = viewOf (now (s .args .table))
 
 -- the boxes of the loop
 the-boxes : (s : tie.Start) {b : Boxes} → b ≡ boxesOf (s .args .g) (view s) (s .args .k) → Found (s .args .g) (view s) b

@@ -6,7 +6,8 @@ use mathlib.Core.List.{List}
 use native.Mathlib.Omega.{arith}
 use denote.Ref.{now}
 use lib.ListN.{length, set}
-use Rattle.cutter.specs.Map.{lies, fillWhere}
+use Rattle.boxes.specs.Holds.{lies}
+use Rattle.cutter.specs.Map.{fillWhere}
 use Rattle.cutter.proofs.Filled.{length-fill, run-start, run-next}
 use Rattle.cutter.proofs.fill.Statement.{statement}
 use Rattle.cutter.proofs.fill.Tie as tie

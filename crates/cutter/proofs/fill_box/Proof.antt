@@ -5,10 +5,11 @@ use Prim.Native.Nat.{_≤_, _-_}
 use native.Mathlib.Omega.{arith}
 use denote.Ref.{now}
 use lib.ListN.{length}
-use Rattle.grid.specs.Grid.{choose}
-use Rattle.sums.specs.Box.{lowSide, minAt, maxAt}
-use Rattle.sums.proofs.Corners.{sides}
-use Rattle.cutter.specs.Map.{holds, fillWhere, fillOf}
+use Rattle.basics.specs.Dimension.{choose}
+use Rattle.boxes.specs.Box.{lowSide, minAt, maxAt}
+use Rattle.boxes.proofs.Within.{sides}
+use Rattle.boxes.specs.Holds.{holds}
+use Rattle.cutter.specs.Map.{fillWhere, fillOf}
 use Rattle.cutter.proofs.Filled.{length-fill, slices-none, slices-more, slices-all}
 use Rattle.cutter.proofs.fill_box.Statement.{statement}
 use Rattle.cutter.proofs.fill_box.Tie as tie

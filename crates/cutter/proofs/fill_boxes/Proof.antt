@@ -7,9 +7,9 @@ use native.Mathlib.Omega.{arith}
 use borrow.Author.Needs.{needs}
 use denote.Ref.{now}
 use lib.ListN.{length, take}
-use Rattle.sums.specs.declared.Bounds.{Bounds}
-use Rattle.sums.specs.Box.{Within}
-use Rattle.rounds.specs.Loop.{noBox}
+use Rattle.boxes.specs.declared.sides.Bounds.{Bounds}
+use Rattle.boxes.specs.Box.{Within}
+use Rattle.boxes.specs.Box.{noBox}
 use Rattle.cutter.specs.Map.{fillOf, fillFrom}
 use Rattle.cutter.specs.Cut.{listOf}
 use Rattle.cutter.proofs.Maps.{length-filled, filled-none, filled-next}

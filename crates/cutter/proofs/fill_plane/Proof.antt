@@ -5,11 +5,12 @@ use Prim.Native.Nat.{ℕ, _+_, _≤_, _-_}
 use native.Mathlib.Omega.{arith}
 use denote.Ref.{now}
 use lib.ListN.{length}
-use Rattle.grid.specs.Grid.{choose}
-use Rattle.sums.specs.declared.Bounds.{Bounds}
-use Rattle.sums.specs.Box.{lowSide, highSide, minAt, maxAt}
-use Rattle.sums.proofs.Corners.{sides}
-use Rattle.cutter.specs.Map.{holds, slice, fillWhere}
+use Rattle.basics.specs.Dimension.{choose}
+use Rattle.boxes.specs.declared.sides.Bounds.{Bounds}
+use Rattle.boxes.specs.Box.{lowSide, highSide, minAt, maxAt}
+use Rattle.boxes.proofs.Within.{sides}
+use Rattle.boxes.specs.Holds.{holds, slice}
+use Rattle.cutter.specs.Map.{fillWhere}
 use Rattle.cutter.proofs.Filled.{length-fill, slices-none, slices-all, row-inside, row-fits, row-small, row-filled}
 use Rattle.cutter.proofs.fill_plane.Statement.{statement}
 use Rattle.cutter.proofs.fill_plane.Tie as tie

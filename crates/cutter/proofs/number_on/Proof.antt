@@ -9,7 +9,7 @@ use borrow.Author.Needs.{needs}
 use borrow.Author.Tests.{not-true, not-false}
 use denote.Ref.{now}
 use lib.ListN.{length}
-use Rattle.table.specs.Cell.{wide}
+use Rattle.table.specs.Table.{viewOf}
 use Rattle.table.specs.Sound.{limit, total, sound}
 use Rattle.table.proofs.Scans.{weighed-unsound, weighed-total}
 use Rattle.cutter.specs.Cut.{Lengths, longEnough}
@@ -56,11 +56,11 @@ returns-4 : tie.Need-returns-4
 returns-4 c =
     let s = c .before .before .before .before .before .before .before .before in
     sym (not-sound (s .args .g) (s .args .k) (table s) (lengths s) (omega (arith, c .before .before .before .before .before .before .if1 .left)) (omega (arith, c .before .before .before .before .before .if2 .left)) (right (c .before .before .before))
-    (weighed-unsound limit (s .args .g) (wide (table s)) (sym (c .before .before .weigh .ensures) ∙ c .enum-told .given .1)))
+    (weighed-unsound limit (s .args .g) (viewOf (table s)) (sym (c .before .before .weigh .ensures) ∙ c .enum-told .given .1)))
 
 -- the total of a sound table
-the-total : (k : tie.After-known-told) → (sound limit (k .before .before .before .before .before .before .before .before .before .args .g) (wide (table (k .before .before .before .before .before .before .before .before .before))) ≡ true) × (k .before .total .given .0 .0 ≡ total (k .before .before .before .before .before .before .before .before .before .args .g) (wide (table (k .before .before .before .before .before .before .before .before .before))))
-the-total k = weighed-total limit (k .before .before .before .before .before .before .before .before .before .args .g) (wide (table (k .before .before .before .before .before .before .before .before .before))) (k .before .total .given .0 .0) (sym (k .before .before .before .weigh .ensures) ∙ k .before .total .given .1)
+the-total : (k : tie.After-known-told) → (sound limit (k .before .before .before .before .before .before .before .before .before .args .g) (viewOf (table (k .before .before .before .before .before .before .before .before .before))) ≡ true) × (k .before .total .given .0 .0 ≡ total (k .before .before .before .before .before .before .before .before .before .args .g) (viewOf (table (k .before .before .before .before .before .before .before .before .before))))
+the-total k = weighed-total limit (k .before .before .before .before .before .before .before .before .before .args .g) (viewOf (table (k .before .before .before .before .before .before .before .before .before))) (k .before .total .given .0 .0) (sym (k .before .before .before .weigh .ensures) ∙ k .before .total .given .1)
 
 returns-5 : tie.Need-returns-5
 returns-5 c =

@@ -4,7 +4,7 @@ use mathlib.Core.Path.{ap, _∙_}
 use borrow.Author.Needs.{needs}
 use denote.Ref.{now}
 use lib.ListN.{set}
-use Rattle.table.specs.Cell.{wide}
+use Rattle.table.specs.Table.{viewOf}
 use Rattle.table.specs.Sound.{limit}
 use Rattle.table.proofs.Soundness.{Sound}
 use Rattle.cutter.specs.Palette.{withColourAt}
@@ -12,7 +12,7 @@ use Rattle.cutter.proofs.Colours.{stats-colour, stats-count, stats-colo
 use Rattle.cutter.proofs.put_result.Statement.{statement}
 use Rattle.cutter.proofs.put_result.Tie as tie
 
-is-sound : (s : tie.Start) → Sound limit (s .args .g) (wide (now (s .args .table)))
+is-sound : (s : tie.Start) → Sound limit (s .args .g) (viewOf (now (s .args .table)))
 is-sound s = record { holds = s .pre .0 .0 .is-sound }
 
 box-sum-requires : tie.Need-box-sum-requires
@@ -37,7 +37,7 @@ same-length-2 c = search needs
 returns : tie.Need-returns
 returns c =
     let s = c .before .before .before .before .before .before .before .before .before .before .before .before .before in
-    let v = wide (now (s .args .table)) in
+    let v = viewOf (now (s .args .table)) in
     let sums = c .before .before .before .before .before .before .before .before .box-sum .ensures in (
       c .before .before .before .before .before .before .put-colour .ensures
           ∙ ap (withColourAt (now (s .args .palette)) (s .args .i)) (stats-colour (s .args .g) v (s .args .x) sums),

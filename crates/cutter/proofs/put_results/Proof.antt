@@ -8,9 +8,10 @@ use native.Mathlib.Omega.{arith}
 use borrow.Author.Needs.{needs}
 use denote.Ref.{now}
 use lib.ListN.{length, take}
-use Rattle.table.specs.Cell.{View, wide}
-use Rattle.sums.specs.declared.Bounds.{Bounds}
-use Rattle.rounds.specs.Loop.{noBox}
+use Rattle.table.specs.Cell.{View}
+use Rattle.table.specs.Table.{viewOf}
+use Rattle.boxes.specs.declared.sides.Bounds.{Bounds}
+use Rattle.boxes.specs.Box.{noBox}
 use Rattle.cutter.specs.Fronts.{putFrom}
 use Rattle.cutter.specs.Palette.{itsColour, itsCount, paletteLater, countsLater, withColourAt, Occupied}
 use Rattle.cutter.specs.Cut.{listOf}
@@ -23,13 +24,13 @@ use Rattle.cutter.proofs.put_results.Tie as tie
 abbrev Inv-loop : tie.InvT-loop
 Inv-loop table work g palette₀ counts₀ places n i₀ palette counts i =
     let boxes = take i (listOf n places) in
-    (i ≤ n) × (palette ≡ paletteLater g (wide table) boxes palette₀) × (counts ≡ countsLater g (wide table) boxes counts₀)
+    (i ≤ n) × (palette ≡ paletteLater g (viewOf table) boxes palette₀) × (counts ≡ countsLater g (viewOf table) boxes counts₀)
 
 abbrev μ-loop : tie.MeasureT-loop
 μ-loop table work g palette₀ counts₀ places n i₀ palette counts i = n - i
 
 abbrev view : tie.Start Inv-loop μ-loop → View
-view s = wide (now (s .args .table))
+view s = viewOf (now (s .args .table))
 
 -- all boxes have room, and so have the first i
 module _ (s : tie.Start Inv-loop μ-loop) where

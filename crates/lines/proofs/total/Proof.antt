@@ -7,8 +7,8 @@ use native.Mathlib.Nat.{zero-add}
 use native.Mathlib.Omega.{arith}
 use denote.Ref.{now}
 use lib.ListN.{getD}
-use Rattle.grid.specs.Range.{sumFrom}
-use Rattle.grid.proofs.Range.{sum-last}
+use Rattle.basics.specs.Range.{sumFrom}
+use Rattle.basics.proofs.Range.{sum-last}
 use Rattle.lines.specs.Text.{totalOf}
 use Rattle.lines.proofs.total.Statement.{statement}
 use Rattle.lines.proofs.total.Tie as tie

@@ -6,15 +6,16 @@ use Prim.Native.Nat.{ℕ, _+_, _^_, _<_}
 use borrow.Author.Needs.{needs}
 use denote.Ref.{now}
 use Rattle.table.specs.declared.Cell.{Cell}
-use Rattle.table.specs.Cell.{numberOf, cellOf, wide, plusCell, putAt}
+use Rattle.table.specs.Cell.{numberOf, cellOf, plusCell}
+use Rattle.table.specs.Table.{viewOf, putAt}
 use Rattle.table.proofs.Cells.{number-cell}
 use Rattle.loader.specs.Step.{Adds}
 use Rattle.loader.proofs.add_at.Statement.{statement}
 use Rattle.loader.proofs.add_at.Tie as tie
 
 -- what can be added is what the sums of the numbers have room for
-adds-fit : {t : List ℕ} {p : ℕ} {c : Cell} → Adds t p c → (d : Cell) → d ≡ cellOf (wide t p) → (j : ℕ) → j < 5 → numberOf d j + numberOf c j < 2 ^ 64
-adds-fit {t} {p} {c} a d e j h = rw (e, number-cell (wide t p) j h) (a .fits j h)
+adds-fit : {t : List ℕ} {p : ℕ} {c : Cell} → Adds t p c → (d : Cell) → d ≡ cellOf (viewOf t p) → (j : ℕ) → j < 5 → numberOf d j + numberOf c j < 2 ^ 64
+adds-fit {t} {p} {c} a d e j h = rw (e, number-cell (viewOf t p) j h) (a .fits j h)
 
 cell-at-requires : tie.Need-cell-at-requires
 cell-at-requires c κs = search needs

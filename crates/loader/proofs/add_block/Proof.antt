@@ -7,8 +7,8 @@ use native.Mathlib.Omega.{arith}
 use borrow.Author.Needs.{needs}
 use denote.Ref.{now}
 use lib.ListN.{getD}
-use Rattle.grid.specs.Grid.{colourAt}
-use Rattle.grid.proofs.OneColour.{one-colour}
+use Rattle.pixels.specs.Colour.{colourAt}
+use Rattle.pixels.proofs.EqualColours.{one-colour}
 use Rattle.table.proofs.Cells.{holds-list}
 use Rattle.loader.specs.Step.{withPart, Fits}
 use Rattle.loader.proofs.Parts.{light, has-room, at-once}
@@ -24,10 +24,10 @@ same : (f : tie.Then1) (k : ℕ) → k < 64 →
     colourAt (now (a .colours)) (a .at + k) ≡ colourAt (now (a .colours)) (a .at)
 same f k h =
     let a = f .before .before .before .before .before .args in
-    one-colour (now (a .colours)) (a .at) (sym (f .before .flat .ensures) ∙ f .if1 .taken) k (omega arith)
+    one-colour (now (a .colours)) (a .at) (sym (f .before .equal-colours .ensures) ∙ f .if1 .taken) k (omega arith)
 
-flat-requires : tie.Need-flat-requires
-flat-requires c κs = c .before .before .before .pre .0 .1
+equal-colours-requires : tie.Need-equal-colours-requires
+equal-colours-requires c κs = c .before .before .before .pre .0 .1
 
 colour-requires : tie.Need-colour-requires
 colour-requires c κs = omega arith
@@ -84,7 +84,7 @@ pub add-block-spec : {M : Type 1} → statement M
 add-block-spec =
     tie.close
     (tie.spec
-    flat-requires
+    equal-colours-requires
     colour-requires
     block-weight-requires
     add-colour-requires

@@ -6,7 +6,7 @@ use native.Mathlib.Omega.{arith}
 use denote.Ref.{now}
 use lib.ListN.{getD}
 use Rattle.grid.specs.Grid.{binsOf}
-use Rattle.table.specs.Cell.{wide}
+use Rattle.table.specs.Table.{viewOf}
 use Rattle.table.proofs.Cells.{Holds, holds-list}
 use Rattle.loader.specs.Load.{loaded}
 use Rattle.loader.specs.Step.{partOf, withPart}
@@ -16,7 +16,7 @@ use Rattle.loader.proofs.add_blocks.Tie as tie
 
 abbrev Inv-loop : tie.InvT-loop
 Inv-loop g table₀ t1 t2 t3 colours weighted weights n i₀ table i =
-    (i ≤ n) × Holds (binsOf g) table (loaded g (partOf colours weighted weights 0 i) (wide table₀))
+    (i ≤ n) × Holds (binsOf g) table (loaded g (partOf colours weighted weights 0 i) (viewOf table₀))
 
 abbrev μ-loop : tie.MeasureT-loop
 μ-loop g table₀ t1 t2 t3 colours weighted weights n i₀ table i = n - i
@@ -70,7 +70,7 @@ add-each-requires c κs =
 
 all-held : (c : tie.After-slice-known3 Inv-loop μ-loop) →
     let a = c .before .before .before .before .before .before .before .before .before .args in
-    Holds (binsOf (a .g)) (c .before .before .add-each .last .1 .0) (loaded (a .g) (partOf (now (a .colours)) (a .weighted) (now (a .weights)) 0 (a .n)) (wide (now (a .table))))
+    Holds (binsOf (a .g)) (c .before .before .add-each .last .1 .0) (loaded (a .g) (partOf (now (a .colours)) (a .weighted) (now (a .weights)) 0 (a .n)) (viewOf (now (a .table))))
 all-held c =
     let k = c .before .before .before .before .before in
     let l = k .loop in

@@ -5,7 +5,7 @@ use Prim.Native.Nat.{ℕ, _≤_, _-_, _*_}
 use native.Mathlib.Omega.{arith}
 use denote.Ref.{now}
 use Rattle.grid.proofs.Places.{bins-high}
-use Rattle.table.specs.Cell.{wide}
+use Rattle.table.specs.Table.{viewOf}
 use Rattle.table.proofs.Cells.{Holds}
 use Rattle.loader.proofs.Merging.{partly, none-added, one-added, can-add, all-added}
 use Rattle.loader.proofs.add_cells.Statement.{statement}
@@ -13,7 +13,7 @@ use Rattle.loader.proofs.add_cells.Tie as tie
 
 abbrev Inv-loop : tie.InvT-loop
 Inv-loop table₀ second n p₀ table p =
-    (p ≤ n) × Holds n table (partly p (wide table₀) (wide second))
+    (p ≤ n) × Holds n table (partly p (viewOf table₀) (viewOf second))
 
 abbrev μ-loop : tie.MeasureT-loop
 μ-loop table₀ second n p₀ table p = n - p
@@ -33,7 +33,7 @@ add-at-requires : tie.Need-add-at-requires Inv-loop μ-loop
 add-at-requires c κs =
     let s = c .before .before .before .before .before .before .before in
     let l = c .before .before .before .loop in
-    can-add (wide (now (s .args .table))) (wide (now (s .args .second))) (l .p) (l .inv .1) (omega arith) (c .cell-at .ensures)
+    can-add (viewOf (now (s .args .table))) (viewOf (now (s .args .second))) (l .p) (l .inv .1) (omega arith) (c .cell-at .ensures)
     (λ j k. s .pre .1 (l .p) j (omega (arith, c .before .before .before .before .bins .ensures)) k)
 
 add-p : tie.Need-add-p Inv-loop μ-loop
@@ -48,7 +48,7 @@ loop-again c =
     let l = c .before .before .before .before .before .before .loop in (
       omega arith,
       rw (c .before .before .add-at .ensures)
-          (one-added (wide (now (s .args .table))) (wide (now (s .args .second))) (l .p) (l .inv .1) (omega arith) (c .before .before .before .cell-at .ensures)),
+          (one-added (viewOf (now (s .args .table))) (viewOf (now (s .args .second))) (l .p) (l .inv .1) (omega arith) (c .before .before .before .cell-at .ensures)),
     )
 
 same-length : tie.Need-same-length Inv-loop μ-loop
@@ -60,7 +60,7 @@ returns c =
     let l = c .before .loop in
     let all : l .p ≡ c .before .before .bins .result = omega arith in
     rw (← c .before .before .bins .ensures)
-    (all-added (wide (now (s .args .table))) (wide (now (s .args .second))) (rw all at (l .inv .1)))
+    (all-added (viewOf (now (s .args .table))) (viewOf (now (s .args .second))) (rw all at (l .inv .1)))
 
 pub add-cells-spec : {M : Type 1} → statement M
 add-cells-spec =

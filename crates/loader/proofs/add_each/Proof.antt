@@ -6,7 +6,7 @@ use native.Mathlib.Omega.{arith}
 use denote.Ref.{now}
 use lib.ListN.{getD}
 use Rattle.grid.specs.Grid.{binsOf}
-use Rattle.table.specs.Cell.{wide}
+use Rattle.table.specs.Table.{viewOf}
 use Rattle.table.proofs.Cells.{Holds, holds-list}
 use Rattle.loader.specs.Load.{loaded}
 use Rattle.loader.specs.Step.{partOf, withPart, Fits}
@@ -16,7 +16,7 @@ use Rattle.loader.proofs.add_each.Tie as tie
 
 abbrev Inv-loop : tie.InvT-loop
 Inv-loop g table₀ t1 t2 t3 colours weighted weights at n k₀ table k =
-    (k ≤ n) × Holds (binsOf g) table (loaded g (partOf colours weighted weights at k) (wide table₀))
+    (k ≤ n) × Holds (binsOf g) table (loaded g (partOf colours weighted weights at k) (viewOf table₀))
 
 abbrev μ-loop : tie.MeasureT-loop
 μ-loop g table₀ t1 t2 t3 colours weighted weights at n k₀ table k = n - k

@@ -5,8 +5,8 @@ use Prim.Native.Nat.{_≤_, _-_, _*_, ℕ, _+_}
 use native.Mathlib.Omega.{arith}
 use denote.Ref.{now}
 use lib.ListN.{getD}
-use Rattle.grid.specs.Range.{sumFrom}
-use Rattle.grid.proofs.Range.{run-none, run-more}
+use Rattle.basics.specs.Range.{sumFrom}
+use Rattle.basics.proofs.Range.{run-none, run-more}
 use Rattle.loader.proofs.block_sum.Statement.{statement}
 use Rattle.loader.proofs.block_sum.Tie as tie
 

@@ -5,7 +5,7 @@ use Prim.Native.Nat.{ℕ, _+_, _-_}
 use native.Mathlib.Omega.{arith}
 use denote.Ref.{now}
 use lib.ListN.{getD}
-use Rattle.grid.specs.Range.{sumFrom}
+use Rattle.basics.specs.Range.{sumFrom}
 use Rattle.loader.proofs.block_weight.Statement.{statement}
 use Rattle.loader.proofs.block_weight.Tie as tie
 

@@ -11,14 +11,14 @@ use borrow.Author.Needs.{needs}
 use denote.Ref.{now}
 use lib.ListN.{length}
 use lib.Dec.{eqb, leb}
-use Rattle.grid.specs.declared.Chosen.the-variants.{Of}
-use Rattle.grid.specs.declared.Grid.{Grid}
+use Rattle.grid.specs.declared.place.Chosen.the-variants as chosen
+use Rattle.grid.specs.declared.place.Grid.{Grid}
 use Rattle.grid.specs.Grid.{gridOf, Accepted}
 use Rattle.grid.proofs.Places.{chose, bins-high}
 use Rattle.loader.specs.Load.{Weighted, weightOf, batchOf}
 use Rattle.loader.specs.Step.{partOf, withPart}
 use Rattle.table.specs.Sound.{limit, total, sound}
-use Rattle.table.specs.Cell.{wide, TableOf}
+use Rattle.table.specs.Table.{viewOf, TableOf}
 use Rattle.loader.proofs.Calls.{pairs, load-no-grid, load-not-threes, load-not-paired, load-length, load-unsound, load-over, load-done}
 use Rattle.table.proofs.Scans.{weighed-unsound, weighed-total}
 use Rattle.loader.proofs.Parts.{batch-weight}
@@ -30,7 +30,7 @@ use Rattle.loader.proofs.load.Tie as tie
 abbrev grid : tie.After-known-told → Grid
 grid k = k .before .g .given .0 .0
 
-on-grid : (k : tie.After-known-told) → gridOf (k .before .before .before .before .before .before .before .args .b1) (k .before .before .before .before .before .before .before .args .b2) (k .before .before .before .before .before .before .before .args .b3) ≡ Of (grid k)
+on-grid : (k : tie.After-known-told) → gridOf (k .before .before .before .before .before .before .before .args .b1) (k .before .before .before .before .before .before .before .args .b2) (k .before .before .before .before .before .before .before .args .b3) ≡ chosen.Accepted (grid k)
 on-grid k = sym (k .before .before .before .grid-of .ensures) ∙ k .before .g .given .1
 
 accepted : (k : tie.After-known-told) → Accepted (grid k)
@@ -59,7 +59,7 @@ the-table k = record { accepted = accepted (k .before .before .before .before); 
 abbrev had : tie.After-known-told2 → ℕ
 had k = k .before .had .given .0 .0
 
-is-sound : (k : tie.After-known-told2) → (sound limit (grid (k .before .before .before .before .before .before .before .before .before)) (wide (table (k .before .before .before .before .before))) ≡ true) × (had k ≡ total (grid (k .before .before .before .before .before .before .before .before .before)) (wide (table (k .before .before .before .before .before))))
+is-sound : (k : tie.After-known-told2) → (sound limit (grid (k .before .before .before .before .before .before .before .before .before)) (viewOf (table (k .before .before .before .before .before))) ≡ true) × (had k ≡ total (grid (k .before .before .before .before .before .before .before .before .before)) (viewOf (table (k .before .before .before .before .before))))
 is-sound k =
     weighed-total limit _ _ (had k) (sym (k .before .before .before .weigh .ensures) ∙ k .before .had .given .1)
 
@@ -67,7 +67,7 @@ is-sound k =
 abbrev batch : tie.After-batch-fits → List Weighted
 batch k = batchOf (now (k .before .before .before .before .before .before .before .before .before .before .before .before .before .before .before .before .before .args .colours)) (k .before .before .before .before .before .before .before .before .before .before .before .before .before .before .before .before .before .args .weighted) (now (k .before .before .before .before .before .before .before .before .before .before .before .before .before .before .before .before .before .args .weights))
 
-tested : (k : tie.After-batch-fits) → k .batch-fits .result ≡ leb (total (grid (k .before .before .before .before .before .before .before .before .before .before)) (wide (table (k .before .before .before .before .before .before))) + weightOf (batch k)) limit
+tested : (k : tie.After-batch-fits) → k .batch-fits .result ≡ leb (total (grid (k .before .before .before .before .before .before .before .before .before .before)) (viewOf (table (k .before .before .before .before .before .before))) + weightOf (batch k)) limit
 tested k =
     let a = k .before .before .before .before .before .before .before .before .before .before .before .before .before .before .before .before .before .args in
     k .batch-fits .ensures
@@ -130,7 +130,7 @@ returns-5 c =
 batch-fits-requires : tie.Need-batch-fits-requires
 batch-fits-requires c κs =
     let f = is-sound c in
-    omega (arith, f .1, sound-total {v = wide (table (c .before .before .before .before .before))} (record { holds = f .0 }))
+    omega (arith, f .1, sound-total {v = viewOf (table (c .before .before .before .before .before))} (record { holds = f .0 }))
 
 same-length-2 : tie.Need-same-length-2
 same-length-2 c = search needs

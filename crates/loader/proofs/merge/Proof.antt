@@ -9,13 +9,13 @@ use native.Mathlib.Omega.{arith}
 use borrow.Author.Needs.{needs}
 use denote.Ref.{now}
 use lib.Dec.{lit<}
-use Rattle.grid.specs.declared.Chosen.the-variants.{Of}
-use Rattle.grid.specs.declared.Grid.{Grid}
+use Rattle.grid.specs.declared.place.Chosen.the-variants as chosen
+use Rattle.grid.specs.declared.place.Grid.{Grid}
 use Rattle.grid.specs.Grid.{gridOf, Accepted, binsOf}
 use Rattle.grid.proofs.Places.{chose, bins-high}
 use Rattle.loader.specs.Merge.{merged}
 use Rattle.table.specs.Sound.{limit, total, sound}
-use Rattle.table.specs.Cell.{TableOf, wide}
+use Rattle.table.specs.Table.{TableOf, viewOf}
 use Rattle.table.proofs.Scans.{weighed-unsound, weighed-total}
 use Rattle.table.proofs.Soundness.{sound-total, number-below}
 use Rattle.loader.proofs.Merging.{merge-sound}
@@ -27,7 +27,7 @@ use Rattle.loader.proofs.merge.Tie as tie
 abbrev grid : tie.After-known-told → Grid
 grid k = k .before .g .given .0 .0
 
-on-grid : (k : tie.After-known-told) → gridOf (k .before .before .before .before .before .before .args .b1) (k .before .before .before .before .before .before .args .b2) (k .before .before .before .before .before .before .args .b3) ≡ Of (grid k)
+on-grid : (k : tie.After-known-told) → gridOf (k .before .before .before .before .before .before .args .b1) (k .before .before .before .before .before .before .args .b2) (k .before .before .before .before .before .before .args .b3) ≡ chosen.Accepted (grid k)
 on-grid k = sym (k .before .before .before .grid-of .ensures) ∙ k .before .g .given .1
 
 accepted : (k : tie.After-known-told) → Accepted (grid k)
@@ -56,21 +56,21 @@ had k = k .before .had .given .0 .0
 abbrev more : tie.After-known-told3 → ℕ
 more k = k .before .more .given .0 .0
 
-first-sound : (k : tie.After-known-told2) → (sound limit (grid (k .before .before .before .before .before .before .before .before)) (wide (first (k .before .before .before .before .before))) ≡ true) × (had k ≡ total (grid (k .before .before .before .before .before .before .before .before)) (wide (first (k .before .before .before .before .before))))
+first-sound : (k : tie.After-known-told2) → (sound limit (grid (k .before .before .before .before .before .before .before .before)) (viewOf (first (k .before .before .before .before .before))) ≡ true) × (had k ≡ total (grid (k .before .before .before .before .before .before .before .before)) (viewOf (first (k .before .before .before .before .before))))
 first-sound k =
     weighed-total limit _ _ (had k) (sym (k .before .before .before .weigh .ensures) ∙ k .before .had .given .1)
 
 under : (k : tie.After-known-told2) → had k ≤ limit
 under k =
     let f = first-sound k in
-    omega (arith, f .1, sound-total {v = wide (first (k .before .before .before .before .before))} (record { holds = f .0 }))
+    omega (arith, f .1, sound-total {v = viewOf (first (k .before .before .before .before .before))} (record { holds = f .0 }))
 
-second-sound : (k : tie.After-known-told3) → (sound limit (grid (k .before .before .before .before .before .before .before .before .before .before .before .before)) (wide (second (k .before .before .before .before .before .before .before .before .before))) ≡ true) × (more k ≡ total (grid (k .before .before .before .before .before .before .before .before .before .before .before .before)) (wide (second (k .before .before .before .before .before .before .before .before .before))))
+second-sound : (k : tie.After-known-told3) → (sound limit (grid (k .before .before .before .before .before .before .before .before .before .before .before .before)) (viewOf (second (k .before .before .before .before .before .before .before .before .before))) ≡ true) × (more k ≡ total (grid (k .before .before .before .before .before .before .before .before .before .before .before .before)) (viewOf (second (k .before .before .before .before .before .before .before .before .before))))
 second-sound k =
     weighed-total limit _ _ (more k) (sym (k .before .before .before .weigh2 .ensures) ∙ k .before .more .given .1)
 
 -- a merge whose total fits leaves no number that a u64 can't hold
-room : (g : Grid) (t s : List ℕ) → Accepted g → sound limit g (wide t) ≡ true → sound limit g (wide s) ≡ true → total g (wide t) + total g (wide s) ≤ limit → (p j : ℕ) → p < binsOf g → j < 5 → wide t p j + wide s p j < 2 ^ 64
+room : (g : Grid) (t s : List ℕ) → Accepted g → sound limit g (viewOf t) ≡ true → sound limit g (viewOf s) ≡ true → total g (viewOf t) + total g (viewOf s) ≤ limit → (p j : ℕ) → p < binsOf g → j < 5 → viewOf t p j + viewOf s p j < 2 ^ 64
 unfolding merged
 room g t s a u v l p j h k =
     lt-trans (number-below a (merge-sound (record { holds = u }) (record { holds = v }) l) p h (omega arith) j k) (lit< tt)

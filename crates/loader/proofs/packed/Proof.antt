@@ -4,7 +4,7 @@ use mathlib.Core.Path.{_≡_, refl, ap, _∙_}
 use Prim.Native.Nat.{_≤_, _+_, _-_, _*_}
 use native.Mathlib.Omega.{arith}
 use lib.ListN.{length, getD, length-set}
-use Rattle.grid.proofs.Range.{Filled, filled-more, list-is}
+use Rattle.basics.proofs.Range.{Filled, filled-more, list-is}
 use Rattle.loader.specs.Step.{withSquares}
 use Rattle.loader.proofs.Loading.{square-byte}
 use Rattle.loader.proofs.Packing.{step-high}

@@ -8,8 +8,8 @@ use borrow.Author.Tests.{lt-leb}
 use denote.Ref.{now}
 use lib.Dec.{leb}
 use lib.ListN.{length, getD}
-use Rattle.grid.specs.Range.{sumFrom}
-use Rattle.grid.proofs.Range.{sum-split, sum-bounded}
+use Rattle.basics.specs.Range.{sumFrom}
+use Rattle.basics.proofs.Range.{sum-split, sum-bounded}
 use Rattle.table.specs.Sound.{limit}
 use Rattle.loader.proofs.weights_fit.Statement.{statement}
 use Rattle.loader.proofs.weights_fit.Tie as tie

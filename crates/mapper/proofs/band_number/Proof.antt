@@ -8,7 +8,7 @@ use borrow.Author.Needs.{needs}
 use denote.Ref.{now}
 use lib.Dec.{ltb}
 use lib.ListN.{length}
-use Rattle.grid.specs.Answer.{refuse}
+use Rattle.basics.specs.Answer.{refuse}
 use Rattle.grid.specs.Grid.{binsOf}
 use Rattle.mapper.specs.Band.{allBelow, bandNumber}
 use Rattle.mapper.proofs.Numbers.{band-accepted}

@@ -4,7 +4,7 @@ use mathlib.Core.Path.{ap, _∙_}
 use borrow.Author.Needs.{needs}
 use denote.Ref.{now}
 use lib.ListN.{getD}
-use Rattle.grid.specs.declared.Rgb.{Rgb}
+use Rattle.pixels.specs.declared.colour.Rgb.{Rgb}
 use Rattle.grid.specs.Grid.{colourPlace}
 use Rattle.mapper.specs.Band.{indexAt}
 use Rattle.mapper.proofs.index_at.Statement.{statement}

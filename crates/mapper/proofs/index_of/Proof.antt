@@ -16,7 +16,7 @@ bytes : (s : tie.Start) → Bytes (s .args .x)
 bytes s = let known = s .good in record { one = omega (arith, known); two = omega (arith, known); three = omega (arith, known) }
 
 -- what the code adds up
-place-is : (s : tie.Start) {n : ℕ} → n ≡ binOf (s .args .g .s3) (s .args .x .c3) → getD (now (s .args .t1)) (s .args .x .c1) 0 + getD (now (s .args .t2)) (s .args .x .c2) 0 + n ≡ colourPlace (s .args .g) (s .args .x)
+place-is : (s : tie.Start) {n : ℕ} → n ≡ binOf (s .args .g .shift3) (s .args .x .c3) → getD (now (s .args .t1)) (s .args .x .c1) 0 + getD (now (s .args .t2)) (s .args .x .c2) 0 + n ≡ colourPlace (s .args .g) (s .args .x)
 place-is s e =
     let steps : StepsOf (s .args .g) (now (s .args .t1)) (now (s .args .t2)) (stepsOf (s .args .g) 2) =
     record { accepted = s .pre .of-grid .accepted; one = s .pre .one; two = s .pre .two; three = refl } in

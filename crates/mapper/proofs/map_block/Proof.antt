@@ -9,8 +9,8 @@ use Rattle.mapper.proofs.Pixels.{same-index, run-colour}
 use Rattle.mapper.proofs.map_block.Statement.{statement}
 use Rattle.mapper.proofs.map_block.Tie as tie
 
-flat-requires : tie.Need-flat-requires
-flat-requires c κs = search needs
+equal-colours-requires : tie.Need-equal-colours-requires
+equal-colours-requires c κs = search needs
 
 index-at-requires : tie.Need-index-at-requires
 index-at-requires c κs = search needs
@@ -31,7 +31,7 @@ returns c =
     let part = now (a .part) in
     c .before .before .fill-block .ensures
     ∙ band-same (a .from) 64 _ (indexAt (a .g) (now (a .map)) part) (now (a .indices))
-    (λ i l m. c .before .before .before .before .index-at .ensures ∙ sym (same-index (a .g) (now (a .map)) part (a .from) i (run-colour part (a .from) (sym (test .before .flat .ensures) ∙ test .if1 .taken) i l m)))
+    (λ i l m. c .before .before .before .before .index-at .ensures ∙ sym (same-index (a .g) (now (a .map)) part (a .from) i (run-colour part (a .from) (sym (test .before .equal-colours .ensures) ∙ test .if1 .taken) i l m)))
 
 same-length-2 : tie.Need-same-length-2
 same-length-2 c = search needs
@@ -43,7 +43,7 @@ pub map-block-spec : {M : Type 1} → statement M
 map-block-spec =
     tie.close
     (tie.spec
-    flat-requires
+    equal-colours-requires
     index-at-requires
     fill-block-requires
     map-by-fours-requires

@@ -5,8 +5,8 @@ use Prim.Native.Nat.{_≤_, _-_}
 use native.Mathlib.Omega.{arith}
 use borrow.Author.Needs.{needs}
 use lib.ListN.{length, length-set}
-use Rattle.grid.specs.declared.Rgb.{Rgb}
-use Rattle.grid.specs.Grid.{componentAt}
+use Rattle.pixels.specs.declared.colour.Rgb.{Rgb}
+use Rattle.pixels.specs.Colour.{componentAt}
 use Rattle.mapper.proofs.Runs.{PackedTo, packed-more}
 use Rattle.mapper.proofs.packed_palette.Statement.{statement}
 use Rattle.mapper.proofs.packed_palette.Tie as tie

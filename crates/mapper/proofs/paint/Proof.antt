@@ -8,12 +8,12 @@ use borrow.Author.Tests.{eqb-true}
 use denote.Ref.{now}
 use lib.Dec.{eqb}
 use lib.ListN.{length}
-use Rattle.grid.specs.declared.Chosen.the-variants.{Of}
-use Rattle.grid.specs.declared.Grid.{Grid}
-use Rattle.grid.specs.Answer.{whenDone}
+use Rattle.grid.specs.declared.place.Chosen.the-variants as chosen
+use Rattle.grid.specs.declared.place.Grid.{Grid}
+use Rattle.basics.specs.Answer.{whenDone}
 use Rattle.grid.specs.Grid.{gridOf, Accepted}
 use Rattle.grid.proofs.Places.{chose}
-use Rattle.grid.proofs.Ends.{refused-keeps}
+use Rattle.basics.proofs.Ends.{refused-keeps}
 use Rattle.mapper.specs.Paint.{paintNumberOn}
 use Rattle.mapper.proofs.Numbers.{Passed, band-passed}
 use Rattle.mapper.proofs.Calls.{paint-no-grid, paint-ends}
@@ -27,7 +27,7 @@ grid k = k .before .g .given .0 .0
 abbrev start : tie.After-known-told → tie.Start
 start k = k .before .before .before .before .before .before .before
 
-on-grid : (k : tie.After-known-told) → gridOf (start k .args .b1) (start k .args .b2) (start k .args .b3) ≡ Of (grid k)
+on-grid : (k : tie.After-known-told) → gridOf (start k .args .b1) (start k .args .b2) (start k .args .b3) ≡ chosen.Accepted (grid k)
 on-grid k = sym (k .before .before .before .grid-of .ensures) ∙ k .before .g .given .1
 
 accepted : (k : tie.After-known-told) → Accepted (grid k)

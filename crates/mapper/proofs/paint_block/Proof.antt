@@ -8,8 +8,8 @@ use Rattle.mapper.proofs.Runs.{run-alike}
 use Rattle.mapper.proofs.paint_block.Statement.{statement}
 use Rattle.mapper.proofs.paint_block.Tie as tie
 
-flat-requires : tie.Need-flat-requires
-flat-requires c κs = search needs
+equal-colours-requires : tie.Need-equal-colours-requires
+equal-colours-requires c κs = search needs
 
 painted-requires : tie.Need-painted-requires
 painted-requires c κs = search needs
@@ -29,7 +29,7 @@ returns c =
     let a = test .before .before .before .before .before .args in
     let part = now (a .part) in
     c .before .before .fill-pixels .ensures
-    ∙ run-alike (a .g) (now (a .map)) (now (a .colours)) part (a .first) 64 _ (c .before .before .before .before .painted .ensures) (run-colour part (a .first) (sym (test .before .flat .ensures) ∙ test .if1 .taken))
+    ∙ run-alike (a .g) (now (a .map)) (now (a .colours)) part (a .first) 64 _ (c .before .before .before .before .painted .ensures) (run-colour part (a .first) (sym (test .before .equal-colours .ensures) ∙ test .if1 .taken))
 
 same-length-2 : tie.Need-same-length-2
 same-length-2 c = search needs
@@ -41,7 +41,7 @@ pub paint-block-spec : {M : Type 1} → statement M
 paint-block-spec =
     tie.close
     (tie.spec
-    flat-requires
+    equal-colours-requires
     painted-requires
     fill-pixels-requires
     paint-some-requires

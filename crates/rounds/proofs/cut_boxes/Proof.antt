@@ -4,11 +4,12 @@ use mathlib.Core.Path.{refl, ap, _∙_}
 use borrow.Author.Needs.{needs}
 use denote.Ref.{now}
 use lib.Ieee.{ofBits, div}
-use Rattle.table.specs.Cell.{wide}
-use Rattle.rounds.specs.Pack.{packOf}
+use Rattle.table.specs.Table.{viewOf}
+use Rattle.boxes.specs.Bytes.{packOf}
 use Rattle.rounds.specs.Loop.{placesOf, boxesOf}
-use Rattle.rounds.proofs.Packing.{within-bytes, room-start}
-use Rattle.rounds.proofs.Grids.{whole-within}
+use Rattle.boxes.proofs.Packing.{within-bytes}
+use Rattle.rounds.proofs.Packing.{room-start}
+use Rattle.boxes.proofs.Whole.{whole-within}
 use Rattle.rounds.proofs.Filled.{heap-in-use}
 use Rattle.rounds.proofs.cut_boxes.Statement.{statement}
 use Rattle.rounds.proofs.cut_boxes.Tie as tie
@@ -39,7 +40,7 @@ run-requires c κs =
 gathered-requires : tie.Need-gathered-requires
 gathered-requires c κs =
     let s = c .before .before .before .before .before .before .before .before .before in
-    (c .before .before .run .ensures .1 .1, rw (c .before .before .run .ensures .0) (heap-in-use (s .args .g) (wide (now (s .args .table))) (s .args .k) (s .pre .1) .most))
+    (c .before .before .run .ensures .1 .1, rw (c .before .before .run .ensures .0) (heap-in-use (s .args .g) (viewOf (now (s .args .table))) (s .args .k) (s .pre .1) .most))
 
 returns : tie.Need-returns
 unfolding boxesOf

@@ -6,20 +6,21 @@ use native.Mathlib.Omega.{arith}
 use borrow.Author.Needs.{needs}
 use denote.Ref.{now}
 use lib.Ieee.{ofBits}
-use Rattle.table.specs.Cell.{View, wide}
-use Rattle.sums.specs.declared.Bounds.{Bounds}
-use Rattle.sums.specs.Box.{Within}
+use Rattle.table.specs.Cell.{View}
+use Rattle.table.specs.Table.{viewOf}
+use Rattle.boxes.specs.declared.sides.Bounds.{Bounds}
+use Rattle.boxes.specs.Box.{Within}
 use Rattle.spread.specs.declared.Position.the-variants.{Nowhere}
 use Rattle.spread.specs.Cut.{bestCut}
 use Rattle.heap.specs.Heap.{Room, putIn}
 use Rattle.rounds.specs.Loop.{noItem, itself, roomIn}
-use Rattle.rounds.proofs.Packing.{within-bytes}
+use Rattle.boxes.proofs.Packing.{within-bytes}
 use Rattle.rounds.proofs.Turning.{used-none, room-none, used-cut, room-cut, low-box, high-box}
 use Rattle.rounds.proofs.cut_top.Statement.{statement}
 use Rattle.rounds.proofs.cut_top.Tie as tie
 
 abbrev view : tie.Start → View
-view s = wide (now (s .args .table))
+view s = viewOf (now (s .args .table))
 
 abbrev before : tie.Start → Room Bounds
 before s = roomIn (now (s .args .spreads)) (now (s .args .boxes))

@@ -8,11 +8,11 @@ use borrow.Author.Needs.{needs}
 use denote.Ref.{now}
 use lib.ListN.{getD}
 use lib.Ieee.{Float, nan, ofBits}
-use Rattle.sums.specs.declared.Bounds.{Bounds}
+use Rattle.boxes.specs.declared.sides.Bounds.{Bounds}
 use Rattle.heap.specs.Heap.{item}
 use Rattle.heap.specs.Lent.{Lent}
 use Rattle.rounds.specs.declared.BoxSpread.{BoxSpread}
-use Rattle.rounds.specs.Pack.{boxOf}
+use Rattle.boxes.specs.Bytes.{boxOf}
 use Rattle.rounds.specs.Loop.{noItem, spent, boxSpread, placesOf, roomIn}
 use Rattle.rounds.proofs.Packing.{room-in-item}
 use Rattle.rounds.proofs.Gathering.{Gathered, gathered-none, gathered-more, gathered-is}

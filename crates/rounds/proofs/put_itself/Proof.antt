@@ -4,12 +4,13 @@ use mathlib.Core.Path.{ap, _∙_}
 use borrow.Author.Needs.{needs}
 use denote.Ref.{now}
 use lib.Ieee.{Float}
-use Rattle.table.specs.Cell.{wide}
+use Rattle.table.specs.Table.{viewOf}
 use Rattle.spread.specs.Spread.{spreadOf}
 use Rattle.spread.proofs.Choose.{plain-stats}
 use Rattle.heap.specs.Heap.{putIn}
 use Rattle.rounds.specs.Loop.{noItem, itself, roomIn}
-use Rattle.rounds.proofs.Packing.{within-bytes, within-ordered}
+use Rattle.boxes.proofs.Packing.{within-bytes}
+use Rattle.boxes.proofs.Within.{within-ordered}
 use Rattle.rounds.proofs.put_itself.Statement.{statement}
 use Rattle.rounds.proofs.put_itself.Tie as tie
 
@@ -19,7 +20,7 @@ box-sum-requires c κs = search needs
 spread-requires : tie.Need-spread-requires
 spread-requires c κs =
     let s = c .before .before .before in
-    (within-ordered (s .pre .0 .1), plain-stats {v = wide (now (s .args .table))} (record { holds = s .pre .0 .0 .is-sound }) (s .pre .0 .1) (c .box-sum .ensures))
+    (within-ordered (s .pre .0 .1), plain-stats {v = viewOf (now (s .args .table))} (record { holds = s .pre .0 .0 .is-sound }) (s .pre .0 .1) (c .box-sum .ensures))
 
 put-box-requires : tie.Need-put-box-requires
 put-box-requires c κs =

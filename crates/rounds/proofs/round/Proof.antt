@@ -8,18 +8,20 @@ use borrow.Author.Needs.{needs}
 use denote.Ref.{now}
 use lib.Ieee.{nan}
 use lib.ListN.{getD}
-use Rattle.table.specs.Cell.{View, wide}
-use Rattle.sums.specs.declared.Bounds.{Bounds}
+use Rattle.table.specs.Cell.{View}
+use Rattle.table.specs.Table.{viewOf}
+use Rattle.boxes.specs.declared.sides.Bounds.{Bounds}
 use Rattle.spread.specs.Cut.{bestCut}
 use Rattle.heap.specs.Heap.{Item, Room, item, putIn}
 use Rattle.rounds.specs.Loop.{noItem, roomAfter, usedAfter, goesOn, roomIn}
-use Rattle.rounds.proofs.Packing.{within-bytes, room-in-item}
+use Rattle.boxes.proofs.Packing.{within-bytes}
+use Rattle.rounds.proofs.Packing.{room-in-item}
 use Rattle.rounds.proofs.Turning.{room-on, used-on, room-stops, used-stops}
 use Rattle.rounds.proofs.round.Statement.{statement}
 use Rattle.rounds.proofs.round.Tie as tie
 
 abbrev view : tie.Start → View
-view s = wide (now (s .args .table))
+view s = viewOf (now (s .args .table))
 
 abbrev before : tie.Start → Room Bounds
 before s = roomIn (now (s .args .spreads)) (now (s .args .boxes))

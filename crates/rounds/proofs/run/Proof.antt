@@ -6,13 +6,13 @@ use native.Mathlib.Omega.{arith}
 use borrow.Author.Needs.{needs}
 use borrow.Author.Tests.{not-true, not-false}
 use denote.Ref.{now}
-use Rattle.table.specs.Cell.{wide}
+use Rattle.table.specs.Table.{viewOf}
 use Rattle.heap.specs.Heap.{Item, item}
 use Rattle.heap.specs.Lent.{Lent}
-use Rattle.sums.specs.declared.Bounds.{Bounds}
+use Rattle.boxes.specs.declared.sides.Bounds.{Bounds}
 use Rattle.rounds.specs.Loop.{noItem, goesOn, roomIn}
 use Rattle.rounds.proofs.Packing.{room-in-item}
-use Rattle.rounds.proofs.Grids.{whole-within}
+use Rattle.boxes.proofs.Whole.{whole-within}
 use Rattle.rounds.proofs.Filled.{Each, OfGrid, of-grid-kept, each-round, start-each}
 use Rattle.rounds.proofs.Fuel.{need, need-less, ToCome, come-start, come-full, come-stop, come-round}
 use Rattle.rounds.proofs.run.Statement.{statement}
@@ -22,7 +22,7 @@ abbrev Inv-loop : tie.InvT-loop
 Inv-loop table work g k spreads₀ boxes₀ len₀ spreads boxes len =
     Lent spreads boxes
     × Each (OfGrid g) (roomIn spreads boxes) len
-    × ToCome g (wide table) k (roomIn spreads boxes) len
+    × ToCome g (viewOf table) k (roomIn spreads boxes) len
 
 abbrev μ-loop : tie.MeasureT-loop
 μ-loop table work g k spreads₀ boxes₀ len₀ spreads boxes len = need k (roomIn spreads boxes) len
@@ -63,7 +63,7 @@ loop-less c =
     let l = c .before .before .before .before .before .before .before .loop in
     let e = c .before .round .ensures in
     rw (e .0, e .1 .0)
-    (need-less (s .args .g) (wide (now (s .args .table))) (s .args .k) (s .pre .0 .1) (roomIn (l .spreads) (l .boxes)) (l .len) (l .inv .1 .in-use) (c .before .before .before .before .before .before .loop-test .taken)
+    (need-less (s .args .g) (viewOf (now (s .args .table))) (s .args .k) (s .pre .0 .1) (roomIn (l .spreads) (l .boxes)) (l .len) (l .inv .1 .in-use) (c .before .before .before .before .before .before .loop-test .taken)
     (spread-read (c .before .before .before .before) ∙ not-false _ (c .if1 .left)))
 
 loop-again : tie.Need-loop-again Inv-loop μ-loop
@@ -73,7 +73,7 @@ loop-again c =
     let e = c .before .round .ensures in
     let on : goesOn (item noItem (roomIn (l .spreads) (l .boxes)) 0 .spread) ≡ true = spread-read (c .before .before .before .before) ∙ not-false _ (c .if1 .left) in (
       e .1 .1,
-      rw (e .0, e .1 .0) (each-round (of-grid-kept (s .args .g) (wide (now (s .args .table)))) (l .inv .1) (omega (arith, c .before .before .before .before .before .before .loop-test .taken, s .pre .0 .1))),
+      rw (e .0, e .1 .0) (each-round (of-grid-kept (s .args .g) (viewOf (now (s .args .table)))) (l .inv .1) (omega (arith, c .before .before .before .before .before .before .loop-test .taken, s .pre .0 .1))),
       rw (e .0, e .1 .0) (come-round (l .inv .2) (c .before .before .before .before .before .before .loop-test .taken) (s .pre .0 .1) (l .inv .1 .in-use) on),
     )
 

@@ -1,7 +1,7 @@
 -- `seluvava::seluvava_bins` meets its contract.
 -- Assumes nothing.
 use mathlib.Core.Path.{_≡_, sym, _∙_}
-use Rattle.grid.specs.declared.Chosen.the-variants.{Of}
+use Rattle.grid.specs.declared.place.Chosen.the-variants as chosen
 use Rattle.grid.specs.Grid.{gridOf}
 use Rattle.grid.proofs.Places.{chose}
 use Rattle.seluvava.proofs.Calls.{bins-refused, bins-on}
@@ -9,7 +9,7 @@ use borrow.Author.Needs.{needs}
 use Rattle.seluvava.proofs.seluvava_bins.Statement.{statement}
 use Rattle.seluvava.proofs.seluvava_bins.Tie as tie
 
-on-grid : (k : tie.After-known-told) → gridOf (k .before .before .before .before .args .b1) (k .before .before .before .before .args .b2) (k .before .before .before .before .args .b3) ≡ Of (k .before .g .given .0 .0)
+on-grid : (k : tie.After-known-told) → gridOf (k .before .before .before .before .args .b1) (k .before .before .before .before .args .b2) (k .before .before .before .before .args .b3) ≡ chosen.Accepted (k .before .g .given .0 .0)
 on-grid k = sym (k .before .before .before .grid-of .ensures) ∙ k .before .g .given .1
 
 grid-of-requires : tie.Need-grid-of-requires

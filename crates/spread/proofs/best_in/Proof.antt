@@ -6,8 +6,9 @@ use Prim.Native.Nat.{ℕ, _+_, _-_, _≤_, _<_}
 use native.Mathlib.Omega.{arith}
 use borrow.Author.Needs.{needs}
 use denote.Ref.{now}
-use Rattle.table.specs.Cell.{wide}
-use Rattle.sums.specs.Box.{statsOf, minAt, maxAt, slabTo}
+use Rattle.table.specs.Table.{viewOf}
+use Rattle.sums.specs.Box.{statsOf}
+use Rattle.boxes.specs.Box.{minAt, maxAt, slabTo}
 use Rattle.spread.specs.declared.Position.{Position}
 use Rattle.spread.specs.Cut.{positionAt, better, bestRun, bestIn}
 use Rattle.spread.proofs.Choose.{later-is-better, earlier-is-better, end-high, run-none, run-next}
@@ -17,8 +18,8 @@ use Rattle.spread.proofs.best_in.Tie as tie
 abbrev Inv-loop : tie.InvT-loop
 Inv-loop table work g x dimension all end first walk base₀ best₀ bin₀ base best bin =
     (minAt x dimension ≤ bin) × (bin ≤ end)
-    × (best ≡ bestRun g (wide table) x dimension (minAt x dimension + 1) (bin - (minAt x dimension + 1)))
-    × (minAt x dimension < bin → base ≡ statsOf g (wide table) (slabTo x dimension (minAt x dimension)))
+    × (best ≡ bestRun g (viewOf table) x dimension (minAt x dimension + 1) (bin - (minAt x dimension + 1)))
+    × (minAt x dimension < bin → base ≡ statsOf g (viewOf table) (slabTo x dimension (minAt x dimension)))
 
 abbrev μ-loop : tie.MeasureT-loop
 μ-loop table work g x dimension all end first walk base₀ best₀ bin₀ base best bin = end - bin
@@ -36,7 +37,7 @@ returns : tie.Need-returns Inv-loop μ-loop
 unfolding bestIn
 returns c =
     let s = c .before .before .before .before .before in
-    run-none (s .args .g) (wide (now (s .args .table))) (s .args .x) (s .args .dimension) (minAt (s .args .x) (s .args .dimension) + 1) (maxAt (s .args .x) (s .args .dimension))
+    run-none (s .args .g) (viewOf (now (s .args .table))) (s .args .x) (s .args .dimension) (minAt (s .args .x) (s .args .dimension) + 1) (maxAt (s .args .x) (s .args .dimension))
     (omega (arith, c .if1 .taken, c .before .first-bin .ensures, c .before .before .end-bin .ensures, s .pre .0 .1 .some (s .args .dimension)))
 
 walk-of-requires : tie.Need-walk-of-requires Inv-loop μ-loop
@@ -51,7 +52,7 @@ loop-holds c =
     let first = c .before .before .before .first-bin .ensures in (
       omega (arith, first),
       omega (arith, first, c .before .before .before .before .end-bin .ensures, s .pre .0 .1 .some (s .args .dimension)),
-      run-none (s .args .g) (wide (now (s .args .table))) (s .args .x) (s .args .dimension) (minAt (s .args .x) (s .args .dimension) + 1) (c .before .before .before .first-bin .result) (omega (arith, first)),
+      run-none (s .args .g) (viewOf (now (s .args .table))) (s .args .x) (s .args .dimension) (minAt (s .args .x) (s .args .dimension) + 1) (c .before .before .before .first-bin .result) (omega (arith, first)),
       λ h. absurd (omega (arith, first)),
     )
 
@@ -66,14 +67,14 @@ module _ (k : tie.Else2 Inv-loop μ-loop) where
   s = k .before .before .before .before .before .before .before .before .before .before .before
 
   abbrev run : ℕ → Position
-  run n = bestRun (s .args .g) (wide (now (s .args .table))) (s .args .x) (s .args .dimension) (minAt (s .args .x) (s .args .dimension) + 1) (n - (minAt (s .args .x) (s .args .dimension) + 1))
+  run n = bestRun (s .args .g) (viewOf (now (s .args .table))) (s .args .x) (s .args .dimension) (minAt (s .args .x) (s .args .dimension) + 1) (n - (minAt (s .args .x) (s .args .dimension) + 1))
 
   past-first : minAt (s .args .x) (s .args .dimension) < k .before .before .before .loop .bin
   past-first = omega (arith, k .before .before .before .loop .inv .0, k .before .before .before .before .before .before .before .first-bin .ensures)
 
-  next : {p r : Position} → p ≡ positionAt (s .args .g) (wide (now (s .args .table))) (s .args .x) (s .args .dimension) (k .before .before .before .loop .bin) → r ≡ better (k .before .before .before .loop .best) p → r ≡ run (k .before .before .before .loop .bin + 1)
+  next : {p r : Position} → p ≡ positionAt (s .args .g) (viewOf (now (s .args .table))) (s .args .x) (s .args .dimension) (k .before .before .before .loop .bin) → r ≡ better (k .before .before .before .loop .best) p → r ≡ run (k .before .before .before .loop .bin + 1)
   next =
-      run-next (s .args .g) (wide (now (s .args .table))) (s .args .x) (s .args .dimension) (minAt (s .args .x) (s .args .dimension) + 1) (k .before .before .before .loop .bin)
+      run-next (s .args .g) (viewOf (now (s .args .table))) (s .args .x) (s .args .dimension) (minAt (s .args .x) (s .args .dimension) + 1) (k .before .before .before .loop .bin)
       (omega (arith, past-first)) (k .before .before .before .loop .inv .2)
 
 position-at-requires : tie.Need-position-at-requires Inv-loop μ-loop
@@ -102,14 +103,14 @@ loop-again c =
       omega (arith, l .inv .0),
       omega (arith, c .before .before .loop-test .taken),
       ⊎-elim
-          (λ w. w .2 ∙ l .inv .2 ∙ ap (bestRun (s .args .g) (wide (now (s .args .table))) (s .args .x) (s .args .dimension) (from + 1)) (none from (l .bin) (w .0 .taken ∙ first)))
+          (λ w. w .2 ∙ l .inv .2 ∙ ap (bestRun (s .args .g) (viewOf (now (s .args .table))) (s .args .x) (s .args .dimension) (from + 1)) (none from (l .bin) (w .0 .taken ∙ first)))
           (⊎-elim
           (λ w. next (record { before = c .before; if2 = w .0 }) (w .1 .ensures) (w .5 ∙ later-is-better (l .best) (w .1 .result) (sym (w .2 .ensures) ∙ w .3 .taken)))
           (λ w. next (record { before = c .before; if2 = w .0 }) (w .1 .ensures) (w .5 ∙ earlier-is-better (l .best) (w .1 .result) (sym (w .2 .ensures) ∙ w .3 .left))))
           (c .if2 .came),
       λ h.
           ⊎-elim
-          (λ w. w .1 ∙ c .before .sums-before .ensures ∙ ap (λ (n : ℕ). statsOf (s .args .g) (wide (now (s .args .table))) (slabTo (s .args .x) (s .args .dimension) n)) (w .0 .taken ∙ first))
+          (λ w. w .1 ∙ c .before .sums-before .ensures ∙ ap (λ (n : ℕ). statsOf (s .args .g) (viewOf (now (s .args .table))) (slabTo (s .args .x) (s .args .dimension) n)) (w .0 .taken ∙ first))
           (⊎-elim
           (λ w. w .4 ∙ l .inv .3 (past-first (record { before = c .before; if2 = w .0 })))
           (λ w. w .4 ∙ l .inv .3 (past-first (record { before = c .before; if2 = w .0 }))))
@@ -125,7 +126,7 @@ returns-2 c =
     let s = c .before .before .before .before .before .before .before .before .before in
     let l = c .before .loop in
     let all : l .bin ≡ maxAt (s .args .x) (s .args .dimension) = omega (arith, l .inv .1, c .loop-test .left, c .before .before .before .before .before .before .end-bin .ensures) in
-    l .inv .2 ∙ ap (λ (n : ℕ). bestRun (s .args .g) (wide (now (s .args .table))) (s .args .x) (s .args .dimension) (minAt (s .args .x) (s .args .dimension) + 1) (n - (minAt (s .args .x) (s .args .dimension) + 1))) all
+    l .inv .2 ∙ ap (λ (n : ℕ). bestRun (s .args .g) (viewOf (now (s .args .table))) (s .args .x) (s .args .dimension) (minAt (s .args .x) (s .args .dimension) + 1) (n - (minAt (s .args .x) (s .args .dimension) + 1))) all
 
 pub best-in-spec : {M : Type 1} → statement M
 best-in-spec =

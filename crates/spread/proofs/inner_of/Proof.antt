@@ -1,7 +1,7 @@
 -- `spread::inner_of` meets its contract: by the dimension.
 -- Assumes nothing.
 use mathlib.Core.Path.{refl, sym}
-use Rattle.grid.specs.Grid.{choose}
+use Rattle.basics.specs.Dimension.{choose}
 use Rattle.grid.proofs.Places.{choose-third}
 use Rattle.spread.specs.Walk.{innerOf}
 use Rattle.spread.proofs.inner_of.Statement.{statement}

@@ -1,7 +1,7 @@
 -- `spread::outer_of` meets its contract: by the dimension.
 -- Assumes nothing.
 use mathlib.Core.Path.{refl, sym}
-use Rattle.grid.specs.Grid.{choose}
+use Rattle.basics.specs.Dimension.{choose}
 use Rattle.spread.specs.Walk.{outerOf}
 use Rattle.spread.proofs.Cross.{outer-rest}
 use Rattle.spread.proofs.outer_of.Statement.{statement}

@@ -3,12 +3,14 @@
 use mathlib.Core.Path.{_≡_}
 use native.Mathlib.Nat.{le-of-lt}
 use denote.Ref.{now}
-use Rattle.table.specs.Cell.{View, wide}
+use Rattle.table.specs.Cell.{View}
+use Rattle.table.specs.Table.{viewOf}
 use Rattle.table.specs.Sound.{limit}
 use Rattle.table.proofs.Soundness.{Sound}
 use Rattle.sums.specs.declared.Stats.{Stats}
-use Rattle.sums.specs.Box.{boxSum, statsOf, lowSide, highSide}
-use Rattle.sums.proofs.Laws.{low-within, high-within}
+use Rattle.sums.specs.Box.{boxSum, statsOf}
+use Rattle.boxes.specs.Box.{lowSide, highSide}
+use Rattle.boxes.proofs.Within.{low-within, high-within}
 use Rattle.spread.proofs.Choose.{plain-stats, position-is}
 use Rattle.spread.proofs.Sides.{Less, low, high}
 use Rattle.spread.proofs.position_at.Statement.{statement}
@@ -16,7 +18,7 @@ use Rattle.spread.proofs.position_at.Tie as tie
 
 module _ (s : tie.Start) where
   abbrev view : View
-  view = wide (now (s .args .table))
+  view = viewOf (now (s .args .table))
 
   is-sound : Sound limit (s .args .g) view
   is-sound = record { holds = s .pre .0 .0 }

@@ -2,7 +2,8 @@
 -- Assumes nothing.
 use mathlib.Core.Path.{refl, sym}
 use native.Mathlib.Omega.{arith}
-use Rattle.grid.specs.Grid.{choose, strideAt}
+use Rattle.basics.specs.Dimension.{choose}
+use Rattle.grid.specs.Grid.{strideAt}
 use Rattle.grid.proofs.Places.{plane-high, choose-third}
 use Rattle.spread.proofs.stride_of.Statement.{statement}
 use Rattle.spread.proofs.stride_of.Tie as tie

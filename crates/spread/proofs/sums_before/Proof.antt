@@ -6,9 +6,11 @@ use native.Mathlib.Nat.{le-refl, le-of-lt}
 use native.Mathlib.Omega.{arith}
 use borrow.Author.Needs.{needs}
 use denote.Ref.{now}
-use Rattle.table.specs.Cell.{View, wide}
+use Rattle.table.specs.Cell.{View}
+use Rattle.table.specs.Table.{viewOf}
 use Rattle.sums.specs.declared.Stats.{Stats}
-use Rattle.sums.specs.Box.{boxSum, statsOf, minAt, maxAt, slabTo}
+use Rattle.sums.specs.Box.{boxSum, statsOf}
+use Rattle.boxes.specs.Box.{minAt, maxAt, slabTo}
 use Rattle.spread.specs.declared.Walk.{Walk}
 use Rattle.spread.specs.Walk.{outerOf, innerOf, startOf, walkOf}
 use Rattle.spread.proofs.Sides.{Exact, Less}
@@ -18,7 +20,7 @@ use Rattle.spread.proofs.sums_before.Tie as tie
 
 module _ (s : tie.Start) where
   abbrev view : View
-  view = wide (now (s .args .table))
+  view = viewOf (now (s .args .table))
 
   -- the box's ends in the other two dimensions
   abbrev outer : ℕ
@@ -111,8 +113,8 @@ stats-of-requires c κs = search needs
 returns : tie.Need-returns
 returns c =
     let a = c .before .before .before .before .args in
-    none-before (a .g) (wide (now (a .table))) (a .x) (a .dimension) (c .stats-of .ensures)
-    ∙ ap (λ (n : ℕ). statsOf (a .g) (wide (now (a .table))) (slabTo (a .x) (a .dimension) n)) (sym (c .before .if1 .taken))
+    none-before (a .g) (viewOf (now (a .table))) (a .x) (a .dimension) (c .stats-of .ensures)
+    ∙ ap (λ (n : ℕ). statsOf (a .g) (viewOf (now (a .table))) (slabTo (a .x) (a .dimension) n)) (sym (c .before .if1 .taken))
 
 -- ---- some bins: the corner. Each state that follows names the one that the function started from
 module _ (k : tie.Else1) where

@@ -5,7 +5,7 @@ use Prim.Native.Nat.{_≤_}
 use native.Mathlib.Omega.{arith}
 use borrow.Author.Needs.{needs}
 use Rattle.grid.specs.Grid.{sizeAt}
-use Rattle.sums.specs.Box.{minAt, maxAt}
+use Rattle.boxes.specs.Box.{minAt, maxAt}
 use Rattle.spread.specs.Walk.{outerOf, innerOf, startOf, walkOf}
 use Rattle.spread.proofs.walk_of.Statement.{statement}
 use Rattle.spread.proofs.walk_of.Tie as tie

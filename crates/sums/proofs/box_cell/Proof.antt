@@ -5,19 +5,20 @@ use Prim.Native.Nat.{ℕ, _+_, _-_, _≤_}
 use native.Mathlib.Nat.{le-trans, le-of-lt}
 use borrow.Author.Needs.{needs}
 use denote.Ref.{now}
-use Rattle.table.specs.Cell.{wide}
+use Rattle.table.specs.Table.{viewOf}
 use Rattle.sums.specs.Moments.{binCell}
 use Rattle.sums.specs.Box.{binSum, boxSum, boxCell}
-use Rattle.sums.proofs.Corners.{first-from, from-least, from-is, from-start, sides}
+use Rattle.sums.proofs.Corners.{first-from, from-least, from-is, from-start}
+use Rattle.boxes.proofs.Within.{sides}
 use Rattle.sums.proofs.box_cell.Statement.{statement}
 use Rattle.sums.proofs.box_cell.Tie as tie
 
 -- number j of the bins from a start on
 abbrev planes : tie.Start → ℕ → ℕ → ℕ → ℕ
-planes s a n j = binSum (s .args .g) (wide (now (s .args .table))) a n (s .args .x .g0) (s .args .x .g1 - s .args .x .g0) (s .args .x .b0) (s .args .x .b1 - s .args .x .b0) j
+planes s a n j = binSum (s .args .g) (viewOf (now (s .args .table))) a n (s .args .x .g0) (s .args .x .g1 - s .args .x .g0) (s .args .x .b0) (s .args .x .b1 - s .args .x .b0) j
 
 split : (s : tie.Start) (a e j : ℕ) → a ≤ e → planes s 0 e j ≡ planes s 0 a j + planes s a (e - a) j
-split s a e j h = first-from (s .args .g) (wide (now (s .args .table))) a e (s .args .x .g0) (s .args .x .g1 - s .args .x .g0) (s .args .x .b0) (s .args .x .b1 - s .args .x .b0) j h
+split s a e j h = first-from (s .args .g) (viewOf (now (s .args .table))) a e (s .args .x .g0) (s .args .x .g1 - s .args .x .g0) (s .args .x .b0) (s .args .x .b1 - s .args .x .b0) j h
 
 cast-slab : tie.Need-cast-slab
 cast-slab c = search needs

@@ -1,7 +1,7 @@
 -- `sums::box_sum` meets its contract: the statistics of the five sums of the box.
 -- Assumes nothing.
 use denote.Ref.{now}
-use Rattle.table.specs.Cell.{wide}
+use Rattle.table.specs.Table.{viewOf}
 use Rattle.sums.specs.Box.{boxSum, boxCell, statsOf}
 use Rattle.sums.proofs.Corners.{box-squares, cell-squares, cell-stats}
 use Rattle.sums.proofs.box_sum.Statement.{statement}
@@ -14,13 +14,13 @@ stats-of-requires : tie.Need-stats-of-requires
 unfolding boxCell
 stats-of-requires c κs =
     let s = c .before .before .before in
-    cell-squares (boxSum (s .args .g) (wide (now (s .args .table))) (s .args .x)) (c .box-cell .ensures) (box-squares (record { holds = s .pre .0 .is-sound }) (s .pre .1))
+    cell-squares (boxSum (s .args .g) (viewOf (now (s .args .table))) (s .args .x)) (c .box-cell .ensures) (box-squares (record { holds = s .pre .0 .is-sound }) (s .pre .1))
 
 returns : tie.Need-returns
 unfolding boxCell statsOf
 returns c =
     let s = c .before .before .before .before in
-    cell-stats (boxSum (s .args .g) (wide (now (s .args .table))) (s .args .x)) (c .before .box-cell .ensures) (c .stats-of .ensures)
+    cell-stats (boxSum (s .args .g) (viewOf (now (s .args .table))) (s .args .x)) (c .before .box-cell .ensures) (c .stats-of .ensures)
 
 pub box-sum-spec : {M : Type 1} → statement M
 box-sum-spec = tie.close (tie.spec box-cell-requires stats-of-requires returns)

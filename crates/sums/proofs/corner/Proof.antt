@@ -3,7 +3,7 @@
 use native.Mathlib.Omega.{arith}
 use borrow.Author.Needs.{needs}
 use denote.Ref.{now}
-use Rattle.table.specs.Cell.{wide}
+use Rattle.table.specs.Table.{viewOf}
 use Rattle.sums.proofs.Corners.{no-first, no-second, no-third, zeros-are, corner-cell, corner-is}
 use Rattle.sums.proofs.corner.Statement.{statement}
 use Rattle.sums.proofs.corner.Tie as tie
@@ -11,17 +11,17 @@ use Rattle.sums.proofs.corner.Tie as tie
 returns : tie.Need-returns
 returns c =
     let s = c .before .before .before in
-    zeros-are (s .args .g) (wide (now (s .args .table))) 0 (s .args .r) 0 (s .args .gr) 0 (s .args .b) (λ j. rw (c .if1 .taken) (no-first (s .args .g) (wide (now (s .args .table))) 0 0 (s .args .gr) 0 (s .args .b) j))
+    zeros-are (s .args .g) (viewOf (now (s .args .table))) 0 (s .args .r) 0 (s .args .gr) 0 (s .args .b) (λ j. rw (c .if1 .taken) (no-first (s .args .g) (viewOf (now (s .args .table))) 0 0 (s .args .gr) 0 (s .args .b) j))
 
 returns-2 : tie.Need-returns-2
 returns-2 c =
     let s = c .before .before .before .before in
-    zeros-are (s .args .g) (wide (now (s .args .table))) 0 (s .args .r) 0 (s .args .gr) 0 (s .args .b) (λ j. rw (c .if2 .taken) (no-second (s .args .g) (wide (now (s .args .table))) 0 (s .args .r) 0 0 (s .args .b) j))
+    zeros-are (s .args .g) (viewOf (now (s .args .table))) 0 (s .args .r) 0 (s .args .gr) 0 (s .args .b) (λ j. rw (c .if2 .taken) (no-second (s .args .g) (viewOf (now (s .args .table))) 0 (s .args .r) 0 0 (s .args .b) j))
 
 returns-3 : tie.Need-returns-3
 returns-3 c =
     let s = c .before .before .before .before .before in
-    zeros-are (s .args .g) (wide (now (s .args .table))) 0 (s .args .r) 0 (s .args .gr) 0 (s .args .b) (λ j. rw (c .if3 .taken) (no-third (s .args .g) (wide (now (s .args .table))) 0 (s .args .r) 0 (s .args .gr) 0 j))
+    zeros-are (s .args .g) (viewOf (now (s .args .table))) 0 (s .args .r) 0 (s .args .gr) 0 (s .args .b) (λ j. rw (c .if3 .taken) (no-third (s .args .g) (viewOf (now (s .args .table))) 0 (s .args .r) 0 (s .args .gr) 0 j))
 
 sub-place : tie.Need-sub-place
 sub-place c = search needs

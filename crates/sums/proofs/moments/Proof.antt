@@ -14,10 +14,10 @@ use Rattle.sums.proofs.moments.Tie as tie
 
 abbrev Inv-loop : tie.InvT-loop
 Inv-loop table g work₀ r₀ work r =
-    (r ≤ g .b1) × Before g table work (r * (g .b2 * g .b3))
+    (r ≤ g .size1) × Before g table work (r * (g .size2 * g .size3))
 
 abbrev μ-loop : tie.MeasureT-loop
-μ-loop table g work₀ r₀ work r = g .b1 - r
+μ-loop table g work₀ r₀ work r = g .size1 - r
 
 loop-holds : tie.Need-loop-holds Inv-loop μ-loop
 loop-holds c =
@@ -44,7 +44,7 @@ loop-again : tie.Need-loop-again Inv-loop μ-loop
 loop-again c =
     let s = c .before .before .before .before .before .before .before .before .before in
     let l = c .before .before .before .before .before .before .loop in
-    let plane = s .args .g .b2 * s .args .g .b3 in (
+    let plane = s .args .g .size2 * s .args .g .size3 in (
       omega (arith, c .before .before .before .before .if1 .taken),
       before-same (c .before .before .next-plane .ensures)
           (ap (λ (n : ℕ). n + plane) (plane-start (s .args .g) (l .r) ∙ zero-add _) ∙ sym (add-one-mul (l .r) plane)),
@@ -58,8 +58,8 @@ unfolding binsOf
 returns c =
     let s = c .before .before .before .before .before in
     let l = c .before .before .loop in
-    let all : l .r ≡ s .args .g .b1 = omega arith in
-    all-made (before-same (l .inv .1) (ap (λ (n : ℕ). n * (s .args .g .b2 * s .args .g .b3)) all ∙ sym (mul-assoc (s .args .g .b1) (s .args .g .b2) (s .args .g .b3))))
+    let all : l .r ≡ s .args .g .size1 = omega arith in
+    all-made (before-same (l .inv .1) (ap (λ (n : ℕ). n * (s .args .g .size2 * s .args .g .size3)) all ∙ sym (mul-assoc (s .args .g .size1) (s .args .g .size2) (s .args .g .size3))))
 
 pub moments-spec : {M : Type 1} → statement M
 moments-spec =

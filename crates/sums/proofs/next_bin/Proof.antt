@@ -4,7 +4,7 @@ use mathlib.Core.Path.{_∙_}
 use native.Mathlib.Omega.{arith}
 use borrow.Author.Needs.{needs}
 use denote.Ref.{now}
-use Rattle.table.specs.Cell.{putAt}
+use Rattle.table.specs.Table.{putAt}
 use Rattle.sums.proofs.Steps.{near-cell, table-cell, line-room, line-through}
 use Rattle.sums.proofs.next_bin.Statement.{statement}
 use Rattle.sums.proofs.next_bin.Tie as tie

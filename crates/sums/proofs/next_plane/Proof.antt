@@ -14,15 +14,15 @@ use Rattle.sums.proofs.next_plane.Tie as tie
 
 abbrev Inv-loop : tie.InvT-loop
 Inv-loop table work₀ g r gr₀ work gr =
-    (gr ≤ g .b2) × Before g table work (placeOf g r 0 0 + gr * g .b3)
+    (gr ≤ g .size2) × Before g table work (placeOf g r 0 0 + gr * g .size3)
 
 abbrev μ-loop : tie.MeasureT-loop
-μ-loop table work₀ g r gr₀ work gr = g .b2 - gr
+μ-loop table work₀ g r gr₀ work gr = g .size2 - gr
 
 loop-holds : tie.Need-loop-holds Inv-loop μ-loop
 loop-holds c =
     let s = c .before .before in
-    (omega arith, before-same (s .pre .before) (sym (ap (λ (n : ℕ). placeOf (s .args .g) (s .args .r) 0 0 + n) (zero-mul (s .args .g .b3)) ∙ add-zero _)))
+    (omega arith, before-same (s .pre .before) (sym (ap (λ (n : ℕ). placeOf (s .args .g) (s .args .r) 0 0 + n) (zero-mul (s .args .g .size3)) ∙ add-zero _)))
 
 next-row-requires : tie.Need-next-row-requires Inv-loop μ-loop
 next-row-requires c κs =
@@ -46,9 +46,9 @@ loop-again c =
     let l = c .before .before .before .before .before .before .loop in (
       omega (arith, c .before .before .before .before .if1 .taken),
       before-same (c .before .before .next-row .ensures)
-          (ap (λ (n : ℕ). n + s .args .g .b3) (row-start (s .args .g) (s .args .r) (l .gr))
-          ∙ add-assoc _ (l .gr * s .args .g .b3) (s .args .g .b3)
-          ∙ ap (λ (n : ℕ). placeOf (s .args .g) (s .args .r) 0 0 + n) (sym (add-one-mul (l .gr) (s .args .g .b3)))),
+          (ap (λ (n : ℕ). n + s .args .g .size3) (row-start (s .args .g) (s .args .r) (l .gr))
+          ∙ add-assoc _ (l .gr * s .args .g .size3) (s .args .g .size3)
+          ∙ ap (λ (n : ℕ). placeOf (s .args .g) (s .args .r) 0 0 + n) (sym (add-one-mul (l .gr) (s .args .g .size3)))),
     )
 
 same-length : tie.Need-same-length Inv-loop μ-loop
@@ -58,8 +58,8 @@ returns : tie.Need-returns Inv-loop μ-loop
 returns c =
     let s = c .before .before .before .before .before in
     let l = c .before .before .loop in
-    let all : l .gr ≡ s .args .g .b2 = omega arith in
-    before-same (l .inv .1) (ap (λ (n : ℕ). placeOf (s .args .g) (s .args .r) 0 0 + n * s .args .g .b3) all)
+    let all : l .gr ≡ s .args .g .size2 = omega arith in
+    before-same (l .inv .1) (ap (λ (n : ℕ). placeOf (s .args .g) (s .args .r) 0 0 + n * s .args .g .size3) all)
 
 pub next-plane-spec : {M : Type 1} → statement M
 next-plane-spec =

@@ -8,7 +8,7 @@ use denote.Ref.{now}
 use Rattle.grid.specs.Grid.{placeOf}
 use Rattle.grid.proofs.Places.{three, place-along}
 use Rattle.grid.proofs.Size.{size-high}
-use Rattle.table.specs.Cell.{wide}
+use Rattle.table.specs.Table.{viewOf}
 use Rattle.sums.specs.Moments.{lineCell, Before}
 use Rattle.sums.proofs.Steps.{line-start, before-same, row-ready, one-on}
 use Rattle.sums.proofs.next_row.Statement.{statement}
@@ -16,15 +16,15 @@ use Rattle.sums.proofs.next_row.Tie as tie
 
 abbrev Inv-loop : tie.InvT-loop
 Inv-loop table work₀ g r gr line₀ b₀ work line b =
-    (b ≤ g .b3) × (line ≡ lineCell g (wide table) r gr b) × Before g table work (placeOf g r gr 0 + b)
+    (b ≤ g .size3) × (line ≡ lineCell g (viewOf table) r gr b) × Before g table work (placeOf g r gr 0 + b)
 
 abbrev μ-loop : tie.MeasureT-loop
-μ-loop table work₀ g r gr line₀ b₀ work line b = g .b3 - b
+μ-loop table work₀ g r gr line₀ b₀ work line b = g .size3 - b
 
 loop-holds : tie.Need-loop-holds Inv-loop μ-loop
 loop-holds c =
     let s = c .before .before in
-    (omega arith, line-start (s .args .g) (wide (now (s .args .table))) (s .args .r) (s .args .gr), before-same (s .pre .before) (sym (add-zero _)))
+    (omega arith, line-start (s .args .g) (viewOf (now (s .args .table))) (s .args .r) (s .args .gr), before-same (s .pre .before) (sym (add-zero _)))
 
 next-bin-requires : tie.Need-next-bin-requires Inv-loop μ-loop
 next-bin-requires c κs =
@@ -57,7 +57,7 @@ same-length c = c .before .before .loop .inv .2 .lent ∙ sym (c .before .before
 returns : tie.Need-returns Inv-loop μ-loop
 returns c =
     let l = c .before .before .loop in
-    let all : l .b ≡ c .before .before .before .before .before .args .g .b3 = omega arith in
+    let all : l .b ≡ c .before .before .before .before .before .args .g .size3 = omega arith in
     before-same (l .inv .2) (ap (λ (n : ℕ). placeOf (c .before .before .before .before .before .args .g) (c .before .before .before .before .before .args .r) (c .before .before .before .before .before .args .gr) 0 + n) all)
 
 pub next-row-spec : {M : Type 1} → statement M

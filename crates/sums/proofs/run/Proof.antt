@@ -3,7 +3,7 @@
 use Prim.Native.Nat.{ℕ}
 use borrow.Author.Needs.{needs}
 use denote.Ref.{now}
-use Rattle.table.specs.Cell.{wide}
+use Rattle.table.specs.Table.{viewOf}
 use Rattle.sums.specs.Moments.{binCell}
 use Rattle.sums.specs.Box.{binSum}
 use Rattle.sums.proofs.Corners.{third-from, from-least, from-is, from-start}
@@ -12,7 +12,7 @@ use Rattle.sums.proofs.run.Tie as tie
 
 -- number j of the bins from a start on
 abbrev runs : tie.Start → ℕ → ℕ → ℕ → ℕ
-runs s b n j = binSum (s .args .g) (wide (now (s .args .table))) 0 (s .args .r) 0 (s .args .gr) b n j
+runs s b n j = binSum (s .args .g) (viewOf (now (s .args .table))) 0 (s .args .r) 0 (s .args .gr) b n j
 
 corner-requires : tie.Need-corner-requires
 corner-requires c κs = search needs
@@ -21,7 +21,7 @@ returns : tie.Need-returns
 unfolding binCell
 returns c =
     let s = c .before .before .before .before in
-    from-start (runs s) (third-from (s .args .g) (wide (now (s .args .table))) 0 (s .args .r) 0 (s .args .gr)) (s .pre .1) (c .before .corner .ensures) (c .if1 .taken)
+    from-start (runs s) (third-from (s .args .g) (viewOf (now (s .args .table))) 0 (s .args .r) 0 (s .args .gr)) (s .pre .1) (c .before .corner .ensures) (c .if1 .taken)
 
 corner-requires-2 : tie.Need-corner-requires-2
 corner-requires-2 c κs = search needs
@@ -30,13 +30,13 @@ minus-requires : tie.Need-minus-requires
 unfolding binCell
 minus-requires c κs =
     let s = c .before .before .before .before .before in
-    from-least (runs s) (third-from (s .args .g) (wide (now (s .args .table))) 0 (s .args .r) 0 (s .args .gr)) (s .pre .1) (c .before .before .corner .ensures) (c .corner2 .ensures)
+    from-least (runs s) (third-from (s .args .g) (viewOf (now (s .args .table))) 0 (s .args .r) 0 (s .args .gr)) (s .pre .1) (c .before .before .corner .ensures) (c .corner2 .ensures)
 
 returns-2 : tie.Need-returns-2
 unfolding binCell
 returns-2 c =
     let s = c .before .before .before .before .before .before in
-    from-is (runs s) (third-from (s .args .g) (wide (now (s .args .table))) 0 (s .args .r) 0 (s .args .gr)) (s .pre .1) (c .before .before .before .corner .ensures) (c .before .corner2 .ensures) (c .minus .ensures)
+    from-is (runs s) (third-from (s .args .g) (viewOf (now (s .args .table))) 0 (s .args .r) 0 (s .args .gr)) (s .pre .1) (c .before .before .before .corner .ensures) (c .before .corner2 .ensures) (c .minus .ensures)
 
 pub run-spec : {M : Type 1} → statement M
 run-spec = tie.close (tie.spec corner-requires returns corner-requires-2 minus-requires returns-2)

@@ -5,7 +5,7 @@ use Prim.Native.Nat.{ℕ, _+_, _-_, _≤_}
 use native.Mathlib.Nat.{le-trans}
 use borrow.Author.Needs.{needs}
 use denote.Ref.{now}
-use Rattle.table.specs.Cell.{wide}
+use Rattle.table.specs.Table.{viewOf}
 use Rattle.sums.specs.Moments.{binCell}
 use Rattle.sums.specs.Box.{binSum}
 use Rattle.sums.proofs.Corners.{second-from, from-least, from-is, from-start}
@@ -14,10 +14,10 @@ use Rattle.sums.proofs.slab.Tie as tie
 
 -- number j of the bins from a start on
 abbrev rows : tie.Start → ℕ → ℕ → ℕ → ℕ
-rows s a n j = binSum (s .args .g) (wide (now (s .args .table))) 0 (s .args .r) a n (s .args .x .b0) (s .args .x .b1 - s .args .x .b0) j
+rows s a n j = binSum (s .args .g) (viewOf (now (s .args .table))) 0 (s .args .r) a n (s .args .x .b0) (s .args .x .b1 - s .args .x .b0) j
 
 split : (s : tie.Start) (a e j : ℕ) → a ≤ e → rows s 0 e j ≡ rows s 0 a j + rows s a (e - a) j
-split s a e j h = second-from (s .args .g) (wide (now (s .args .table))) 0 (s .args .r) a e (s .args .x .b0) (s .args .x .b1 - s .args .x .b0) j h
+split s a e j h = second-from (s .args .g) (viewOf (now (s .args .table))) 0 (s .args .r) a e (s .args .x .b0) (s .args .x .b1 - s .args .x .b0) j h
 
 cast-b0 : tie.Need-cast-b0
 cast-b0 c = search needs

@@ -3,7 +3,8 @@
 use mathlib.Core.Path.{refl}
 use native.Mathlib.Nat.{add-zero}
 use borrow.Author.Needs.{needs}
-use Rattle.table.specs.Cell.{cellOf, wide}
+use Rattle.table.specs.Cell.{cellOf}
+use Rattle.table.specs.Table.{viewOf}
 use Rattle.table.proofs.cell_at.Statement.{statement}
 use Rattle.table.proofs.cell_at.Tie as tie
 
@@ -53,7 +54,7 @@ shared-slice-read-t22 : tie.Need-shared-slice-read-t22
 shared-slice-read-t22 c = search needs
 
 returns : tie.Need-returns
-unfolding cellOf wide
+unfolding cellOf viewOf
 returns c = rw add-zero refl
 
 pub cell-at-spec : {M : Type 1} → statement M

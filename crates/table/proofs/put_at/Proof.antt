@@ -4,7 +4,7 @@ use mathlib.Core.Path.{refl}
 use native.Mathlib.Omega.{arith}
 use borrow.Author.Needs.{needs}
 use lib.ListN.{length-set}
-use Rattle.table.specs.Cell.{putAt}
+use Rattle.table.specs.Table.{putAt}
 use Rattle.table.proofs.put_at.Statement.{statement}
 use Rattle.table.proofs.put_at.Tie as tie
 

@@ -6,36 +6,37 @@ use native.Mathlib.Nat.{zero-mul, mul-assoc}
 use native.Mathlib.Omega.{arith}
 use borrow.Author.Needs.{needs}
 use denote.Ref.{now}
-use Rattle.grid.specs.declared.Grid.{Grid}
+use Rattle.grid.specs.declared.place.Grid.{Grid}
 use Rattle.grid.specs.Grid.{binsOf}
 use Rattle.grid.proofs.Places.{one, two, three, plane-start}
 use Rattle.grid.proofs.Size.{size-low, size-high}
 use Rattle.table.specs.declared.Weighed.the-variants.{Total, Unsound}
 use Rattle.table.specs.Scan.{scanned}
 use Rattle.table.specs.Sound.{limit, weighed}
-use Rattle.table.specs.Cell.{View, wide}
+use Rattle.table.specs.Cell.{View}
+use Rattle.table.specs.Table.{viewOf}
 use Rattle.table.proofs.Scans.{scan-none, scan-under, scan-all, block-more, block-stop}
 use Rattle.table.proofs.weigh.Statement.{statement}
 use Rattle.table.proofs.weigh.Tie as tie
 
 -- all bins are the planes' bins
-whole : (g : Grid) (v : View) → weighed limit g v ≡ scanned limit g v 0 (g .b1 * (g .b2 * g .b3)) 0
+whole : (g : Grid) (v : View) → weighed limit g v ≡ scanned limit g v 0 (g .size1 * (g .size2 * g .size3)) 0
 unfolding binsOf
-whole g v = scan-all limit g v ∙ ap (λ (n : ℕ). scanned limit g v 0 n 0) (mul-assoc (g .b1) (g .b2) (g .b3))
+whole g v = scan-all limit g v ∙ ap (λ (n : ℕ). scanned limit g v 0 n 0) (mul-assoc (g .size1) (g .size2) (g .size3))
 
 abbrev Inv-loop : tie.InvT-loop
 Inv-loop table g total₀ r₀ total r =
-    (r ≤ g .b1) × (scanned limit g (wide table) 0 (r * (g .b2 * g .b3)) 0 ≡ Total total)
+    (r ≤ g .size1) × (scanned limit g (viewOf table) 0 (r * (g .size2 * g .size3)) 0 ≡ Total total)
 
 abbrev μ-loop : tie.MeasureT-loop
-μ-loop table g total₀ r₀ total r = g .b1 - r
+μ-loop table g total₀ r₀ total r = g .size1 - r
 
 loop-holds : tie.Need-loop-holds Inv-loop μ-loop
 loop-holds c =
     let s = c .before in (
       omega arith,
-      ap (λ (n : ℕ). scanned limit (s .args .g) (wide (now (s .args .table))) 0 n 0) (zero-mul (s .args .g .b2 * s .args .g .b3))
-          ∙ scan-none limit (s .args .g) (wide (now (s .args .table))) 0 0 (omega arith),
+      ap (λ (n : ℕ). scanned limit (s .args .g) (viewOf (now (s .args .table))) 0 n 0) (zero-mul (s .args .g .size2 * s .args .g .size3))
+          ∙ scan-none limit (s .args .g) (viewOf (now (s .args .table))) 0 0 (omega arith),
     )
 
 weigh-plane-requires : tie.Need-weigh-plane-requires Inv-loop μ-loop
@@ -46,7 +47,7 @@ weigh-plane-requires c κs =
     record {
       table = s .pre;
       inside = record { accepted = a; one = c .if1 .taken; two = omega (arith, size-low (two a)); three = omega (arith, size-low (three a)) };
-      under = scan-under limit (s .args .g) (wide (now (s .args .table))) _ _ _ (l .total) (l .inv .1);
+      under = scan-under limit (s .args .g) (viewOf (now (s .args .table))) _ _ _ (l .total) (l .inv .1);
     }
 
 enum-known-x : tie.Need-enum-known-x Inv-loop μ-loop
@@ -60,11 +61,11 @@ returns c =
     let s = c .before .before .before .before .before .before .before in
     let l = c .before .before .before .before .before .loop in
     let g = s .args .g in
-    let v = wide (now (s .args .table)) in
+    let v = viewOf (now (s .args .table)) in
     sym
     (whole g v
-    ∙ block-stop limit g v 0 (g .b2 * g .b3) (l .r) (g .b1) 0 (c .before .before .before .if1 .taken)
-    (block-more limit g v 0 (g .b2 * g .b3) (l .r) 0 (l .total) Unsound (l .inv .1) (plane-start g (l .r))
+    ∙ block-stop limit g v 0 (g .size2 * g .size3) (l .r) (g .size1) 0 (c .before .before .before .if1 .taken)
+    (block-more limit g v 0 (g .size2 * g .size3) (l .r) 0 (l .total) Unsound (l .inv .1) (plane-start g (l .r))
     (sym (c .enum-told .given .1) ∙ c .before .before .weigh-plane .ensures)))
 
 add-r : tie.Need-add-r Inv-loop μ-loop
@@ -80,10 +81,10 @@ loop-again c =
     let s = c .before .before .before .before .before .before .before .before in
     let l = c .before .before .before .before .before .before .loop in
     let g = s .args .g in
-    let v = wide (now (s .args .table)) in
+    let v = viewOf (now (s .args .table)) in
     let good : c .before .before .before .weigh-plane .result ≡ Total (c .before .x .given .0 .0) = c .before .x .given .1 in (
       omega (arith, c .before .before .before .before .if1 .taken),
-      block-more limit g v 0 (g .b2 * g .b3) (l .r) 0 (l .total) (Total (c .before .x .given .0 .0)) (l .inv .1) (plane-start g (l .r))
+      block-more limit g v 0 (g .size2 * g .size3) (l .r) 0 (l .total) (Total (c .before .x .given .0 .0)) (l .inv .1) (plane-start g (l .r))
           (sym good ∙ c .before .before .before .weigh-plane .ensures),
     )
 
@@ -92,9 +93,9 @@ returns-2 c =
     let s = c .before .before .before .before in
     let l = c .before .before .loop in
     let g = s .args .g in
-    let v = wide (now (s .args .table)) in
-    let all : l .r ≡ g .b1 = omega arith in
-    sym (whole g v ∙ ap (λ (n : ℕ). scanned limit g v 0 (n * (g .b2 * g .b3)) 0) (sym all) ∙ l .inv .1)
+    let v = viewOf (now (s .args .table)) in
+    let all : l .r ≡ g .size1 = omega arith in
+    sym (whole g v ∙ ap (λ (n : ℕ). scanned limit g v 0 (n * (g .size2 * g .size3)) 0) (sym all) ∙ l .inv .1)
 
 pub weigh-spec : {M : Type 1} → statement M
 weigh-spec =

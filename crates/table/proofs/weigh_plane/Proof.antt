@@ -12,24 +12,24 @@ use Rattle.grid.proofs.Size.{size-high}
 use Rattle.table.specs.declared.Weighed.the-variants.{Total, Unsound}
 use Rattle.table.specs.Scan.{scanned}
 use Rattle.table.specs.Sound.{limit}
-use Rattle.table.specs.Cell.{wide}
+use Rattle.table.specs.Table.{viewOf}
 use Rattle.table.proofs.Scans.{scan-none, scan-under, block-more, block-stop}
 use Rattle.table.proofs.weigh_plane.Statement.{statement}
 use Rattle.table.proofs.weigh_plane.Tie as tie
 
 abbrev Inv-loop : tie.InvT-loop
 Inv-loop table g r had total₀ gr₀ total gr =
-    (gr ≤ g .b2) × (scanned limit g (wide table) (placeOf g r 0 0) (gr * g .b3) had ≡ Total total)
+    (gr ≤ g .size2) × (scanned limit g (viewOf table) (placeOf g r 0 0) (gr * g .size3) had ≡ Total total)
 
 abbrev μ-loop : tie.MeasureT-loop
-μ-loop table g r had total₀ gr₀ total gr = g .b2 - gr
+μ-loop table g r had total₀ gr₀ total gr = g .size2 - gr
 
 loop-holds : tie.Need-loop-holds Inv-loop μ-loop
 loop-holds c =
     let s = c .before in (
       omega arith,
-      ap (λ (n : ℕ). scanned limit (s .args .g) (wide (now (s .args .table))) (placeOf (s .args .g) (s .args .r) 0 0) n (s .args .had)) (zero-mul (s .args .g .b3))
-          ∙ scan-none limit (s .args .g) (wide (now (s .args .table))) _ (s .args .had) (s .pre .under),
+      ap (λ (n : ℕ). scanned limit (s .args .g) (viewOf (now (s .args .table))) (placeOf (s .args .g) (s .args .r) 0 0) n (s .args .had)) (zero-mul (s .args .g .size3))
+          ∙ scan-none limit (s .args .g) (viewOf (now (s .args .table))) _ (s .args .had) (s .pre .under),
     )
 
 weigh-row-requires : tie.Need-weigh-row-requires Inv-loop μ-loop
@@ -39,7 +39,7 @@ weigh-row-requires c κs =
     record {
       table = s .pre .table;
       inside = record { accepted = s .pre .table .accepted; one = s .pre .inside .one; two = c .if1 .taken; three = s .pre .inside .three };
-      under = scan-under limit (s .args .g) (wide (now (s .args .table))) _ _ _ (l .total) (l .inv .1);
+      under = scan-under limit (s .args .g) (viewOf (now (s .args .table))) _ _ _ (l .total) (l .inv .1);
     }
 
 enum-known-x : tie.Need-enum-known-x Inv-loop μ-loop
@@ -53,10 +53,10 @@ returns c =
     let s = c .before .before .before .before .before .before .before in
     let l = c .before .before .before .before .before .loop in
     let g = s .args .g in
-    let v = wide (now (s .args .table)) in
+    let v = viewOf (now (s .args .table)) in
     sym
-    (block-stop limit g v (placeOf g (s .args .r) 0 0) (g .b3) (l .gr) (g .b2) (s .args .had) (c .before .before .before .if1 .taken)
-    (block-more limit g v (placeOf g (s .args .r) 0 0) (g .b3) (l .gr) (s .args .had) (l .total) Unsound (l .inv .1) (row-start g (s .args .r) (l .gr))
+    (block-stop limit g v (placeOf g (s .args .r) 0 0) (g .size3) (l .gr) (g .size2) (s .args .had) (c .before .before .before .if1 .taken)
+    (block-more limit g v (placeOf g (s .args .r) 0 0) (g .size3) (l .gr) (s .args .had) (l .total) Unsound (l .inv .1) (row-start g (s .args .r) (l .gr))
     (sym (c .enum-told .given .1) ∙ c .before .before .weigh-row .ensures)))
 
 add-gr : tie.Need-add-gr Inv-loop μ-loop
@@ -72,10 +72,10 @@ loop-again c =
     let s = c .before .before .before .before .before .before .before .before in
     let l = c .before .before .before .before .before .before .loop in
     let g = s .args .g in
-    let v = wide (now (s .args .table)) in
+    let v = viewOf (now (s .args .table)) in
     let good : c .before .before .before .weigh-row .result ≡ Total (c .before .x .given .0 .0) = c .before .x .given .1 in (
       omega (arith, c .before .before .before .before .if1 .taken),
-      block-more limit g v (placeOf g (s .args .r) 0 0) (g .b3) (l .gr) (s .args .had) (l .total) (Total (c .before .x .given .0 .0)) (l .inv .1) (row-start g (s .args .r) (l .gr))
+      block-more limit g v (placeOf g (s .args .r) 0 0) (g .size3) (l .gr) (s .args .had) (l .total) (Total (c .before .x .given .0 .0)) (l .inv .1) (row-start g (s .args .r) (l .gr))
           (sym good ∙ c .before .before .before .weigh-row .ensures),
     )
 
@@ -83,8 +83,8 @@ returns-2 : tie.Need-returns-2 Inv-loop μ-loop
 returns-2 c =
     let s = c .before .before .before .before in
     let l = c .before .before .loop in
-    let all : l .gr ≡ s .args .g .b2 = omega arith in
-    sym (l .inv .1) ∙ ap (λ (n : ℕ). scanned limit (s .args .g) (wide (now (s .args .table))) (placeOf (s .args .g) (s .args .r) 0 0) (n * s .args .g .b3) (s .args .had)) all
+    let all : l .gr ≡ s .args .g .size2 = omega arith in
+    sym (l .inv .1) ∙ ap (λ (n : ℕ). scanned limit (s .args .g) (viewOf (now (s .args .table))) (placeOf (s .args .g) (s .args .r) 0 0) (n * s .args .g .size3) (s .args .had)) all
 
 pub weigh-plane-spec : {M : Type 1} → statement M
 weigh-plane-spec =

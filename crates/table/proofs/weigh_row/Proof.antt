@@ -8,29 +8,30 @@ use native.Mathlib.Omega.{arith}
 use borrow.Author.Tests.{leb-true, not-true, not-false}
 use denote.Ref.{now}
 use lib.Dec.{leb}
-use Rattle.grid.specs.declared.Grid.{Grid}
-use Rattle.grid.specs.Range.{sumFrom, allFrom}
+use Rattle.grid.specs.declared.place.Grid.{Grid}
+use Rattle.basics.specs.Range.{sumFrom, allFrom}
 use Rattle.grid.proofs.Size.{size-high}
-use Rattle.grid.proofs.Range.{sum-last, all-last, and-left, and-right}
+use Rattle.basics.proofs.Range.{sum-last, all-last, and-left, and-right}
 use Rattle.grid.proofs.Places.{bins-high, three}
 use Rattle.table.specs.declared.Weighed.the-variants.{Total}
 use Rattle.table.specs.declared.Cell.{Cell}
 use Rattle.table.specs.Scan.{scanned}
 use Rattle.table.specs.Sound.{limit, binSound}
-use Rattle.table.specs.Cell.{wide, cellOf, View}
+use Rattle.table.specs.Table.{viewOf}
+use Rattle.table.specs.Cell.{cellOf, View}
 use Rattle.table.proofs.Scans.{row-place, row-cell, row-one, row-two, row-three, row-bin, byte-span, scan-bad, scan-over, scan-total}
 use Rattle.table.proofs.weigh_row.Statement.{statement}
 use Rattle.table.proofs.weigh_row.Tie as tie
 
 abbrev Inv-loop : tie.InvT-loop
 Inv-loop table g r gr had s1 s2 start total₀ b₀ total b =
-    (b ≤ g .b3)
-    × (total ≡ had + sumFrom start b (λ q. wide table q 0))
-    × (allFrom start b (binSound g (wide table)) ≡ true)
+    (b ≤ g .size3)
+    × (total ≡ had + sumFrom start b (λ q. viewOf table q 0))
+    × (allFrom start b (binSound g (viewOf table)) ≡ true)
     × (total ≤ limit + b * limit)
 
 abbrev μ-loop : tie.MeasureT-loop
-μ-loop table g r gr had s1 s2 start total₀ b₀ total b = g .b3 - b
+μ-loop table g r gr had s1 s2 start total₀ b₀ total b = g .size3 - b
 
 span-of-requires : tie.Need-span-of-requires Inv-loop μ-loop
 span-of-requires c κs = row-one (c .before .pre)
@@ -69,7 +70,7 @@ abbrev grid : tie.After-keeps-bounds Inv-loop μ-loop → Grid
 grid k = k .before .before .before .before .before .before .before .before .before .before .args .g
 
 abbrev view : tie.After-keeps-bounds Inv-loop μ-loop → View
-view k = wide (now (k .before .before .before .before .before .before .before .before .before .before .args .table))
+view k = viewOf (now (k .before .before .before .before .before .before .before .before .before .before .args .table))
 
 abbrev here : tie.After-keeps-bounds Inv-loop μ-loop → ℕ
 here k = k .before .before .before .before .before .before .place .result + k .before .before .before .before .before .loop .b
@@ -104,7 +105,7 @@ returns c =
     let k = c .before in
     rw (← k .before .before .before .before .before .before .place .ensures)
     (sym
-    (scan-bad limit (grid k) (view k) (k .before .before .before .before .before .before .place .result) (grid k .b3) (k .before .before .before .before .before .before .before .before .before .before .args .had)
+    (scan-bad limit (grid k) (view k) (k .before .before .before .before .before .before .place .result) (grid k .size3) (k .before .before .before .before .before .before .before .before .before .before .args .had)
     (here k) (omega arith) (omega (arith, k .before .before .before .if1 .taken))
     (tested k ∙ not-true _ (c .if2 .taken))))
 
@@ -136,9 +137,9 @@ returns-2 : tie.Need-returns-2 Inv-loop μ-loop
 returns-2 c =
     let s = c .before .before .before .before .before .before .before .before in
     let l = c .before .before .before .loop in
-    let v = wide (now (s .args .table)) in
+    let v = viewOf (now (s .args .table)) in
     let from = c .before .before .before .before .place .result in
-    let all : l .b ≡ s .args .g .b3 = omega arith in
+    let all : l .b ≡ s .args .g .size3 = omega arith in
     rw (← c .before .before .before .before .place .ensures)
     (sym (scan-over limit (s .args .g) v from (l .b) (s .args .had) (omega (arith, l .inv .1)))
     ∙ ap (λ (n : ℕ). scanned limit (s .args .g) v from n (s .args .had)) all)
@@ -147,9 +148,9 @@ returns-3 : tie.Need-returns-3 Inv-loop μ-loop
 returns-3 c =
     let s = c .before .before .before .before .before .before .before .before in
     let l = c .before .before .before .loop in
-    let v = wide (now (s .args .table)) in
+    let v = viewOf (now (s .args .table)) in
     let from = c .before .before .before .before .place .result in
-    let all : l .b ≡ s .args .g .b3 = omega arith in
+    let all : l .b ≡ s .args .g .size3 = omega arith in
     rw (← c .before .before .before .before .place .ensures)
     (ap Total (l .inv .1)
     ∙ sym (scan-total limit (s .args .g) v from (l .b) (s .args .had) (l .inv .2) (omega (arith, l .inv .1)))
