@@ -1,4 +1,5 @@
 // The call cut: boxes, palette, counts and map; and the filled front of a palette.
+use boxes::sides::Bounds;
 use grid::place::Chosen;
 use grid::place::Grid;
 use grid::place::bins;
@@ -7,7 +8,6 @@ use grid::place::place;
 use rounds::BoxSpread;
 use rounds::Boxes;
 use rounds::cut_boxes;
-use boxes::sides::Bounds;
 use sums::Stats;
 use sums::box_sum;
 use sums::moments;
@@ -20,7 +20,7 @@ ghost use Rattle.grid.specs.Grid.{Accepted, binsOf};
 ghost use Rattle.table.specs.Table.{viewOf};
 ghost use Rattle.table.specs.Sound.{limit};
 ghost use Rattle.boxes.specs.Box.{Within};
-ghost use Rattle.sums.specs.Moments.{Worked};
+ghost use Rattle.sums.specs.Moments.{CanSum};
 ghost use Rattle.cutter.specs.Palette.{meanOf, colourOf, countOf, paletteLater, countsLater, frontOf, statsColour, withColourAt, Coloured, Occupied};
 ghost use Rattle.boxes.specs.Holds.{lies, holds, slice};
 ghost use Rattle.cutter.specs.Map.{fillWhere, fillOf, fillFrom, Plane};
@@ -66,7 +66,7 @@ fn put_result(
     palette: &mut [u8],
     counts: &mut [u32],
 )
-    requires { ⌜ Worked g (now table) (now work) × Occupied g (viewOf (now table)) x ⌝ }
+    requires { ⌜ CanSum limit g (now table) (now work) × Occupied g (viewOf (now table)) x ⌝ }
     requires { ⌜ (3 * i + 2 < length (now palette)) × (i < length (now counts)) ⌝ }
     ensures { λ r. ⌜ now (palette .exit) ≡ withColourAt (now (palette .entry)) i (colourOf g (viewOf (now (table .entry))) x) ⌝ }
     ensures { λ r. ⌜ now (counts .exit) ≡ set (now (counts .entry)) i (countOf g (viewOf (now (table .entry))) x) ⌝ }
@@ -155,7 +155,7 @@ fn put_results(
     palette: &mut [u8],
     counts: &mut [u32],
 )
-    requires { ⌜ Worked g (now table) (now work) × Found g (viewOf (now table)) b ⌝ }
+    requires { ⌜ CanSum limit g (now table) (now work) × Found g (viewOf (now table)) b ⌝ }
     requires { ⌜ (3 * b .found ≤ length (now palette)) × (b .found ≤ length (now counts)) ⌝ }
     ensures { λ r. ⌜ now (palette .exit) ≡ paletteLater g (viewOf (now (table .entry))) (listOf (b .found) (b .places)) (now (palette .entry)) ⌝ }
     ensures { λ r. ⌜ now (counts .exit) ≡ countsLater g (viewOf (now (table .entry))) (listOf (b .found) (b .places)) (now (counts .entry)) ⌝ }

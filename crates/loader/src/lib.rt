@@ -1,12 +1,12 @@
 // The calls that fill a table: loading and merging.
 use grid::place::Chosen;
 use grid::place::Grid;
-use pixels::colour::Rgb;
 use grid::place::bins;
-use pixels::colour::colour;
-use pixels::equal::equal_colours;
 use grid::place::grid_of;
 use grid::steps::steps;
+use pixels::colour::Rgb;
+use pixels::colour::colour;
+use pixels::equal::equal_colours;
 use table::Cell;
 use table::LIMIT;
 use table::Weighed;

@@ -1,13 +1,13 @@
 // Mapping and painting a band of a frame.
+use grid::dimension::bin_of;
 use grid::place::Chosen;
 use grid::place::Grid;
-use pixels::colour::Rgb;
-use grid::dimension::bin_of;
 use grid::place::bins;
-use pixels::colour::colour;
-use pixels::equal::equal_colours;
 use grid::place::grid_of;
 use grid::steps::steps;
+use pixels::colour::Rgb;
+use pixels::colour::colour;
+use pixels::equal::equal_colours;
 ghost use mathlib.Core.Path.{_≡_};
 ghost use Prim.Native.Nat.{ℕ, _+_, _*_, _/_, _%_, _≤_, _<_};
 ghost use lib.Dec.{ltb};

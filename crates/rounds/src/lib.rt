@@ -1,26 +1,28 @@
 // The loop of a cut: the top of the heap is taken out and cut in two, until there are k boxes.
+use boxes::bytes::packed;
+use boxes::bytes::unpacked;
+use boxes::sides::Bounds;
+use boxes::sides::high_side;
+use boxes::sides::low_side;
+use boxes::sides::whole;
 use grid::place::Grid;
 use heap::put_in;
 use heap::take_out;
 use spread::Position;
 use spread::best_cut;
-use boxes::sides::high_side;
-use boxes::sides::low_side;
 use spread::spread;
-use boxes::sides::Bounds;
 use sums::box_sum;
 ghost use mathlib.Core.Path.{_≡_};
 ghost use Prim.Native.Nat.{_+_, _-_, _<_, _≤_};
-ghost use Rattle.grid.specs.Grid.{Accepted};
 ghost use Rattle.table.specs.Table.{viewOf};
+ghost use Rattle.table.specs.Sound.{limit};
 ghost use Rattle.boxes.specs.Box.{Within};
-ghost use Rattle.sums.specs.Moments.{Worked};
+ghost use Rattle.sums.specs.Moments.{CanSum};
 ghost use Rattle.spread.specs.Cut.{bestCut};
 ghost use Rattle.heap.specs.Heap.{item, putIn, takeOut};
 ghost use Rattle.heap.specs.Lent.{Lent};
-ghost use Rattle.boxes.specs.Bytes.{packOf, boxOf, Bytes};
+ghost use Rattle.boxes.specs.Bytes.{Bytes};
 ghost use Rattle.rounds.specs.Loop.{noItem, itself, startRoom, roomAfter, usedAfter, goesOn, roundRoom, roundUsed, heapOf, boxSpread, placesOf, boxesOf, roomIn};
-ghost use Rattle.boxes.specs.Box.{wholeOf};
 
 // A box with its spread (`CubeVar`).
 pub struct BoxSpread {
@@ -60,7 +62,7 @@ fn put_itself(
     len: usize,
     x: Bounds,
 )
-    requires { ⌜ Worked g (now table) (now work) × Within g x ⌝ }
+    requires { ⌜ CanSum limit g (now table) (now work) × Within g x ⌝ }
     requires { ⌜ Lent (now spreads) (now boxes) × (len < 256) ⌝ }
     ensures { λ r. ⌜ roomIn (now (spreads .exit)) (now (boxes .exit)) ≡ putIn noItem (roomIn (now (spreads .entry)) (now (boxes .entry))) len (itself g (viewOf (now (table .entry))) x) ⌝ }
     ensures { λ r. ⌜ Lent (now (spreads .exit)) (now (boxes .exit)) ⌝ }
@@ -90,7 +92,7 @@ fn cut_top(
     left: usize,
     x: Bounds,
 ) -> usize
-    requires { ⌜ Worked g (now table) (now work) × Within g x ⌝ }
+    requires { ⌜ CanSum limit g (now table) (now work) × Within g x ⌝ }
     requires { ⌜ Lent (now spreads) (now boxes) × (left + 1 < 256) ⌝ }
     ensures { λ r. ⌜ r ≡ usedAfter left (bestCut g (viewOf (now (table .entry))) x) ⌝ }
     ensures { λ r. ⌜ roomIn (now (spreads .exit)) (now (boxes .exit)) ≡ roomAfter g (viewOf (now (table .entry))) (roomIn (now (spreads .entry)) (now (boxes .entry))) left x (bestCut g (viewOf (now (table .entry))) x) ⌝ }
@@ -131,7 +133,7 @@ fn round(
     boxes: &mut [u64; 256],
     len: usize,
 ) -> usize
-    requires { ⌜ Worked g (now table) (now work) ⌝ }
+    requires { ⌜ CanSum limit g (now table) (now work) ⌝ }
     requires { ⌜ Lent (now spreads) (now boxes) × (0 < len) × (len < 256) × Within g (item noItem (roomIn (now spreads) (now boxes)) 0 .box) ⌝ }
     ensures { λ r. ⌜ r ≡ roundUsed g (viewOf (now (table .entry))) (roomIn (now (spreads .entry)) (now (boxes .entry))) len ⌝ }
     ensures { λ r. ⌜ roomIn (now (spreads .exit)) (now (boxes .exit)) ≡ roundRoom g (viewOf (now (table .entry))) (roomIn (now (spreads .entry)) (now (boxes .entry))) len ⌝ }
@@ -157,7 +159,7 @@ fn run(
     spreads: &mut [f64; 256],
     boxes: &mut [u64; 256],
 ) -> usize
-    requires { ⌜ Worked g (now table) (now work) × (k ≤ 256) ⌝ }
+    requires { ⌜ CanSum limit g (now table) (now work) × (k ≤ 256) ⌝ }
     requires { ⌜ Lent (now spreads) (now boxes) × (roomIn (now spreads) (now boxes) ≡ startRoom g) ⌝ }
     ensures { λ r. ⌜ r ≡ heapOf g (viewOf (now (table .entry))) k .used ⌝ }
     ensures { λ r. ⌜ roomIn (now (spreads .exit)) (now (boxes .exit)) ≡ heapOf g (viewOf (now (table .entry))) k .room ⌝ }
@@ -207,7 +209,7 @@ fn gathered(spreads: &[f64; 256], boxes: &[u64; 256], len: usize) -> [BoxSpread;
 
 // The boxes that a table is cut into, at most k, or one where k is 0 (`cubes_heap`).
 pub fn cut_boxes(table: &[u64], work: &[u64], g: Grid, k: usize) -> Boxes
-    requires { ⌜ Worked g (now table) (now work) × (k ≤ 256) ⌝ }
+    requires { ⌜ CanSum limit g (now table) (now work) × (k ≤ 256) ⌝ }
     ensures { λ r. ⌜ r ≡ boxesOf g (viewOf (now (table .entry))) k ⌝ }
 {
     let mut spreads = [0.0; 256];

@@ -2,8 +2,8 @@
 use mathlib.Core.Path.{_≡_}
 use mathlib.Core.Bool.{Bool, true, false, cond}
 use mathlib.Core.Logic.{_↔_}
-use Prim.Native.Nat.{ℕ, _+_, _-_, _*_, _≤_, _<_}
-use lib.Dec.{T, eqb}
+use Prim.Native.Nat.{ℕ, _+_, _*_, _≤_, _<_}
+use lib.Dec.{T}
 use lib.IntN.{pos}
 use lib.Ieee.{Float, fin, binary64, add, sub, mul, div, neg, ofInt, lt, eq}
 use Rattle.grid.specs.declared.place.Grid.{Grid}
@@ -13,7 +13,7 @@ use Rattle.table.specs.Sound.{limit}
 use Rattle.boxes.specs.declared.sides.Bounds.{Bounds}
 use Rattle.sums.specs.declared.Stats.{Stats}
 use Rattle.sums.specs.Box.{statsOf}
-use Rattle.boxes.specs.Box.{Within}
+use Rattle.boxes.specs.Box.{Within, oneBin}
 use Rattle.boxes.specs.Holds.{holds}
 
 -- "each whole number first turned into f64"

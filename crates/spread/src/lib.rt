@@ -1,7 +1,10 @@
 // Spread and score of boxes in f64, and the best position to cut a box.
+use boxes::sides::Bounds;
+use boxes::sides::end_bin;
+use boxes::sides::first_bin;
+use boxes::sides::is_one_bin;
 use grid::place::Grid;
 use grid::place::place;
-use boxes::sides::Bounds;
 use sums::Stats;
 use sums::ZEROS;
 use sums::box_sum;
@@ -14,10 +17,9 @@ ghost use Rattle.grid.specs.Grid.{sizeAt, strideAt, Accepted};
 ghost use Rattle.table.specs.Table.{viewOf};
 ghost use Rattle.table.specs.Sound.{limit, sound};
 ghost use Rattle.sums.specs.Box.{statsFrom, statsOf};
-ghost use Rattle.boxes.specs.Box.{minAt, maxAt, lowSide, highSide, slabTo, Within};
-ghost use Rattle.sums.specs.Moments.{Worked};
+ghost use Rattle.boxes.specs.Box.{minAt, maxAt, slabTo, Within, Ordered};
+ghost use Rattle.sums.specs.Moments.{CanSum};
 ghost use Rattle.spread.specs.Spread.{whole, quotientOf, spreadOf, scoreOf, Plain};
-ghost use Rattle.boxes.specs.Box.{oneBin, Ordered};
 ghost use Rattle.spread.specs.Cut.{positionOf, positionAt, laterWins, better as betterOf, bestIn, bestCut};
 ghost use Rattle.spread.specs.Walk.{outerOf, innerOf, startOf, walkOf, minusStats, Covers, HasRecord};
 
@@ -239,7 +241,7 @@ fn sums_before(
     walk: Walk,
     bin: u8,
 ) -> Stats
-    requires { ⌜ Worked g (now table) (now work) × Within g x × (bin ≤ maxAt x dimension) ⌝ }
+    requires { ⌜ CanSum limit g (now table) (now work) × Within g x × (bin ≤ maxAt x dimension) ⌝ }
     requires { ⌜ walk ≡ walkOf g x dimension ⌝ }
     ensures { λ r. ⌜ r ≡ statsOf g (viewOf (now (table .entry))) (slabTo x dimension bin) ⌝ }
 {
@@ -288,7 +290,7 @@ fn position_at(
 
 // The best position of a box in one dimension. The first bin gives what lies before the box, each other bin a position.
 fn best_in(table: &[u64], work: &[u64], g: Grid, x: Bounds, dimension: u8, all: Stats) -> Position
-    requires { ⌜ Worked g (now table) (now work) × Within g x ⌝ }
+    requires { ⌜ CanSum limit g (now table) (now work) × Within g x ⌝ }
     requires { ⌜ all ≡ statsOf g (viewOf (now table)) x ⌝ }
     ensures { λ r. ⌜ r ≡ bestIn g (viewOf (now (table .entry))) x dimension ⌝ }
 {
@@ -318,7 +320,7 @@ fn best_in(table: &[u64], work: &[u64], g: Grid, x: Bounds, dimension: u8, all: 
 
 // The best position of a box, or that it has none (`cut`).
 pub fn best_cut(table: &[u64], work: &[u64], g: Grid, x: Bounds) -> Position
-    requires { ⌜ Worked g (now table) (now work) × Within g x ⌝ }
+    requires { ⌜ CanSum limit g (now table) (now work) × Within g x ⌝ }
     ensures { λ r. ⌜ r ≡ bestCut g (viewOf (now (table .entry))) x ⌝ }
 {
     let all = box_sum(table, work, g, x);

@@ -23,6 +23,7 @@ use Rattle.sums.specs.declared.Stats.{Stats}
 use Rattle.boxes.specs.Box.{minAt, maxAt, Within}
 use Rattle.sums.specs.Box.{sum3, binSum, boxSum, statsFrom}
 use Rattle.sums.specs.Moments.{belowSum, momentsOf, binCell, Corner}
+use Rattle.boxes.proofs.Within.{Sides, sides}
 use Rattle.sums.proofs.Boxes.{sum3-first, sum3-second, sum3-third}
 use Rattle.sums.proofs.Below.{moments-at, below-small}
 

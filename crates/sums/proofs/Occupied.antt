@@ -16,11 +16,12 @@ use Rattle.table.specs.Cell.{View}
 use Rattle.boxes.specs.declared.sides.Bounds.{Bounds}
 use Rattle.sums.specs.Box.{sum3, binSum, boxSum, marks, occupiedIn}
 use Rattle.boxes.specs.Box.{Within}
+use Rattle.boxes.specs.Holds.{holds}
 use Rattle.boxes.proofs.Within.{InBox}
 use Rattle.sums.proofs.Boxes.{sum3-same, sum3-plus}
 use Rattle.sums.proofs.Laws.{bins-empty}
 use Rattle.boxes.proofs.Within.{bin-inside}
-use Rattle.sums.proofs.Loaded.{among, hit-box}
+use Rattle.sums.proofs.Hits.{hit-box}
 
 -- 1 for an occupied bin
 pub marks-none : (v : View) (p j : ℕ) → v p 0 ≡ 0 → marks v p j ≡ 0
@@ -135,7 +136,7 @@ module _ {g : Grid} {v : View} {x : Bounds} (w : Within g x) where
         arith,
         parts,
         hit-box w (bin-inside w (o .in-box)) 1 0,
-        at-most-one (among (x .r0) (x .r1 - x .r0) (o .one) && (among (x .g0) (x .g1 - x .g0) (o .two) && among (x .b0) (x .b1 - x .b0) (o .three))),
+        at-most-one (holds x (o .one) (o .two) (o .three)),
       )
 
   -- where two bins are occupied, there are two

@@ -9,7 +9,7 @@ use Rattle.basics.specs.Range.{sumFrom}
 use Rattle.grid.specs.Grid.{binsOf, placeOf, binAt, Inside}
 use Rattle.table.specs.declared.Cell.{Cell}
 use Rattle.table.specs.Cell.{View, cellOf}
-use Rattle.table.specs.Table.{viewOf, written, TableOf}
+use Rattle.table.specs.Table.{Table, viewOf, written, TableOf}
 use Rattle.table.specs.Sound.{limit, sound}
 use Rattle.sums.specs.Box.{binSum}
 
@@ -21,10 +21,10 @@ belowSum g v r gr b j = binSum g v 0 r 0 gr 0 b j
 unfoldable pub momentsOf : Grid → View → View
 momentsOf g v p j = belowSum g v (binAt g 0 p + 1) (binAt g 1 p + 1) (binAt g 2 p + 1) j
 
--- a sound table, and the work table with its moments
-pub record Worked (g : Grid) (t w : List ℕ) : Type 0 where
+-- what the sum of a box asks for: a sound table, and the work table with its moments
+pub record CanSum (most : ℕ) (g : Grid) (t w : Table) : Type 0 where
   pub table : TableOf g t
-  pub is-sound : sound limit g (viewOf t) ≡ true
+  pub is-sound : sound most g (viewOf t) ≡ true
   pub moments : w ≡ written (binsOf g) (momentsOf g (viewOf t))
 
 -- a sound table, and a work table for its moments
@@ -60,7 +60,7 @@ pub record Ready (g : Grid) (t w : List ℕ) (r gr b : ℕ) : Type 0 where
 -- ---- "its sum is found by inclusion and exclusion; an index below 0 counts as all zeros"
 -- a work table with the moments of a table, and the end of some bins of the grid
 pub record Corner (g : Grid) (t w : List ℕ) (r gr b : ℕ) : Type 0 where
-  pub worked : Worked g t w
+  pub worked : CanSum limit g t w
   pub one : r ≤ g .size1
   pub two : gr ≤ g .size2
   pub three : b ≤ g .size3

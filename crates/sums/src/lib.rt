@@ -1,4 +1,5 @@
 // Moments of a table, and the sums of boxes from them.
+use boxes::sides::Bounds;
 use grid::place::Grid;
 use grid::place::place;
 use table::Cell;
@@ -11,9 +12,10 @@ ghost use Prim.Native.Nat.{_+_, _-_, _*_, _^_, _≤_};
 ghost use Rattle.grid.specs.Grid.{binsOf, placeOf};
 ghost use Rattle.table.specs.Cell.{numberOf};
 ghost use Rattle.table.specs.Table.{viewOf, written, putAt};
+ghost use Rattle.table.specs.Sound.{limit};
 ghost use Rattle.sums.specs.Box.{boxCell, statsFrom, statsOf};
 ghost use Rattle.boxes.specs.Box.{Within};
-ghost use Rattle.sums.specs.Moments.{momentsOf, momentCell, lineCell, binCell, Lent, Worked, Before, Ready, Corner};
+ghost use Rattle.sums.specs.Moments.{momentsOf, momentCell, lineCell, binCell, Lent, CanSum, Before, Ready, Corner};
 
 // The statistics of a box (`Stats`).
 pub struct Stats {
@@ -166,7 +168,7 @@ fn slab(table: &[u64], work: &[u64], g: Grid, r: usize, x: Bounds) -> Cell
 
 // The five sums of a box, from the moments of its table (`volume`).
 fn box_cell(table: &[u64], work: &[u64], g: Grid, x: Bounds) -> Cell
-    requires { ⌜ Worked g (now table) (now work) × Within g x ⌝ }
+    requires { ⌜ CanSum limit g (now table) (now work) × Within g x ⌝ }
     ensures { λ c. ⌜ c ≡ boxCell g (viewOf (now (table .entry))) x ⌝ }
 {
     let upper = slab(table, work, g, x.r1 as usize, x);
@@ -192,7 +194,7 @@ pub fn stats_of(c: Cell) -> Stats
 
 // The statistics of a box, from the moments of its table.
 pub fn box_sum(table: &[u64], work: &[u64], g: Grid, x: Bounds) -> Stats
-    requires { ⌜ Worked g (now table) (now work) × Within g x ⌝ }
+    requires { ⌜ CanSum limit g (now table) (now work) × Within g x ⌝ }
     ensures { λ r. ⌜ r ≡ statsOf g (viewOf (now (table .entry))) x ⌝ }
 {
     stats_of(box_cell(table, work, g, x))

@@ -1,8 +1,8 @@
 // Tables: five numbers per bin, and soundness.
-use grid::place::Grid;
 use grid::dimension::Span;
-use grid::place::place;
 use grid::dimension::span_of;
+use grid::place::Grid;
+use grid::place::place;
 ghost use mathlib.Core.Path.{_≡_};
 ghost use mathlib.Core.Bool.{_&&_};
 ghost use Prim.Native.Nat.{_*_, _≤_};

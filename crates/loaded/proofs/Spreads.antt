@@ -7,7 +7,7 @@ use mathlib.Core.List.{List, [], _∷_, List·Memᴰ, List·Memᴰ·head, List·
 use Prim.Native.Nat.{ℕ, _+_, _-_, _*_, _≤_, _<_}
 use native.Mathlib.Nat.{le-trans, zero-add, zero-mul, mul-one, pos-of-ne-zero}
 use native.Mathlib.Omega.{arith}
-use borrow.Author.Tests.{eqb-true, ltb-true, ltb-false, le-leb, lt-ltb}
+use borrow.Author.Tests.{eqb-true, ltb-true, ltb-false, lt-ltb}
 use lib.Dec.{eqb, ltb, lit<, lit≤}
 use Rattle.grid.specs.declared.place.Grid.{Grid}
 use Rattle.grid.specs.Size.{binOf}
@@ -27,15 +27,16 @@ use Rattle.table.proofs.Soundness.{zeros-total, zeros-sound}
 use Rattle.boxes.specs.declared.sides.Bounds.{Bounds}
 use Rattle.sums.specs.Box.{boxSum}
 use Rattle.boxes.specs.Box.{Within}
-use Rattle.boxes.proofs.Within.{InBox}
+use Rattle.boxes.specs.Holds.{holds}
+use Rattle.boxes.proofs.Within.{InBox, bin-inside}
+use Rattle.boxes.proofs.Held.{holds-in, in-holds}
 use Rattle.sums.proofs.Laws.{bins-empty}
-use Rattle.boxes.proofs.Within.{bin-inside}
-use Rattle.sums.proofs.Loaded.{among, lies, loaded-box, occupied-colour}
+use Rattle.loaded.proofs.Boxes.{holdsColour, loaded-box, occupied-colour}
 use Rattle.sums.proofs.Same.{stats-same}
 use Rattle.spread.specs.Spread.{exactQ, SpreadsAbove}
 use Rattle.boxes.specs.Box.{oneBin}
 use Rattle.spread.proofs.Above.{box-above}
-use Rattle.spread.proofs.Colours.{Point, total, sumBy, sum1, sum2, sum3, squares, Positive, Alike, two-colours, colours-half}
+use Rattle.loaded.proofs.Points.{Point, total, sumBy, sum1, sum2, sum3, squares, Positive, Alike, two-colours, colours-half}
 
 -- ---- more than one bin
 one-run : (i n p q : ℕ) → n - i ≡ 1 → (i ≤ p) × (p < n) → (i ≤ q) × (q < n) → p ≡ q
@@ -64,7 +65,7 @@ pointOf c = record { weight = c .weight; one = c .colour .c1; two = c .colour .c
 
 module _ (g : Grid) (x : Bounds) where
   abbrev isPoint : Weighted → Bool
-  isPoint c = lies g x c && ltb 0 (c .weight)
+  isPoint c = holdsColour g x (c .colour) && ltb 0 (c .weight)
 
   abbrev add : Weighted → List Point → List Point
   add c l = cond (isPoint c) (pointOf c ∷ l) l
@@ -79,7 +80,7 @@ module _ (g : Grid) (x : Bounds) where
   points-positive (c ∷ cs) = go (isPoint c) refl (points-positive cs)
     where
       go : (t : Bool) → isPoint c ≡ t → Positive (points cs) → Positive (cond t (pointOf c ∷ points cs) (points cs))
-      go true e rest = (ltb-true 0 (c .weight) (and-right (lies g x c) (ltb 0 (c .weight)) e), rest)
+      go true e rest = (ltb-true 0 (c .weight) (and-right (holdsColour g x (c .colour)) (ltb 0 (c .weight)) e), rest)
       go false e rest = rest
 
   -- each of those colours is among them
@@ -99,12 +100,12 @@ module _ (g : Grid) (x : Bounds) where
   -- what the colours have in the box is what its points have
   module _ (f : Point → ℕ) where
     abbrev part : Weighted → ℕ
-    part c = cond (lies g x c) (c .weight * f (pointOf c)) 0
+    part c = cond (holdsColour g x (c .colour)) (c .weight * f (pointOf c)) 0
 
     points-sum : (cs : List Weighted) → sumOver cs part ≡ sumBy f (points cs)
     unfolding points
     points-sum [] = over-none part
-    points-sum (c ∷ cs) = over-more c cs part ∙ ap (λ (n : ℕ). part c + n) (points-sum cs) ∙ go (lies g x c) (ltb 0 (c .weight)) refl
+    points-sum (c ∷ cs) = over-more c cs part ∙ ap (λ (n : ℕ). part c + n) (points-sum cs) ∙ go (holdsColour g x (c .colour)) (ltb 0 (c .weight)) refl
       where
         none : ltb 0 (c .weight) ≡ false → c .weight * f (pointOf c) ≡ 0
         none e = let z : c .weight ≡ 0 = omega (arith, ltb-false 0 (c .weight) e) in ap (λ (n : ℕ). n * f (pointOf c)) z ∙ zero-mul (f (pointOf c))
@@ -124,7 +125,7 @@ module _ {g : Grid} {x : Bounds} (w : Within g x) (cs : List Weighted) (b : AllB
   by-points : (j : ℕ) (f : Point → ℕ) → ((c : Weighted) → share c j ≡ c .weight * f (pointOf c)) → boxSum g (loaded g cs zeros) x j ≡ sumBy f (points g x cs)
   by-points j f e =
       loaded-box w j cs b
-      ∙ ap (sumOver cs) (λ i c. cond (lies g x c) (e c i) 0)
+      ∙ ap (sumOver cs) (λ i c. cond (holdsColour g x (c .colour)) (e c i) 0)
       ∙ points-sum g x f cs
 
   weight-is : boxSum g (loaded g cs zeros) x 0 ≡ total (points g x cs)
@@ -157,9 +158,6 @@ record Found (g : Grid) (l : List Point) (r gr b : ℕ) : Type 0 where
   member : List·Memᴰ point l
   binned : Binned g point r gr b
 
-among-in : (i n q : ℕ) → (i ≤ q) × (q < n) → among i (n - i) q ≡ true
-among-in i n q h = rw (le-leb i q (h .0), lt-ltb q (i + (n - i)) (omega (arith, h .0, h .1)))
-
 bytes-of : (cs : List Weighted) → AllBytes cs → {c : Weighted} → List·Memᴰ c cs → Bytes (c .colour)
 bytes-of [] b m = absurd (List·Memᴰ·not-nil m)
 bytes-of (d ∷ cs) b m = elim (List·Memᴰ·cases-cons m) [ inl e ↦ subst (λ (c : Weighted). Bytes (c .colour)) (sym e) (b .0) | inr k ↦ bytes-of cs (b .1) k ]
@@ -175,16 +173,15 @@ module _ {g : Grid} {x : Bounds} (w : Within g x) {r gr b : ℕ} (i : InBox x r 
       let same = place-once (colour-inside (w .accepted) k) (bin-inside w i) e in
       record { one = same 0; two = same 1; three = same 2 }
 
-  lies-in : (c : Weighted) → Binned g (pointOf c) r gr b → lies g x c ≡ true
-  unfolding lies
-  lies-in c e =
-      rw (e .one, e .two, e .three, among-in (x .r0) (x .r1) r (i .one), among-in (x .g0) (x .g1) gr (i .two), among-in (x .b0) (x .b1) b (i .three))
+  held-colour : (c : Weighted) → Binned g (pointOf c) r gr b → holdsColour g x (c .colour) ≡ true
+  unfolding holdsColour
+  held-colour c e = rw (e .one, e .two, e .three) (in-holds i)
 
   found : (cs : List Weighted) → AllBytes cs → ColourAt g cs place → Found g (points g x cs) r gr b
   found cs k o =
       let c = o .colour in
       let there = bins-of c (bytes-of cs k (o .among-them)) (o .there) in
-      record { point = pointOf c; member = point-in g x cs (o .among-them) (rw (lies-in c there) (lt-ltb 0 (c .weight) (o .weighs))); binned = there }
+      record { point = pointOf c; member = point-in g x cs (o .among-them) (rw (held-colour c there) (lt-ltb 0 (c .weight) (o .weighs))); binned = there }
 
 -- points of different bins are not alike
 unlike : {g : Grid} {p q : Point} {r gr b r' gr' b' : ℕ} → Binned g p r gr b → Binned g q r' gr' b' → (placeOf g r gr b ≡ placeOf g r' gr' b' → ⊥) → Alike p q → ⊥
@@ -200,7 +197,7 @@ spreads-same {g} {v} {u} same s =
     record {
       above = λ x w r gr z r' gr' z' i k o o' n.
           rw (stats-same same w)
-          (s .above x w r gr z r' gr' z' i k (λ e. o (at w i ∙ e)) (λ e. o' (at w k ∙ e)) n);
+          (s .above x w r gr z r' gr' z' i k (λ e. o (at w (holds-in i) ∙ e)) (λ e. o' (at w (holds-in k) ∙ e)) n);
     }
   where
     at : {x : Bounds} → Within g x → {r gr b : ℕ} → InBox x r gr b → v (placeOf g r gr b) 0 ≡ u (placeOf g r gr b) 0
@@ -212,8 +209,10 @@ module _ {g : Grid} (a : Accepted g) (cs : List Weighted) (b : AllBytes cs) wher
   pub from-colours : weightOf cs ≤ limit → SpreadsAbove g (loaded g cs zeros)
   from-colours most =
       record {
-        above = λ x w r gr z r' gr' z' i k o o' n.
+        above = λ x w r gr z r' gr' z' holds-one holds-other o o' n.
             let v = loaded g cs zeros in
+            let i = holds-in holds-one in
+            let k = holds-in holds-other in
             let sound = load-sound a cs b (zeros-sound limit g) (omega (arith, zeros-total g)) in
             let p = found w i cs b (occupied-colour g (placeOf g r gr z) cs o) in
             let q = found w k cs b (occupied-colour g (placeOf g r' gr' z') cs o') in
