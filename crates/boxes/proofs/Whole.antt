@@ -1,6 +1,5 @@
 -- The whole grid as a box.
 -- Assumes nothing.
-use mathlib.Core.Path.{_≡_, refl}
 use Prim.Native.Nat.{ℕ, zero, suc, _≤_, _<_}
 use native.Mathlib.Nat.{le-refl, lt-of-lt-of-le}
 use lib.Dec.{lit<}
@@ -10,16 +9,6 @@ use Rattle.grid.specs.Grid.{Accepted, sizeAt}
 use Rattle.grid.proofs.Size.{size-low}
 use Rattle.grid.proofs.Places.{one, two, three}
 use Rattle.boxes.specs.Box.{minAt, maxAt, wholeOf, Within}
-
-pub whole-low : (g : Grid) (d : ℕ) → minAt (wholeOf g) d ≡ 0
-unfolding minAt wholeOf choose
-whole-low g zero = refl
-whole-low g (suc zero) = refl
-whole-low g (suc (suc d)) = refl
-
-pub whole-high : (g : Grid) (d : ℕ) → maxAt (wholeOf g) d ≡ sizeAt g d
-unfolding maxAt wholeOf sizeAt
-whole-high g d = refl
 
 some : {g : Grid} → Accepted g → (d : ℕ) → minAt (wholeOf g) d < maxAt (wholeOf g) d
 unfolding minAt maxAt choose wholeOf

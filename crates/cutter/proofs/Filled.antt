@@ -17,7 +17,7 @@ use Rattle.grid.proofs.Places.{bins-high, place-lt, bin-of-place, place-of-bins
 use Rattle.boxes.specs.declared.sides.Bounds.{Bounds}
 use Rattle.boxes.specs.Box.{minAt, maxAt, lowSide, highSide}
 use Rattle.boxes.proofs.Within.{sides}
-use Rattle.boxes.specs.Holds.{lies, holds, slice}
+use Rattle.boxes.specs.Holds.{lies, holdsAt, slice}
 use Rattle.cutter.specs.Map.{fillWhere, Plane}
 use Rattle.basics.proofs.Range.{tests-same, never-true}
 use Rattle.boxes.proofs.Held.{lies-by, lies-from, lies-below, PlaceIn, place-held, held-place, cut-holds}
@@ -121,7 +121,7 @@ module _ (g : Grid) (x : Bounds) (r gr : ℕ) (h : gr < g .size2) (l : x .b1 ≤
       place-along g r gr (binAt g 2 p) ∙ (λ k. placeOf g (sym first k) (sym second k) (binAt g 2 p)) ∙ place-of-bins g p in
       lies-by (placeOf g r gr 0 + x .b0) (placeOf g r gr 0 + x .b1) p (omega arith) (omega arith)
 
-  pub row-holds : (p : ℕ) → lies (placeOf g r gr 0 + x .b0) (placeOf g r gr 0 + x .b1) p ≡ holds g (slice (slice x 0 r) 1 gr) p
+  pub row-holds : (p : ℕ) → lies (placeOf g r gr 0 + x .b0) (placeOf g r gr 0 + x .b1) p ≡ holdsAt g (slice (slice x 0 r) 1 gr) p
   row-holds p =
       tests-same _ _
       (λ e. held-place g (slice (slice x 0 r) 1 gr) p (row-in p e))
@@ -134,7 +134,7 @@ no-slice g x zero p i = omega arith
 no-slice g x (suc zero) p i = omega arith
 no-slice g x (suc (suc d)) p i = omega arith
 
-next-slice : (g : Grid) (x : Bounds) (d c : ℕ) → minAt x d ≤ c → (p : ℕ) → holds g (lowSide x d (c + 1)) p ≡ (holds g (lowSide x d c) p || holds g (slice x d c) p)
+next-slice : (g : Grid) (x : Bounds) (d c : ℕ) → minAt x d ≤ c → (p : ℕ) → holdsAt g (lowSide x d (c + 1)) p ≡ (holdsAt g (lowSide x d c) p || holdsAt g (slice x d c) p)
 unfolding slice lowSide highSide minAt maxAt choose
 next-slice g x zero c h p = cut-holds g (lowSide x 0 (c + 1)) 0 c h (omega arith) p
 next-slice g x (suc zero) c h p = cut-holds g (lowSide x 1 (c + 1)) 1 c h (omega arith) p
@@ -147,19 +147,19 @@ all-slices x (suc zero) = refl
 all-slices x (suc (suc d)) = refl
 
 module _ (g : Grid) (x : Bounds) (d index : ℕ) (old : List ℕ) where
-  pub slices-none : old ≡ fillWhere (holds g (lowSide x d (minAt x d))) index old
+  pub slices-none : old ≡ fillWhere (holdsAt g (lowSide x d (minAt x d))) index old
   slices-none =
-      fill-none (holds g (lowSide x d (minAt x d))) index old
+      fill-none (holdsAt g (lowSide x d (minAt x d))) index old
       (λ p. never-true _ (λ e. no-slice g x d p (place-held g (lowSide x d (minAt x d)) p e)))
 
-  pub slices-more : (c : ℕ) → minAt x d ≤ c → {before later : List ℕ} → before ≡ fillWhere (holds g (lowSide x d c)) index old → later ≡ fillWhere (holds g (slice x d c)) index before → later ≡ fillWhere (holds g (lowSide x d (c + 1))) index old
+  pub slices-more : (c : ℕ) → minAt x d ≤ c → {before later : List ℕ} → before ≡ fillWhere (holdsAt g (lowSide x d c)) index old → later ≡ fillWhere (holdsAt g (slice x d c)) index before → later ≡ fillWhere (holdsAt g (lowSide x d (c + 1))) index old
   slices-more c h e f =
       f
-      ∙ ap (fillWhere (holds g (slice x d c)) index) e
-      ∙ fill-more (holds g (lowSide x d c)) (holds g (slice x d c)) (holds g (lowSide x d (c + 1))) index old (λ p k. next-slice g x d c h p)
+      ∙ ap (fillWhere (holdsAt g (slice x d c)) index) e
+      ∙ fill-more (holdsAt g (lowSide x d c)) (holdsAt g (slice x d c)) (holdsAt g (lowSide x d (c + 1))) index old (λ p k. next-slice g x d c h p)
 
-  pub slices-all : (c : ℕ) → c ≡ maxAt x d → fillWhere (holds g (lowSide x d c)) index old ≡ fillWhere (holds g x) index old
-  slices-all c e = ap (λ (y : Bounds). fillWhere (holds g y) index old) (ap (lowSide x d) e ∙ all-slices x d)
+  pub slices-all : (c : ℕ) → c ≡ maxAt x d → fillWhere (holdsAt g (lowSide x d c)) index old ≡ fillWhere (holdsAt g x) index old
+  slices-all c e = ap (λ (y : Bounds). fillWhere (holdsAt g y) index old) (ap (lowSide x d) e ∙ all-slices x d)
 
 -- a plane of a box, row by row
 module _ {g : Grid} {x : Bounds} {r : ℕ} {old : List ℕ} (here : Plane g x r old) (gr : ℕ) (l : gr < x .g1) where
@@ -186,11 +186,11 @@ module _ {g : Grid} {x : Bounds} {r : ℕ} {old : List ℕ} (here : Plane g x r 
   pub row-small : placeOf g r gr 0 + x .b1 ≤ 2097152
   row-small = omega (arith, row-fits, here .lent, bins-high (here .within .accepted))
 
-  pub row-filled : (index : ℕ) → x .g0 ≤ gr → {before later : List ℕ} {start : ℕ} → before ≡ fillWhere (holds g (lowSide (slice x 0 r) 1 gr)) index old → start ≡ placeOf g r gr 0 → later ≡ fillWhere (lies (start + x .b0) (start + x .b1)) index before → later ≡ fillWhere (holds g (lowSide (slice x 0 r) 1 (gr + 1))) index old
+  pub row-filled : (index : ℕ) → x .g0 ≤ gr → {before later : List ℕ} {start : ℕ} → before ≡ fillWhere (holdsAt g (lowSide (slice x 0 r) 1 gr)) index old → start ≡ placeOf g r gr 0 → later ≡ fillWhere (lies (start + x .b0) (start + x .b1)) index before → later ≡ fillWhere (holdsAt g (lowSide (slice x 0 r) 1 (gr + 1))) index old
   unfolding slice lowSide highSide minAt choose
   row-filled index k {before} e at f =
       slices-more g (slice x 0 r) 1 index old gr k e
       (f
       ∙ ap (λ (n : ℕ). fillWhere (lies (n + x .b0) (n + x .b1)) index before) at
-      ∙ fill-same _ (holds g (slice (slice x 0 r) 1 gr)) index before
+      ∙ fill-same _ (holdsAt g (slice (slice x 0 r) 1 gr)) index before
       (λ p m. row-holds g x r gr (row-inside .two) (sides (here .within) .three-fits) p))

@@ -1,5 +1,4 @@
 pub mod Fronts
-pub mod Held
 pub mod Filled
 pub mod Maps
 pub mod Colours

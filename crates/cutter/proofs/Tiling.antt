@@ -28,7 +28,7 @@ use Rattle.sums.specs.Box.{binSum, boxSum}
 use Rattle.sums.proofs.Boxes.{sum3-same, sum3-plus, sum3-zero}
 use Rattle.boxes.proofs.Within.{sides}
 use Rattle.sums.proofs.Laws.{cut-sum}
-use Rattle.sums.proofs.Loaded.{among, hit-box}
+use Rattle.sums.proofs.Hits.{hit-box}
 use Rattle.heap.specs.Heap.{Item, Room, item, sumItems}
 use Rattle.boxes.specs.Box.{noBox, wholeOf}
 use Rattle.rounds.specs.Loop.{noItem, heapOf}
@@ -36,7 +36,7 @@ use Rattle.rounds.proofs.Grids.{whole-sum}
 use Rattle.rounds.proofs.Filled.{heap-fit, heap-in-use}
 use Rattle.rounds.proofs.Cover.{over, over-heap}
 use Rattle.cutter.specs.Palette.{countOf, Occupied}
-use Rattle.boxes.specs.Holds.{lies, holds, holding, Tiles}
+use Rattle.boxes.specs.Holds.{lies, holdsAt, holding, Tiles}
 use Rattle.boxes.proofs.Held.{whole-holds, cut-holding}
 
 -- the boxes of the first n places of a room
@@ -48,10 +48,10 @@ abbrev pub boxesFound : Grid → View → ℕ → List Bounds
 boxesFound g v k = boxesIn (heapOf g v k .room) (heapOf g v k .used)
 
 -- ---- one box after the other
-holding-sum : (g : Grid) (p : ℕ) (h : Room Bounds) → holding g (map (λ (i : Item Bounds). i .box) h) p ≡ sumItems (λ i. cond (holds g (i .box) p) 1 0) h
+holding-sum : (g : Grid) (p : ℕ) (h : Room Bounds) → holding g (map (λ (i : Item Bounds). i .box) h) p ≡ sumItems (λ i. cond (holdsAt g (i .box) p) 1 0) h
 unfolding holding sumItems
 holding-sum g p [] = refl
-holding-sum g p (x ∷ h) = ap (λ (n : ℕ). cond (holds g (x .box) p) 1 0 + n) (holding-sum g p h)
+holding-sum g p (x ∷ h) = ap (λ (n : ℕ). cond (holdsAt g (x .box) p) 1 0 + n) (holding-sum g p h)
 
 counts-sum : (g : Grid) (v : View) (h : Room Bounds)
     → sumFrom 0 (length h) (λ i. countOf g v (getD (map (λ (x : Item Bounds). x .box) h) i noBox)) ≡ sumItems (λ x. boxSum g v (x .box) 0) h
@@ -88,8 +88,8 @@ module _ (g : Grid) (v : View) (k : ℕ) (most : k ≤ 256) where
       record {
         once = λ p h.
             holding-sum g p (take used room)
-            ∙ over-heap {f = λ x. cond (holds g x p) 1 0} (record { adds = λ x d c l m. cut-holding g x d c l m p }) g v k most
-            ∙ rw (whole-holds a (wholeOf g) (whole-low g) (whole-high g) p h) refl;
+            ∙ over-heap {f = λ x. cond (holdsAt g x p) 1 0} (record { adds = λ x d c l m. cut-holding g x d c l m p }) g v k most
+            ∙ rw (whole-holds a p h) refl;
       }
 
   -- no box is empty
@@ -108,44 +108,16 @@ module _ (g : Grid) (v : View) (k : ℕ) (most : k ≤ 256) where
       ∙ whole-sum g v 0
       ∙ sym (total-is g v)
 
--- ---- a bin lies in a box where the box holds its place
-run-lies : (low end n : ℕ) → low ≤ end → lies low end n ≡ among low (end - low) n
-unfolding lies
-run-lies low end n h = ap (λ (m : ℕ). leb low n && ltb n m) there
-  where
-    there : end ≡ low + (end - low)
-    there = omega arith
-
-holds-bins : {g : Grid} {x : Bounds} → Within g x → (p : ℕ)
-    → holds g x p
-    ≡ (among (x .r0) (x .r1 - x .r0) (binAt g 0 p) && (among (x .g0) (x .g1 - x .g0) (binAt g 1 p) && among (x .b0) (x .b1 - x .b0) (binAt g 2 p)))
-unfolding holds allFrom minAt maxAt choose
-holds-bins {g} {x} w p =
-    let s = sides w in
-    λ i.
-    run-lies (x .r0) (x .r1) (binAt g 0 p) (le-of-lt (s .one)) i
-    && (run-lies (x .g0) (x .g1) (binAt g 1 p) (le-of-lt (s .two)) i
-    && (and-true (lies (x .b0) (x .b1) (binAt g 2 p)) ∙ run-lies (x .b0) (x .b1) (binAt g 2 p) (le-of-lt (s .three))) i)
-
-pub holds-colour : {g : Grid} {x : Bounds} → Within g x → {c : Rgb} → Bytes c
-    → holds g x (colourPlace g c)
-    ≡ (among (x .r0) (x .r1 - x .r0) (binOf (g .shift1) (c .c1)) && (among (x .g0) (x .g1 - x .g0) (binOf (g .shift2) (c .c2)) && among (x .b0) (x .b1 - x .b0) (binOf (g .shift3) (c .c3))))
-unfolding shiftAt componentAt choose
-holds-colour {g} {x} w {c} b =
-    let bin = colour-bin (w .accepted) b in
-    holds-bins w (colourPlace g c)
-    ∙ (λ i. among (x .r0) (x .r1 - x .r0) (bin 0 i) && (among (x .g0) (x .g1 - x .g0) (bin 1 i) && among (x .b0) (x .b1 - x .b0) (bin 2 i)))
-
 -- ---- the sum of a box is that over the places which it holds
 module _ {g : Grid} {x : Bounds} (w : Within g x) (v : View) (j : ℕ) where
   abbrev held : ℕ → ℕ
-  held q = cond (holds g x q) (v q j) 0
+  held q = cond (holdsAt g x q) (v q j) 0
 
   one-place : (q : ℕ) → q < binsOf g → boxSum g (λ p i. hit q p (v q j)) x j ≡ held q
+  unfolding holdsAt
   one-place q h =
       ap (λ (s : ℕ). boxSum g (λ p i. hit s p (v q j)) x j) (sym (place-of-bins g q))
       ∙ hit-box w (bins-inside (w .accepted) q h) (v q j) j
-      ∙ ap (λ (b : Bool). cond b (v q j) 0) (sym (holds-bins w q))
 
   some-places : (i n : ℕ) → i + n ≤ binsOf g → boxSum g (λ p k. sumFrom i n (λ q. hit q p (v q j))) x j ≡ sumFrom i n held
   unfolding boxSum binSum sumFrom
@@ -165,7 +137,7 @@ module _ {g : Grid} {x : Bounds} (w : Within g x) (v : View) (j : ℕ) where
       turned q (yes e) = hit-yes p q (v p j) e ∙ ap (λ (r : ℕ). v r j) e ∙ sym (hit-yes q p (v q j) (sym e))
       turned q (no n) = hit-no p q (v p j) n ∙ sym (hit-no q p (v q j) (λ e. n (sym e)))
 
-  pub sum-of-held : boxSum g v x j ≡ sumFrom 0 (binsOf g) (λ p. cond (holds g x p) (v p j) 0)
+  pub sum-of-held : boxSum g v x j ≡ sumFrom 0 (binsOf g) (λ p. cond (holdsAt g x p) (v p j) 0)
   unfolding boxSum binSum
   sum-of-held =
       let e = sides w in

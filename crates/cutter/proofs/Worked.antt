@@ -13,7 +13,7 @@ use Rattle.boxes.specs.Box.{minAt, maxAt}
 use Rattle.sums.specs.Box.{sum3, binSum, boxSum}
 use Rattle.cutter.specs.Fronts.{flat, filled}
 use Rattle.cutter.specs.Palette.{meanOf, colourOf, countOf, bytesOf, itsColour, itsCount, paletteLater, countsLater, frontOf}
-use Rattle.boxes.specs.Holds.{lies, holds}
+use Rattle.boxes.specs.Holds.{lies, holds, holdsAt}
 use Rattle.cutter.specs.Map.{indexFrom, mapOf, fillWhere, fillOf, fillFrom}
 
 record Outcome : Type 0 where
@@ -95,7 +95,7 @@ cases =
     ∷ []
 
 worked : map outcome cases ≡ map (λ c. c .expected) cases
-unfolding outcome cases planes narrow listFrom sumFrom allFrom choose binsOf placeOf binAt minAt maxAt sum3 binSum boxSum meanOf colourOf countOf bytesOf itsColour itsCount flat filled paletteLater countsLater frontOf lies holds indexFrom mapOf fillWhere fillOf fillFrom
+unfolding outcome cases planes narrow listFrom sumFrom allFrom choose binsOf placeOf binAt minAt maxAt sum3 binSum boxSum meanOf colourOf countOf bytesOf itsColour itsCount flat filled paletteLater countsLater frontOf lies holdsAt holds indexFrom mapOf fillWhere fillOf fillFrom
 worked = refl
 
 -- a palette of seven bytes has room for two boxes and not for three

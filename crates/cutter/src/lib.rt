@@ -22,7 +22,7 @@ ghost use Rattle.table.specs.Sound.{limit};
 ghost use Rattle.boxes.specs.Box.{Within};
 ghost use Rattle.sums.specs.Moments.{CanSum};
 ghost use Rattle.cutter.specs.Palette.{meanOf, colourOf, countOf, paletteLater, countsLater, frontOf, statsColour, withColourAt, Coloured, Occupied};
-ghost use Rattle.boxes.specs.Holds.{lies, holds, slice};
+ghost use Rattle.boxes.specs.Holds.{lies, holdsAt, slice};
 ghost use Rattle.cutter.specs.Map.{fillWhere, fillOf, fillFrom, Plane};
 ghost use Rattle.rounds.specs.Loop.{boxesOf};
 ghost use Rattle.cutter.specs.Cut.{buffers, lengthsOf, longEnough, cutNumberOn, refusedRecord, doneRecord, cutRecord, boundsOf, listOf, laterOn, cutLater, CanCut, Placed, Found};
@@ -104,7 +104,7 @@ fn fill(map: &mut [u8], at: usize, end: usize, index: u8)
 // Writes an index at the bins of a box in its plane r.
 fn fill_plane(map: &mut [u8], g: Grid, x: Bounds, r: usize, index: u8)
     requires { ⌜ Plane g x r (now map) ⌝ }
-    ensures { λ c. ⌜ now (map .exit) ≡ fillWhere (holds g (slice x 0 r)) index (now (map .entry)) ⌝ }
+    ensures { λ c. ⌜ now (map .exit) ≡ fillWhere (holdsAt g (slice x 0 r)) index (now (map .entry)) ⌝ }
 {
     let b0 = x.b0 as usize;
     let b1 = x.b1 as usize;

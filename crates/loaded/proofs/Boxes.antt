@@ -11,15 +11,17 @@ use native.Mathlib.Omega.{arith}
 use Rattle.grid.specs.declared.place.Grid.{Grid}
 use Rattle.pixels.specs.declared.colour.Rgb.{Rgb}
 use Rattle.grid.specs.Size.{binOf}
-use Rattle.grid.specs.Grid.{placeOf, colourPlace}
+use Rattle.basics.specs.Dimension.{choose}
+use Rattle.pixels.specs.Colour.{componentAt}
+use Rattle.grid.specs.Grid.{shiftAt, placeOf, colourPlace}
 use Rattle.basics.proofs.Range.{hit, hit-yes, hit-no}
-use Rattle.grid.proofs.Places.{Bytes, colour-inside}
+use Rattle.grid.proofs.Places.{Bytes, colour-inside, colour-bin}
 use Rattle.table.specs.Cell.{zeros}
 use Rattle.loader.specs.Load.{Weighted, share, adds, sumOver, loaded, ColourAt}
 use Rattle.loader.proofs.Loading.{AllBytes, share-weight, loaded-at, adds-at, over-none, over-more}
 use Rattle.boxes.specs.declared.sides.Bounds.{Bounds}
 use Rattle.boxes.specs.Box.{Within}
-use Rattle.boxes.specs.Holds.{holds}
+use Rattle.boxes.specs.Holds.{holds, holdsAt}
 use Rattle.sums.specs.Box.{binSum, boxSum}
 use Rattle.sums.proofs.Boxes.{sum3-same, sum3-plus, sum3-zero}
 use Rattle.sums.proofs.Hits.{hit-box}
@@ -27,6 +29,10 @@ use Rattle.sums.proofs.Hits.{hit-box}
 -- the box holds the bin of a colour
 unfoldable pub holdsColour : Grid → Bounds → Rgb → Bool
 holdsColour g x c = holds x (binOf (g .shift1) (c .c1)) (binOf (g .shift2) (c .c2)) (binOf (g .shift3) (c .c3))
+
+pub colour-held : {g : Grid} {x : Bounds} → Within g x → {c : Rgb} → Bytes c → holdsAt g x (colourPlace g c) ≡ holdsColour g x c
+unfolding holdsAt holdsColour shiftAt componentAt choose
+colour-held {g} {x} w {c} b = let bin = colour-bin (w .accepted) b in λ i. holds x (bin 0 i) (bin 1 i) (bin 2 i)
 
 -- one colour adds its share to the boxes that its bin lies in
 colour-box : {g : Grid} {x : Bounds} → Within g x → (c : Weighted) → Bytes (c .colour) → (j : ℕ) → boxSum g (adds g c) x j ≡ cond (holdsColour g x (c .colour)) (share c j) 0

@@ -16,7 +16,7 @@ use Rattle.grid.proofs.Places.{chose, colour-place-lt}
 use Rattle.table.specs.Table.{viewOf}
 use Rattle.loader.proofs.Parts.{colour-bytes}
 use Rattle.cutter.specs.Palette.{itsColour, coloursOf}
-use Rattle.boxes.specs.Holds.{holds}
+use Rattle.boxes.specs.Holds.{holdsAt}
 use Rattle.cutter.specs.Cut.{Buffers, cutNumber, cutRecord, boxList, laterOn}
 use Rattle.cutter.proofs.Fronts.{length-flat}
 use Rattle.cutter.proofs.Colours.{three}
@@ -41,7 +41,7 @@ module _ (b1 b2 b3 k : ℕ) (t : List ℕ) (b : Buffers) {g : Grid} (e : gridOf 
   pub pixel-index : (colours : ℕ) (frame indices : List ℕ) (first pixels : ℕ) → ((j : ℕ) → getD frame j 0 < 256)
       → mapNumber b1 b2 b3 (cutMap b1 b2 b3 k t b) colours frame indices first pixels ≡ 0
       → (i p : ℕ) → i < cutRecord b1 b2 b3 k t b .boxes → first ≤ p → p < first + pixels
-      → holds g (boxIn (cutRecord b1 b2 b3 k t b) i) (colourPlace g (colourAt frame p)) ≡ eqb (getD (mapLater b1 b2 b3 (cutMap b1 b2 b3 k t b) colours frame indices first pixels) p 0) i
+      → holdsAt g (boxIn (cutRecord b1 b2 b3 k t b) i) (colourPlace g (colourAt frame p)) ≡ eqb (getD (mapLater b1 b2 b3 (cutMap b1 b2 b3 k t b) colours frame indices first pixels) p 0) i
   unfolding mapNumber numberOn onGrid indexAt
   pixel-index colours frame indices first pixels bytes done i p h from until =
       let map = cutMap b1 b2 b3 k t b in

@@ -31,7 +31,7 @@ use Rattle.rounds.specs.Loop.{boxesOf}
 use Rattle.rounds.proofs.Filled.{heap-most}
 use Rattle.cutter.specs.declared.CutRecord.{CutRecord}
 use Rattle.cutter.specs.Palette.{countOf, paletteLater, countsLater, frontOf}
-use Rattle.boxes.specs.Holds.{holds}
+use Rattle.boxes.specs.Holds.{holdsAt}
 use Rattle.cutter.specs.Cut.{Buffers, lengthsOf, cutNumber, doneRecord, cutRecord, listOf, boxList, laterOn, cutLater, CanCut, Found}
 use Rattle.cutter.proofs.Colours.{front-filled, palette-at, counts-at}
 use Rattle.cutter.proofs.Listed.{list-length}
@@ -91,7 +91,7 @@ same-over (c ∷ cs) b f h e = over-more c cs f ∙ (λ i. e c (b .0) i + same-o
 
 -- the weight of a box: that of the loaded colours whose bin lies in it
 weight-loaded : {g : Grid} {x : Bounds} → Within g x → (cs : List Weighted) → AllBytes cs
-    → sumFrom 0 (binsOf g) (λ p. cond (holds g x p) (viewOf (tableOf g cs) p 0) 0) ≡ sumOver cs (λ c. cond (holds g x (colourPlace g (c .colour))) (c .weight) 0)
+    → sumFrom 0 (binsOf g) (λ p. cond (holdsAt g x p) (viewOf (tableOf g cs) p 0) 0) ≡ sumOver cs (λ c. cond (holdsAt g x (colourPlace g (c .colour))) (c .weight) 0)
 unfolding lies
 weight-loaded {g} {x} w cs b =
     sym (sum-of-held w (viewOf (tableOf g cs)) 0)

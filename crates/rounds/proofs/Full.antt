@@ -13,6 +13,7 @@ use Rattle.grid.specs.Grid.{Accepted, binsOf}
 use Rattle.table.specs.Cell.{View}
 use Rattle.table.specs.Sound.{limit, total}
 use Rattle.table.proofs.Soundness.{Sound}
+use Rattle.boxes.proofs.Held.{in-holds}
 use Rattle.boxes.specs.declared.sides.Bounds.{Bounds}
 use Rattle.sums.specs.Box.{statsOf, marks, occupiedIn}
 use Rattle.boxes.specs.Box.{lowSide, highSide}
@@ -63,7 +64,7 @@ module _ {g : Grid} {v : View} (s : Sound limit g v) (spreads : SpreadsAbove g v
         single = λ c t.
             let a = t .one in
             let b = t .other in
-            let above = spreads .above x (h .fit .within) (a .one) (a .two) (a .three) (b .one) (b .two) (b .three) (a .in-box) (b .in-box) (a .some) (b .some) (t .apart) in
+            let above = spreads .above x (h .fit .within) (a .one) (a .two) (a .three) (b .one) (b .two) (b .three) (in-holds (a .in-box)) (in-holds (b .in-box)) (a .some) (b .some) (t .apart) in
             rw (of-cold (spreadOf x (statsOf g v x)) (h .number) c) at above;
       }
 

@@ -1,30 +1,23 @@
--- A box is what its number unpacks to, and a room of packed boxes is a room of boxes.
+-- A room of packed boxes is a room of boxes.
 -- Assumes nothing.
 use mathlib.Core.Path.{_≡_, refl, sym, ap, _∙_}
 use mathlib.Core.Bool.{false}
 use mathlib.Core.List.{List}
-use Prim.Native.Nat.{ℕ, _+_, _*_, _/_, _%_, _≤_, _<_}
-use native.Mathlib.Nat.{le-of-lt}
+use Prim.Native.Nat.{ℕ, _≤_, _<_}
 use native.Mathlib.Omega.{arith}
 use lib.ListN.{getD, set, replicate}
 use lib.Ieee.{Float, nan, inf}
 use Rattle.grid.specs.declared.place.Grid.{Grid}
-use Rattle.basics.specs.Dimension.{choose}
-use Rattle.grid.specs.Grid.{sizeAt}
-use Rattle.grid.proofs.Size.{size-high}
-use Rattle.grid.proofs.Places.{sized-at}
 use Rattle.boxes.specs.declared.sides.Bounds.{Bounds}
-use Rattle.boxes.specs.Box.{Within}
-use Rattle.boxes.proofs.Within.{sides}
+use Rattle.boxes.specs.Box.{noBox, wholeOf}
+use Rattle.boxes.specs.Bytes.{packOf, boxOf, Bytes}
+use Rattle.boxes.proofs.Packing.{box-pack}
 use Rattle.spread.specs.Spread.{zeroOf}
-use Rattle.boxes.specs.Box.{Ordered}
 use Rattle.heap.specs.Heap.{item, putIn, takeOut, viewItem, viewRoom}
 use Rattle.heap.specs.Lent.{Lent, roomOf, spreadsOf, boxesOf, noItem as noPacked}
 use Rattle.heap.proofs.Lent.{alike, room-item, room-is, room-long, lent-of}
 use Rattle.heap.proofs.Keeps.{put-in-long, take-out-long}
 use Rattle.heap.proofs.View.{item-view, put-in-view, take-out-view}
-use Rattle.boxes.specs.Bytes.{packOf, boxOf, Bytes}
-use Rattle.boxes.specs.Box.{noBox, wholeOf}
 use Rattle.rounds.specs.Loop.{noItem, spent, startRoom, roomIn}
 
 -- ---- what the heap says of two lent arrays, said of the boxes in them

@@ -10,7 +10,7 @@ use Rattle.basics.specs.Range.{listFrom}
 use Rattle.table.specs.Cell.{View}
 use Rattle.boxes.specs.declared.sides.Bounds.{Bounds}
 use Rattle.sums.specs.Box.{statsOf}
-use Rattle.boxes.specs.Box.{lowSide, highSide}
+use Rattle.boxes.specs.Box.{noBox, wholeOf, lowSide, highSide}
 use Rattle.spread.specs.declared.Position.{Position}
 use Rattle.spread.specs.declared.Position.the-variants.{At, Nowhere}
 use Rattle.spread.specs.Spread.{zeroOf, spreadOf}

@@ -8,7 +8,7 @@ use lib.ListN.{length}
 use Rattle.basics.specs.Dimension.{choose}
 use Rattle.boxes.specs.Box.{lowSide, minAt, maxAt}
 use Rattle.boxes.proofs.Within.{sides}
-use Rattle.boxes.specs.Holds.{holds}
+use Rattle.boxes.specs.Holds.{holdsAt}
 use Rattle.cutter.specs.Map.{fillWhere, fillOf}
 use Rattle.cutter.proofs.Filled.{length-fill, slices-none, slices-more, slices-all}
 use Rattle.cutter.proofs.fill_box.Statement.{statement}
@@ -16,7 +16,7 @@ use Rattle.cutter.proofs.fill_box.Tie as tie
 
 abbrev Inv-loop : tie.InvT-loop
 Inv-loop map₀ g x index end r₀ map r =
-    (x .r0 ≤ r) × (r ≤ end) × (map ≡ fillWhere (holds g (lowSide x 0 r)) index map₀)
+    (x .r0 ≤ r) × (r ≤ end) × (map ≡ fillWhere (holdsAt g (lowSide x 0 r)) index map₀)
 
 abbrev μ-loop : tie.MeasureT-loop
 μ-loop map₀ g x index end r₀ map r = end - r

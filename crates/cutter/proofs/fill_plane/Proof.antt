@@ -9,7 +9,7 @@ use Rattle.basics.specs.Dimension.{choose}
 use Rattle.boxes.specs.declared.sides.Bounds.{Bounds}
 use Rattle.boxes.specs.Box.{lowSide, highSide, minAt, maxAt}
 use Rattle.boxes.proofs.Within.{sides}
-use Rattle.boxes.specs.Holds.{holds, slice}
+use Rattle.boxes.specs.Holds.{holdsAt, slice}
 use Rattle.cutter.specs.Map.{fillWhere}
 use Rattle.cutter.proofs.Filled.{length-fill, slices-none, slices-all, row-inside, row-fits, row-small, row-filled}
 use Rattle.cutter.proofs.fill_plane.Statement.{statement}
@@ -21,7 +21,7 @@ rows r g0 g1 b0 b1 = record { r0 = r; r1 = r + 1; g0 = g0; g1 = g1; b0 = b0; b1 
 
 abbrev Inv-loop : tie.InvT-loop
 Inv-loop map₀ g r index b0 b1 end gr₀ map gr =
-    (gr₀ ≤ gr) × (gr ≤ end) × (map ≡ fillWhere (holds g (rows r gr₀ gr b0 b1)) index map₀)
+    (gr₀ ≤ gr) × (gr ≤ end) × (map ≡ fillWhere (holdsAt g (rows r gr₀ gr b0 b1)) index map₀)
 
 abbrev μ-loop : tie.MeasureT-loop
 μ-loop map₀ g r index b0 b1 end gr₀ map gr = end - gr
