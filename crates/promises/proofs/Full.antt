@@ -14,9 +14,9 @@ use Rattle.loader.specs.Load.{weightOf, ColourAt}
 use Rattle.loader.specs.Plan.{Plan, Table, run, leaves, BytesIn}
 use Rattle.loader.proofs.Order.{table-holds, table-total, table-sound, leaves-bytes}
 use Rattle.loader.proofs.Ran.{ran-table}
-use Rattle.sums.proofs.Loaded.{occupied-colour, colour-occupies}
+use Rattle.loaded.proofs.Boxes.{occupied-colour, colour-occupies}
 use Rattle.spread.specs.Spread.{SpreadsAbove}
-use Rattle.spread.proofs.FromColours.{table-above}
+use Rattle.loaded.proofs.Spreads.{table-above}
 use Rattle.rounds.specs.Loop.{boxesOf}
 use Rattle.rounds.proofs.Full.{full, occupied-whole}
 use Rattle.cutter.specs.Cut.{Buffers, cutNumber, doneRecord, cutRecord}

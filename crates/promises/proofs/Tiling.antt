@@ -23,7 +23,7 @@ use Rattle.loader.proofs.Order.{table-holds, leaves-bytes}
 use Rattle.loader.proofs.Ran.{ran-table}
 use Rattle.boxes.specs.declared.sides.Bounds.{Bounds}
 use Rattle.boxes.specs.Box.{Within}
-use Rattle.sums.proofs.Loaded.{lies, loaded-box}
+use Rattle.loaded.proofs.Boxes.{colour-held, loaded-box}
 use Rattle.sums.proofs.Same.{box-same}
 use Rattle.rounds.specs.declared.Boxes.{Boxes}
 use Rattle.boxes.specs.Box.{noBox}
@@ -36,7 +36,7 @@ use Rattle.cutter.specs.Cut.{Buffers, lengthsOf, cutNumber, doneRecord, cutReco
 use Rattle.cutter.proofs.Colours.{front-filled, palette-at, counts-at}
 use Rattle.cutter.proofs.Listed.{list-length}
 use Rattle.cutter.proofs.Maps.{map-below, box-of-index}
-use Rattle.cutter.proofs.Tiling.{counts-total, holds-colour, sum-of-held}
+use Rattle.cutter.proofs.Tiling.{counts-total, sum-of-held}
 use Rattle.cutter.proofs.Finding.{list-found, list-tiles, all-found}
 use Rattle.cutter.proofs.Laws.{cut-says}
 use Rattle.promises.specs.Tiling.{boxesIn, boxIn, Tiling, LoadedCounts}
@@ -92,12 +92,11 @@ same-over (c ∷ cs) b f h e = over-more c cs f ∙ (λ i. e c (b .0) i + same-o
 -- the weight of a box: that of the loaded colours whose bin lies in it
 weight-loaded : {g : Grid} {x : Bounds} → Within g x → (cs : List Weighted) → AllBytes cs
     → sumFrom 0 (binsOf g) (λ p. cond (holdsAt g x p) (viewOf (tableOf g cs) p 0) 0) ≡ sumOver cs (λ c. cond (holdsAt g x (colourPlace g (c .colour))) (c .weight) 0)
-unfolding lies
 weight-loaded {g} {x} w cs b =
     sym (sum-of-held w (viewOf (tableOf g cs)) 0)
     ∙ box-same (table-holds g cs .at) w 0 (lit< tt)
     ∙ loaded-box w 0 cs b
-    ∙ same-over cs b _ _ (λ c y. λ i. cond (sym (holds-colour w y) i) (share-weight c i) 0)
+    ∙ same-over cs b _ _ (λ c y. λ i. cond (sym (colour-held w y) i) (share-weight c i) 0)
 
 tiling-loaded : {g : Grid} → Accepted g → (cs : List Weighted) → AllBytes cs → {r : CutRecord} {later : Buffers} → Tiling g (tableOf g cs) r later → LoadedCounts g cs r later
 tiling-loaded {g} a cs b {r} {later} t =

@@ -24,7 +24,7 @@ use Rattle.rounds.specs.Loop.{itself, startRoom, start, roomAfter, usedAfter, g
 use Rattle.boxes.specs.Box.{wholeOf}
 use Rattle.cutter.specs.Fronts.{flat, filled}
 use Rattle.cutter.specs.Palette.{meanOf, colourOf, countOf, bytesOf, itsColour, itsCount, paletteLater, countsLater}
-use Rattle.boxes.specs.Holds.{lies, holdsAt}
+use Rattle.boxes.specs.Holds.{lies, holds, holdsAt}
 use Rattle.cutter.specs.Map.{indexFrom, mapOf}
 use Rattle.cutter.specs.Cut.{longEnough, cutNumberOn, cutNumber, refusedRecord, doneRecord, recordOn, cutRecord, boundsOf, listOf, boxList, laterOn, cutLater}
 use Rattle.promises.specs.Cases.{Case, loadsOf, tableAfter, positionIn, lentTo, outcome, times, empties, plain, weighted, loadGives, at, nowhere, box, recordWith, done, refusedWith, blackWhite, blackWhiteTable, blackWhiteMoments, reds, redsTable, redsMoments, fullCell, sizeOne, cases}
