@@ -71,7 +71,7 @@ extern "C" {
 size_t seluvava_bins(size_t b1, size_t b2, size_t b3);
 
 /* How many numbers a table of a grid has: 5 * bins, or 0 where a size is not among the seven. */
-size_t seluvava_numbers(size_t b1, size_t b2, size_t b3);
+size_t seluvava_table_len(size_t b1, size_t b2, size_t b3);
 
 /*
  * Load: adds colours to a table. A colour c1, c2, c3 of weight w adds, in its bin, w to n, w * c to each sum and

@@ -50,7 +50,7 @@ use Rattle.cutter.proofs.cut as cut
 use Rattle.seluvava.specs.declared.CutAnswer.{CutAnswer}
 use Rattle.seluvava.specs.Cut.{Lent, lent}
 use Rattle.seluvava.proofs.seluvava_bins as exported-bins
-use Rattle.seluvava.proofs.seluvava_numbers as exported-numbers
+use Rattle.seluvava.proofs.seluvava_table_len as exported-table-len
 use Rattle.seluvava.proofs.seluvava_load as exported-load
 use Rattle.seluvava.proofs.seluvava_merge as exported-merge
 use Rattle.seluvava.proofs.seluvava_cut as exported-cut
@@ -186,8 +186,8 @@ text-determined κs a r s x y p q = both (determined (p .0) (q .0)) (determined 
 pub exported-bins-determined : Determines 0 exported-bins.Kinds.ps exported-bins.Kinds.r exported-bins.Reads.Learnt (λ κs r e. r)
 exported-bins-determined κs a r s x y p q = determined p q
 
-pub exported-numbers-determined : Determines 0 exported-numbers.Kinds.ps exported-numbers.Kinds.r exported-numbers.Reads.Learnt (λ κs r e. r)
-exported-numbers-determined κs a r s x y p q = determined p q
+pub exported-table-len-determined : Determines 0 exported-table-len.Kinds.ps exported-table-len.Kinds.r exported-table-len.Reads.Learnt (λ κs r e. r)
+exported-table-len-determined κs a r s x y p q = determined p q
 
 pub exported-load-determined : Determines {A = ℕ × List ℕ} 3 exported-load.Kinds.ps exported-load.Kinds.r exported-load.Reads.Learnt (λ κs r e. (r, now (e .1 .1 .1 .0)))
 exported-load-determined κs a r s x y p q = both (determined (p .0) (q .0)) (determined (p .1) (q .1))

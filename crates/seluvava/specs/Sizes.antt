@@ -7,5 +7,5 @@ unfoldable pub binsFor : ℕ → ℕ → ℕ → ℕ
 binsFor b1 b2 b3 = onGrid (gridOf b1 b2 b3) 0 binsOf
 
 -- how many numbers a table has, and a work table
-unfoldable pub numbersFor : ℕ → ℕ → ℕ → ℕ
-numbersFor b1 b2 b3 = 5 * binsFor b1 b2 b3
+unfoldable pub tableLenFor : ℕ → ℕ → ℕ → ℕ
+tableLenFor b1 b2 b3 = 5 * binsFor b1 b2 b3

@@ -14,7 +14,7 @@ ghost use Rattle.mapper.specs.Map.{mapNumber, mapLater};
 ghost use Rattle.mapper.specs.Paint.{paintNumber, paintLater};
 ghost use Rattle.cutter.specs.Cut.{buffers};
 ghost use Rattle.cutter.specs.Fronts.{filled};
-ghost use Rattle.seluvava.specs.Sizes.{binsFor, numbersFor};
+ghost use Rattle.seluvava.specs.Sizes.{binsFor, tableLenFor};
 ghost use Rattle.seluvava.specs.Cut.{lent, roomNumber, cutAnswer, callLater, boxBytes, spreadOf, told, withBoxAt};
 
 // ---- Sizes
@@ -32,8 +32,8 @@ pub extern "C" fn seluvava_bins(b1: usize, b2: usize, b3: usize) -> usize
 
 // The numbers of a table, or 0 where the grid is refused.
 #[no_mangle]
-pub extern "C" fn seluvava_numbers(b1: usize, b2: usize, b3: usize) -> usize
-    ensures { λ r. ⌜ r ≡ numbersFor b1 b2 b3 ⌝ }
+pub extern "C" fn seluvava_table_len(b1: usize, b2: usize, b3: usize) -> usize
+    ensures { λ r. ⌜ r ≡ tableLenFor b1 b2 b3 ⌝ }
 {
     5 * seluvava_bins(b1, b2, b3)
 }
