@@ -8,7 +8,7 @@ use crate::input::within;
 use cutter::cut;
 use cutter::front;
 use mapper::map;
-use mapper::paint;
+use painter::paint;
 
 // Maps and paints the case's own colours, as a frame of one band.
 fn map_and_hold(
