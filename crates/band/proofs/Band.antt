@@ -115,24 +115,31 @@ module _ (f : ℕ → ℕ) (old : List ℕ) where
       ∙ band-after first n f old i h (omega arith))
 
 module _ (f : ℕ → ℕ) (old : List ℕ) (first : ℕ) where
-  -- one place more
-  pub band-next : (n : ℕ) → first + n < length old
-      → set (writeBand first n f old) (first + n) (f (first + n)) ≡ writeBand first (n + 1) f old
-  band-next n h =
-      band-one f (writeBand first n f old) (first + n) (rw (band-length first n f old) h) ∙ band-join f old first n 1
+  -- a band that is written goes on: by a place
+  pub band-next : (n v : ℕ) (l : List ℕ) → l ≡ writeBand first n f old → v ≡ f (first + n) → first + n < length old
+      → set l (first + n) v ≡ writeBand first (n + 1) f old
+  band-next n v l is at h =
+      (λ t. set (is t) (first + n) (at t))
+      ∙ band-one f (writeBand first n f old) (first + n) (rw (band-length first n f old) h)
+      ∙ band-join f old first n 1
 
-  pub band-four : first + 3 < length old
-      → set (set (set (set old first (f first)) (first + 1) (f (first + 1))) (first + 2) (f (first + 2)))
-      (first + 3) (f (first + 3))
-      ≡ writeBand first 4 f old
-  band-four h =
-      ap (λ (l : List ℕ). set (set (set l (first + 1) (f (first + 1))) (first + 2) (f (first + 2)))
-      (first + 3) (f (first + 3)))
-      (band-one f old first (omega arith))
-      ∙ ap (λ (l : List ℕ). set (set l (first + 2) (f (first + 2))) (first + 3) (f (first + 3)))
-      (band-next 1 (omega arith))
-      ∙ ap (λ (l : List ℕ). set l (first + 3) (f (first + 3))) (band-next 2 (omega arith))
-      ∙ band-next 3 h
+  -- by a band
+  pub band-more : (n m k : ℕ) (l new : List ℕ) → l ≡ writeBand first n f old → new ≡ writeBand (first + n) m f l
+      → n + m ≡ k → new ≡ writeBand first k f old
+  band-more n m k l new is next all =
+      next
+      ∙ ap (writeBand (first + n) m f) is
+      ∙ band-join f old first n m
+      ∙ ap (λ (k : ℕ). writeBand first k f old) all
+
+  -- and four places are one
+  pub band-four : (a b c d : ℕ) → a ≡ f first → b ≡ f (first + 1) → c ≡ f (first + 2) → d ≡ f (first + 3)
+      → first + 3 < length old
+      → set (set (set (set old first a) (first + 1) b) (first + 2) c) (first + 3) d ≡ writeBand first 4 f old
+  band-four a b c d p q r s h =
+      let one = ap (set old first) p ∙ band-one f old first (omega arith) in
+      let two = band-next 1 b _ one q (omega arith) in
+      band-next 3 d _ (band-next 2 c _ two r (omega arith)) s h
 
 -- a band of f is a band of whatever agrees with f there
 pub band-same : (first n : ℕ) (f h : ℕ → ℕ) (old : List ℕ) → ((i : ℕ) → first ≤ i → i < first + n → f i ≡ h i)
@@ -145,13 +152,22 @@ band-same first n f h old same =
 
 -- ---- a band from the front
 module _ (f : ℕ → ℕ) (old : List ℕ) where
-  pub band-on : (n m : ℕ) → writeBand n m f (writeBand 0 n f old) ≡ writeBand 0 (n + m) f old
-  band-on n m = ap (λ (k : ℕ). writeBand k m f (writeBand 0 n f old)) (sym (zero-add n)) ∙ band-join f old 0 n m
-
   pub band-whole : writeBand 0 (length old) f old ≡ listFrom 0 (length old) f
   band-whole =
       list-is (length old) f (writeBand 0 (length old) f old) 0 (band-length 0 (length old) f old)
       (λ i h. band-within 0 (length old) f old i h (omega arith) (omega arith))
+
+  -- it goes on by a band, and by the rest
+  pub front-more : (n m : ℕ) (l new : List ℕ) → l ≡ writeBand 0 n f old → new ≡ writeBand n m f l
+      → new ≡ writeBand 0 (n + m) f old
+  front-more n m l new is next =
+      band-more f old 0 n m (n + m) l new is (next ∙ ap (λ (k : ℕ). writeBand k m f l) (sym (zero-add n))) refl
+
+  pub front-rest : (n : ℕ) (l new : List ℕ) → n ≤ length old → l ≡ writeBand 0 n f old
+      → new ≡ writeBand n (length old - n) f l → new ≡ listFrom 0 (length old) f
+  front-rest n l new h is next =
+      let all : n + (length old - n) ≡ length old = omega arith in
+      front-more n (length old - n) l new is next ∙ ap (λ (k : ℕ). writeBand 0 k f old) all ∙ band-whole
 
 -- ---- a part that is handed on
 pub part-at : (a k : ℕ) (l : List ℕ) (i : ℕ) → i < k → getD (take k (drop a l)) i 0 ≡ getD l (a + i) 0

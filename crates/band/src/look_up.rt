@@ -30,8 +30,8 @@ pub fn index_at(
     part: &[u8],
     i: usize,
 ) -> u8
-    requires { ⌜ Lookup g (now t1) (now t2) (now map) ⌝ }
-    requires { ⌜ 3 * i + 2 < length (now part) ⌝ }
+    requires look_up { ⌜ Lookup g (now t1) (now t2) (now map) ⌝ }
+    requires inside { ⌜ 3 * i + 2 < length (now part) ⌝ }
     ensures { λ r. ⌜ r ≡ indexAt g (now (map .entry)) (now (part .entry)) i ⌝ }
 {
     index_of(g, t1, t2, map, colour(part, i))

@@ -20,8 +20,8 @@ fn map_some(
     from: usize,
     count: usize,
 )
-    requires { ⌜ Lookup g (now t1) (now t2) (now map) ⌝ }
-    requires { ⌜ (3 * (from + count) ≤ length (now part)) × (from + count ≤ length (now indices)) ⌝ }
+    requires look_up { ⌜ Lookup g (now t1) (now t2) (now map) ⌝ }
+    requires inside { ⌜ (3 * (from + count) ≤ length (now part)) × (from + count ≤ length (now indices)) ⌝ }
     ensures { λ r. ⌜ now (indices .exit)
         ≡ writeBand from count (indexAt g (now (map .entry)) (now (part .entry))) (now (indices .entry)) ⌝ }
 {
@@ -43,8 +43,8 @@ fn map_four(
     indices: &mut [u8],
     i: usize,
 )
-    requires { ⌜ Lookup g (now t1) (now t2) (now map) ⌝ }
-    requires { ⌜ (3 * (i + 4) ≤ length (now part)) × (i + 4 ≤ length (now indices)) ⌝ }
+    requires look_up { ⌜ Lookup g (now t1) (now t2) (now map) ⌝ }
+    requires inside { ⌜ (3 * (i + 4) ≤ length (now part)) × (i + 4 ≤ length (now indices)) ⌝ }
     ensures { λ r. ⌜ now (indices .exit)
         ≡ writeBand i 4 (indexAt g (now (map .entry)) (now (part .entry))) (now (indices .entry)) ⌝ }
 {
@@ -68,8 +68,8 @@ fn map_by_fours(
     indices: &mut [u8],
     from: usize,
 )
-    requires { ⌜ Lookup g (now t1) (now t2) (now map) ⌝ }
-    requires { ⌜ (3 * (from + 64) ≤ length (now part)) × (from + 64 ≤ length (now indices)) ⌝ }
+    requires look_up { ⌜ Lookup g (now t1) (now t2) (now map) ⌝ }
+    requires inside { ⌜ (3 * (from + 64) ≤ length (now part)) × (from + 64 ≤ length (now indices)) ⌝ }
     ensures { λ r. ⌜ now (indices .exit)
         ≡ writeBand from 64 (indexAt g (now (map .entry)) (now (part .entry))) (now (indices .entry)) ⌝ }
 {
@@ -102,8 +102,8 @@ fn map_block(
     indices: &mut [u8],
     from: usize,
 )
-    requires { ⌜ Lookup g (now t1) (now t2) (now map) ⌝ }
-    requires { ⌜ (3 * (from + 65) ≤ length (now part)) × (from + 64 ≤ length (now indices)) ⌝ }
+    requires look_up { ⌜ Lookup g (now t1) (now t2) (now map) ⌝ }
+    requires inside { ⌜ (3 * (from + 65) ≤ length (now part)) × (from + 64 ≤ length (now indices)) ⌝ }
     ensures { λ r. ⌜ now (indices .exit)
         ≡ writeBand from 64 (indexAt g (now (map .entry)) (now (part .entry))) (now (indices .entry)) ⌝ }
 {
@@ -124,8 +124,8 @@ pub(crate) fn map_part(
     part: &[u8],
     indices: &mut [u8],
 )
-    requires { ⌜ Lookup g (now t1) (now t2) (now map) ⌝ }
-    requires { ⌜ length (now part) ≡ 3 * length (now indices) ⌝ }
+    requires look_up { ⌜ Lookup g (now t1) (now t2) (now map) ⌝ }
+    requires one_each { ⌜ length (now part) ≡ 3 * length (now indices) ⌝ }
     ensures { λ r. ⌜ now (indices .exit)
         ≡ listFrom 0 (length (now (indices .entry))) (indexAt g (now (map .entry)) (now (part .entry))) ⌝ }
 {

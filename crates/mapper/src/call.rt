@@ -14,8 +14,8 @@ ghost use Rattle.mapper.specs.Map.{mapNumber, mapLater};
 
 // Hands the band of the frame and of the index buffer on as parts.
 fn map_band(g: Grid, map: &[u8], frame: &[u8], indices: &mut [u8], first: usize, pixels: usize)
-    requires { ⌜ MapOf g (now map) ⌝ }
-    requires { ⌜ (length (now frame) ≡ 3 * length (now indices)) × (first + pixels ≤ length (now indices)) ⌝ }
+    requires of_grid { ⌜ MapOf g (now map) ⌝ }
+    requires inside { ⌜ (length (now frame) ≡ 3 * length (now indices)) × (first + pixels ≤ length (now indices)) ⌝ }
     ensures { λ r. ⌜ now (indices .exit)
         ≡ writeBand first pixels (indexAt g (now (map .entry)) (now (frame .entry))) (now (indices .entry)) ⌝ }
 {

@@ -2,15 +2,16 @@
 -- Assumes nothing.
 use mathlib.Core.Path.{_≡_, sym, ap, _∙_}
 use mathlib.Core.List.{List}
-use Prim.Native.Nat.{ℕ, _+_, _*_, _/_, _%_, _≤_, _<_}
-use native.Mathlib.Nat.{add-zero}
+use Prim.Native.Nat.{ℕ, _+_, _-_, _*_, _/_, _%_, _≤_, _<_}
+use native.Mathlib.Nat.{zero-add, add-zero}
 use native.Mathlib.Omega.{arith}
 use lib.ListN.{length, getD, set}
 use Rattle.grid.specs.declared.Grid.{Grid}
+use Rattle.grid.specs.Range.{listFrom}
 use Rattle.grid.specs.Grid.{choose, colourAt, colourPlace}
 use Rattle.band.specs.Band.{indexAt, writeBand}
 use Rattle.band.proofs.Band.{among-after, band-length, band-within, band-kept, band-one, band-next, band-join}
-use Rattle.band.proofs.Band.{band-same}
+use Rattle.band.proofs.Band.{band-same, band-whole}
 use Rattle.band.proofs.Pixels.{same-index}
 use Rattle.painter.specs.Inner.{unpacked, fillAt, packedAt, paintedFor}
 
@@ -28,20 +29,12 @@ pub three-bytes : (v i : ℕ) (old : List ℕ) → 3 * i + 2 < length old
     ≡ writeBand (3 * i) 3 (fillAt v) old
 unfolding unpacked choose
 three-bytes v i old h =
-    (λ t. set (set (set old (3 * i) (first t)) (3 * i + 1) (second t)) (3 * i + 2) (third t))
-    ∙ ap (λ (l : List ℕ). set (set l (3 * i + 1) (fillAt v (3 * i + 1))) (3 * i + 2) (fillAt v (3 * i + 2)))
-    (band-one (fillAt v) old (3 * i) (omega arith))
-    ∙ ap (λ (l : List ℕ). set l (3 * i + 2) (fillAt v (3 * i + 2))) (band-next (fillAt v) old (3 * i) 1 (omega arith))
-    ∙ band-next (fillAt v) old (3 * i) 2 h
+    let one = ap (set old (3 * i)) first ∙ band-one (fillAt v) old (3 * i) (omega arith) in
+    let two = band-next (fillAt v) old (3 * i) 1 _ _ one (fill-byte v i 1 (omega arith)) (omega arith) in
+    band-next (fillAt v) old (3 * i) 2 _ _ two (fill-byte v i 2 (omega arith)) h
   where
     first : unpacked v 0 ≡ fillAt v (3 * i)
     first = fill-byte v i 0 (omega arith) ∙ ap (fillAt v) (add-zero (3 * i))
-
-    second : unpacked v 1 ≡ fillAt v (3 * i + 1)
-    second = fill-byte v i 1 (omega arith)
-
-    third : unpacked v 2 ≡ fillAt v (3 * i + 2)
-    third = fill-byte v i 2 (omega arith)
 
 -- ---- a run of pixels
 -- two runs, the second where the first ends, are one
@@ -62,8 +55,8 @@ pub run-copied : (v at k : ℕ) (old half l : List ℕ) → half ≡ writeBand a
     → set l (at + 48 + k) (getD l (at + k) 0) ≡ writeBand (at + 48) (k + 1) (fillAt v) half
 unfolding fillAt
 run-copied v at k old half l begun more h =
-    (λ t. set (more t) (at + 48 + k) (byte t))
-    ∙ band-next (fillAt v) half (at + 48) k (omega (arith, ap length begun, band-length at 48 (fillAt v) old))
+    band-next (fillAt v) half (at + 48) k _ l more byte
+    (omega (arith, ap length begun, band-length at 48 (fillAt v) old))
   where
     before : (at k : ℕ) → (at + k) % 3 ≡ (at + 48 + k) % 3
     before at k = omega arith
@@ -116,3 +109,20 @@ module _ (g : Grid) (map packed : List ℕ) where
       where
         only : (i : ℕ) → from + n ≤ i → i < from + n + 1 → i ≡ from + n
         only i a b = omega arith
+
+  -- from the front: the next pixels, and the rest
+  pub painted-on : (old l new : List ℕ) (n m : ℕ) → l ≡ paintedFor g map packed old 0 n
+      → new ≡ paintedFor g map packed l n m → new ≡ paintedFor g map packed old 0 (n + m)
+  painted-on old l new n m is next =
+      next
+      ∙ ap (λ (k : ℕ). paintedFor g map packed l k m) (sym (zero-add n))
+      ∙ painted-more old 0 n m l is
+
+  pub painted-rest : (old l new : List ℕ) (n : ℕ) → length old % 3 ≡ 0 → n ≤ length old / 3
+      → l ≡ paintedFor g map packed old 0 n → new ≡ paintedFor g map packed l n (length old / 3 - n)
+      → new ≡ listFrom 0 (length old) (packedAt g map packed old)
+  painted-rest old l new n threes h is next =
+      let all : 3 * (n + (length old / 3 - n)) ≡ length old = omega arith in
+      painted-on old l new n (length old / 3 - n) is next
+      ∙ ap (λ (k : ℕ). writeBand 0 k (packedAt g map packed old) old) all
+      ∙ band-whole (packedAt g map packed old) old

@@ -20,8 +20,8 @@ fn painted(
     part: &[u8],
     i: usize,
 ) -> u32
-    requires { ⌜ Lookup g (now t1) (now t2) (now map) × (length (now packed) ≡ 256) ⌝ }
-    requires { ⌜ 3 * i + 2 < length (now part) ⌝ }
+    requires look_up { ⌜ Lookup g (now t1) (now t2) (now map) × (length (now packed) ≡ 256) ⌝ }
+    requires inside { ⌜ 3 * i + 2 < length (now part) ⌝ }
     ensures { λ r. ⌜ r ≡ getD (now (packed .entry)) (indexAt g (now (map .entry)) (now (part .entry)) i) 0 ⌝ }
 {
     let index = index_at(g, t1, t2, map, part, i) as usize;
@@ -77,8 +77,8 @@ fn paint_some(
     first: usize,
     pixels: usize,
 )
-    requires { ⌜ Lookup g (now t1) (now t2) (now map) × (length (now packed) ≡ 256) ⌝ }
-    requires { ⌜ 3 * (first + pixels) ≤ length (now part) ⌝ }
+    requires look_up { ⌜ Lookup g (now t1) (now t2) (now map) × (length (now packed) ≡ 256) ⌝ }
+    requires inside { ⌜ 3 * (first + pixels) ≤ length (now part) ⌝ }
     ensures { λ r. ⌜ now (part .exit)
         ≡ paintedFor g (now (map .entry)) (now (packed .entry)) (now (part .entry)) first pixels ⌝ }
 {
@@ -101,8 +101,8 @@ fn paint_block(
     part: &mut [u8],
     first: usize,
 )
-    requires { ⌜ Lookup g (now t1) (now t2) (now map) × (length (now packed) ≡ 256) ⌝ }
-    requires { ⌜ 3 * (first + 65) ≤ length (now part) ⌝ }
+    requires look_up { ⌜ Lookup g (now t1) (now t2) (now map) × (length (now packed) ≡ 256) ⌝ }
+    requires inside { ⌜ 3 * (first + 65) ≤ length (now part) ⌝ }
     ensures { λ r. ⌜ now (part .exit)
         ≡ paintedFor g (now (map .entry)) (now (packed .entry)) (now (part .entry)) first 64 ⌝ }
 {
@@ -123,8 +123,8 @@ pub(crate) fn paint_part(
     packed: &[u32; 256],
     part: &mut [u8],
 )
-    requires { ⌜ Lookup g (now t1) (now t2) (now map) × (length (now packed) ≡ 256) ⌝ }
-    requires { ⌜ length (now part) % 3 ≡ 0 ⌝ }
+    requires look_up { ⌜ Lookup g (now t1) (now t2) (now map) × (length (now packed) ≡ 256) ⌝ }
+    requires threes { ⌜ length (now part) % 3 ≡ 0 ⌝ }
     ensures { λ r. ⌜ now (part .exit)
         ≡ listFrom 0 (length (now (part .entry)))
         (packedAt g (now (map .entry)) (now (packed .entry)) (now (part .entry))) ⌝ }

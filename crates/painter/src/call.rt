@@ -15,7 +15,8 @@ ghost use Rattle.painter.specs.Inner.{PaletteFits};
 
 // Hands the band of the frame on as a part.
 fn paint_band(g: Grid, map: &[u8], palette: &[u8], frame: &mut [u8], first: usize, pixels: usize)
-    requires { ⌜ PaletteFits g (now map) (now palette) × (3 * (first + pixels) ≤ length (now frame)) ⌝ }
+    requires fits { ⌜ PaletteFits g (now map) (now palette) ⌝ }
+    requires inside { ⌜ 3 * (first + pixels) ≤ length (now frame) ⌝ }
     ensures { λ r. ⌜ now (frame .exit)
         ≡ writeBand (3 * first) (3 * pixels)
         (paintAt g (now (map .entry)) (now (palette .entry)) (now (frame .entry))) (now (frame .entry)) ⌝ }

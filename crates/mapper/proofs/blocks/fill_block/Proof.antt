@@ -1,11 +1,10 @@
 -- `mapper::blocks::fill_block` meets its contract: after k turns the band of k places is written.
 -- Assumes nothing.
-use mathlib.Core.Path.{_≡_, ap, _∙_}
-use mathlib.Core.List.{List}
+use mathlib.Core.Path.{_≡_, refl, ap, _∙_}
 use Prim.Native.Nat.{ℕ, _+_, _-_, _≤_}
 use native.Mathlib.Omega.{arith}
 use denote.Ref.{now}
-use lib.ListN.{length, set}
+use lib.ListN.{length}
 use Rattle.band.specs.Band.{writeBand}
 use Rattle.band.proofs.Band.{band-length, band-empty, band-next}
 use Rattle.mapper.proofs.blocks.fill_block.Statement.{statement}
@@ -41,8 +40,8 @@ loop-again c =
     let a = c .before .before .args in
     let l = c .before .loop in (
       omega arith,
-      ap (λ (t : List ℕ). set t (a .from + l .k) (a .index)) (l .inv .1)
-          ∙ band-next (λ i. a .index) (now (a .indices)) (a .from) (l .k) (omega arith),
+      band-next (λ i. a .index) (now (a .indices)) (a .from) (l .k) (a .index) (l .indices) (l .inv .1) refl
+          (omega arith),
     )
 
 same-length : tie.Need-same-length Inv-loop μ-loop

@@ -1,13 +1,27 @@
 -- `mapper::blocks::map_block` meets its contract: pixels of one colour have one index.
 -- Assumes nothing.
-use mathlib.Core.Path.{sym, _∙_}
+use mathlib.Core.Path.{_≡_, sym, _∙_}
+use mathlib.Core.Bool.{true}
+use mathlib.Core.List.{List}
+use Prim.Native.Nat.{ℕ}
 use borrow.Author.Needs.{needs}
 use denote.Ref.{now}
-use Rattle.band.specs.Band.{indexAt}
+use Rattle.grid.specs.declared.Grid.{Grid}
+use Rattle.grid.specs.OneColour.{oneColour}
+use Rattle.band.specs.Band.{indexAt, writeBand}
 use Rattle.band.proofs.Band.{band-same}
 use Rattle.band.proofs.Pixels.{same-index, run-colour}
 use Rattle.mapper.proofs.blocks.map_block.Statement.{statement}
 use Rattle.mapper.proofs.blocks.map_block.Tie as tie
+
+-- pixels of one colour have one index
+one-index : (g : Grid) (map part old new : List ℕ) (from index : ℕ) → new ≡ writeBand from 64 (λ i. index) old
+    → index ≡ indexAt g map part from → oneColour part from ≡ true
+    → new ≡ writeBand from 64 (indexAt g map part) old
+one-index g map part old new from index is at one =
+    is
+    ∙ band-same from 64 (λ i. index) (indexAt g map part) old
+    (λ i a b. at ∙ sym (same-index g map part from i (run-colour part from one i a b)))
 
 flat-requires : tie.Need-flat-requires
 flat-requires c κs = search needs
@@ -28,12 +42,9 @@ returns : tie.Need-returns
 returns c =
     let test = c .before .before .before .before .before in
     let a = test .before .before .before .before .before .args in
-    let part = now (a .part) in
-    c .before .before .fill-block .ensures
-    ∙ band-same (a .from) 64 _ (indexAt (a .g) (now (a .map)) part) (now (a .indices))
-    (λ i l m. c .before .before .before .before .index-at .ensures
-    ∙ sym (same-index (a .g) (now (a .map)) part (a .from) i
-    (run-colour part (a .from) (sym (test .before .flat .ensures) ∙ test .if1 .taken) i l m)))
+    one-index (a .g) (now (a .map)) (now (a .part)) (now (a .indices)) _ (a .from) _
+    (c .before .before .fill-block .ensures) (c .before .before .before .before .index-at .ensures)
+    (sym (test .before .flat .ensures) ∙ test .if1 .taken)
 
 same-length-2 : tie.Need-same-length-2
 same-length-2 c = search needs

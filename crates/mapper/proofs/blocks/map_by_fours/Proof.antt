@@ -6,7 +6,7 @@ use lib.ListN.{length}
 use native.Mathlib.Omega.{arith}
 use denote.Ref.{now}
 use Rattle.band.specs.Band.{indexAt, writeBand}
-use Rattle.band.proofs.Band.{band-length, band-empty, band-join}
+use Rattle.band.proofs.Band.{band-length, band-empty, band-more}
 use Rattle.mapper.proofs.blocks.map_by_fours.Statement.{statement}
 use Rattle.mapper.proofs.blocks.map_by_fours.Tie as tie
 
@@ -48,13 +48,10 @@ loop-again : tie.Need-loop-again Inv-loop μ-loop
 loop-again c =
     let a = c .before .before .before .before .before .before .before .before .before .args in
     let l = c .before .before .before .before .before .loop in
-    let f = indexAt (a .g) (now (a .map)) (now (a .part)) in
     let more : 4 * l .k + 4 ≡ 4 * (l .k + 1) = omega arith in (
       omega arith,
-      c .before .before .map-four .ensures
-          ∙ ap (writeBand (a .from + 4 * l .k) 4 f) (l .inv .1)
-          ∙ band-join f (now (a .indices)) (a .from) (4 * l .k) 4
-          ∙ ap (λ (n : ℕ). writeBand (a .from) n f (now (a .indices))) more,
+      band-more (indexAt (a .g) (now (a .map)) (now (a .part))) (now (a .indices)) (a .from) (4 * l .k) 4
+          (4 * (l .k + 1)) (l .indices) _ (l .inv .1) (c .before .before .map-four .ensures) more,
     )
 
 same-length : tie.Need-same-length Inv-loop μ-loop

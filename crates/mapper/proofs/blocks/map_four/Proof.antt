@@ -1,12 +1,11 @@
 -- `mapper::blocks::map_four` meets its contract: the four indices are those of the part as it was, and it is written
 -- four times.
 -- Assumes nothing.
-use mathlib.Core.Path.{_∙_}
 use Prim.Native.Nat.{_+_, _<_, _^_}
 use native.Mathlib.Omega.{arith}
 use borrow.Author.Needs.{needs}
 use denote.Ref.{now}
-use lib.ListN.{set, length-set}
+use lib.ListN.{length-set}
 use Rattle.band.specs.Band.{indexAt}
 use Rattle.band.proofs.Band.{band-four}
 use Rattle.mapper.proofs.blocks.map_four.Statement.{statement}
@@ -67,13 +66,9 @@ same-length c = simp length-set
 returns : tie.Need-returns
 returns c =
     let a = start c .args in
-    let old = now (a .indices) in
-    (λ t. set
-    (set
-    (set (set old (a .i) (c .before .before .before .index-at .ensures t)) (a .i + 1)
-    (c .before .before .index-at2 .ensures t)) (a .i + 2) (c .before .index-at3 .ensures t)) (a .i + 3)
-    (c .index-at4 .ensures t))
-    ∙ band-four (indexAt (a .g) (now (a .map)) (now (a .part))) old (a .i) (omega (arith, start c .pre .1))
+    band-four (indexAt (a .g) (now (a .map)) (now (a .part))) (now (a .indices)) (a .i) _ _ _ _
+    (c .before .before .before .index-at .ensures) (c .before .before .index-at2 .ensures)
+    (c .before .index-at3 .ensures) (c .index-at4 .ensures) (omega (arith, start c .pre .1))
 
 pub map-four-spec : {M : Type 1} → statement M
 map-four-spec =

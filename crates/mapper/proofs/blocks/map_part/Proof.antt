@@ -1,12 +1,12 @@
 -- `mapper::blocks::map_part` meets its contract: after i pixels the first i places hold their indices.
 -- Assumes nothing.
 use mathlib.Core.Path.{_≡_, ap, _∙_}
-use Prim.Native.Nat.{ℕ, _+_, _-_, _≤_}
+use Prim.Native.Nat.{_-_, _≤_}
 use native.Mathlib.Omega.{arith}
 use denote.Ref.{now}
 use lib.ListN.{length}
 use Rattle.band.specs.Band.{indexAt, writeBand}
-use Rattle.band.proofs.Band.{band-length, band-empty, band-on, band-whole}
+use Rattle.band.proofs.Band.{band-length, band-empty, front-more, front-rest}
 use Rattle.mapper.proofs.blocks.map_part.Statement.{statement}
 use Rattle.mapper.proofs.blocks.map_part.Tie as tie
 
@@ -44,11 +44,10 @@ loop-less c = omega arith
 loop-again : tie.Need-loop-again Inv-loop μ-loop
 loop-again c =
     let a = c .before .before .before .before .before .before .before .before .before .args in
-    let l = c .before .before .before .before .before .loop in
-    let f = indexAt (a .g) (now (a .map)) (now (a .part)) in (
+    let l = c .before .before .before .before .before .loop in (
       omega arith,
-      c .before .before .map-block .ensures ∙ ap (writeBand (l .i) 64 f) (l .inv .1)
-          ∙ band-on f (now (a .indices)) (l .i) 64,
+      front-more (indexAt (a .g) (now (a .map)) (now (a .part))) (now (a .indices)) (l .i) 64 (l .indices) _
+          (l .inv .1) (c .before .before .map-block .ensures),
     )
 
 sub-map-some : tie.Need-sub-map-some Inv-loop μ-loop
@@ -70,14 +69,8 @@ returns : tie.Need-returns Inv-loop μ-loop
 returns c =
     let a = c .before .before .before .before .before .before .before .before .before .args in
     let l = c .before .before .before .before .before .loop in
-    let f = indexAt (a .g) (now (a .map)) (now (a .part)) in
-    let old = now (a .indices) in
-    let all : l .i + (length old - l .i) ≡ length old = omega arith in
-    c .before .before .map-some .ensures
-    ∙ ap (writeBand (l .i) (length old - l .i) f) (l .inv .1)
-    ∙ band-on f old (l .i) (length old - l .i)
-    ∙ ap (λ (n : ℕ). writeBand 0 n f old) all
-    ∙ band-whole f old
+    front-rest (indexAt (a .g) (now (a .map)) (now (a .part))) (now (a .indices)) (l .i) (l .indices) _
+    (omega (arith, l .inv .0)) (l .inv .1) (c .before .before .map-some .ensures)
 
 pub map-part-spec : {M : Type 1} → statement M
 map-part-spec =

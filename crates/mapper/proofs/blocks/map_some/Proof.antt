@@ -2,7 +2,7 @@
 -- Assumes nothing.
 use mathlib.Core.Path.{_≡_, ap, _∙_}
 use Prim.Native.Nat.{ℕ, _+_, _-_, _≤_}
-use lib.ListN.{length, set}
+use lib.ListN.{length}
 use native.Mathlib.Omega.{arith}
 use denote.Ref.{now}
 use Rattle.band.specs.Band.{indexAt, writeBand}
@@ -47,9 +47,8 @@ loop-again c =
     let a = s .args in
     let l = c .before .before .loop in (
       omega arith,
-      (λ t. set (l .inv .1 t) (a .from + l .k) (c .index-at .ensures t))
-          ∙ band-next (indexAt (a .g) (now (a .map)) (now (a .part))) (now (a .indices)) (a .from) (l .k)
-          (omega (arith, s .pre .1)),
+      band-next (indexAt (a .g) (now (a .map)) (now (a .part))) (now (a .indices)) (a .from) (l .k) _ (l .indices)
+          (l .inv .1) (c .index-at .ensures) (omega (arith, s .pre .1)),
     )
 
 same-length : tie.Need-same-length Inv-loop μ-loop
