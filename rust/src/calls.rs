@@ -64,7 +64,7 @@ unsafe extern "C" {
         b3: usize,
         map: *const u8,
         map_len: usize,
-        colours: usize,
+        palette_colours: usize,
         frame: *const u8,
         frame_len: usize,
         indices: *mut u8,

@@ -127,7 +127,7 @@ pub struct Band {
 pub fn map(
     grid: Grid,
     map: &[u8],
-    colours: usize,
+    palette_colours: usize,
     frame: &[u8],
     indices: &mut [u8],
     band: Band,
@@ -141,7 +141,7 @@ pub fn map(
             b3,
             map.as_ptr(),
             map.len(),
-            colours,
+            palette_colours,
             frame.as_ptr(),
             frame.len(),
             indices.as_mut_ptr(),

@@ -40,8 +40,10 @@ use Rattle.heap.proofs.put_in as put-in
 use Rattle.heap.proofs.take_out as take-out
 use Rattle.rounds.proofs.cut_boxes as cut-boxes
 use Rattle.cutter.proofs.front as front
-use Rattle.mapper.proofs.map as map
-use Rattle.mapper.proofs.paint as paint
+use Rattle.band.proofs.number.band_number as band-number
+use Rattle.band.proofs.look_up.index_at as index-at
+use Rattle.mapper.proofs.call.map as map
+use Rattle.painter.proofs.call.paint as paint
 use Rattle.lines.specs.declared.Loaded.{Loaded}
 use Rattle.lines.proofs.empty_table as empty-table
 use Rattle.lines.proofs.load_batch as load-batch
@@ -165,10 +167,18 @@ front-determined κs a r s x y p q = determined p q
 pub cut-determined : Determines {A = CutRecord × Buffers} 5 cut.Kinds.ps cut.Kinds.r cut.Reads.Learnt (λ κs r e. (r, buffers (now (e .1 .1 .1 .1 .1 .0)) (now (e .1 .1 .1 .1 .1 .1 .0)) (now (e .1 .1 .1 .1 .1 .1 .1 .0)) (now (e .1 .1 .1 .1 .1 .1 .1 .1 .0))))
 cut-determined κs a r s x y p q = both (determined (p .0) (q .0)) (determined (p .1) (q .1))
 
+-- ---- band
+pub band-number-determined : Determines 1 band-number.Kinds.ps band-number.Kinds.r band-number.Reads.Learnt (λ κs r e. r)
+band-number-determined κs a r s x y p q = determined p q
+
+pub index-at-determined : Determines 4 index-at.Kinds.ps index-at.Kinds.r index-at.Reads.Learnt (λ κs r e. r)
+index-at-determined κs a r s x y p q = determined p q
+
 -- ---- mapper
 pub map-determined : Determines {A = ℕ × List ℕ} 3 map.Kinds.ps map.Kinds.r map.Reads.Learnt (λ κs r e. (r, now (e .1 .1 .1 .1 .1 .1 .0)))
 map-determined κs a r s x y p q = both (determined (p .0) (q .0)) (determined (p .1) (q .1))
 
+-- ---- painter
 pub paint-determined : Determines {A = ℕ × List ℕ} 3 paint.Kinds.ps paint.Kinds.r paint.Reads.Learnt (λ κs r e. (r, now (e .1 .1 .1 .1 .1 .0)))
 paint-determined κs a r s x y p q = both (determined (p .0) (q .0)) (determined (p .1) (q .1))
 

@@ -25,12 +25,13 @@ use Rattle.loader.proofs.Calls.{load-no-grid, merge-no-grid}
 use Rattle.loader.proofs.Laws.{load-refused, load-tests, load-says, load-accepts, merge-refused, merge-tests, merge-says, merge-accepts}
 use Rattle.cutter.specs.Cut.{Buffers, lengthsOf, longEnough, cutNumberOn, cutNumber, refusedRecord, cutRecord, cutLater, CanCut}
 use Rattle.cutter.proofs.Laws.{cut-refuses, cut-says, cut-accepts}
-use Rattle.mapper.specs.Band.{allBelow, bandNumber}
-use Rattle.mapper.specs.Map.{mapNumberOn, mapNumber, mapLater}
-use Rattle.mapper.specs.Paint.{paintNumberOn, paintNumber, paintLater}
-use Rattle.mapper.proofs.Laws.{map-refused, map-says, map-accepts, paint-refused, paint-says, paint-accepts}
+use Rattle.band.specs.Band.{allBelow, bandNumber}
+use Rattle.mapper.specs.Map.{mapNumberOn, mapNumber, mapLater, CanMap}
+use Rattle.mapper.proofs.Laws.{map-refused, map-says, map-accepts}
+use Rattle.painter.specs.Paint.{paintNumberOn, paintNumber, paintLater, CanPaint}
+use Rattle.painter.proofs.Laws.{paint-refused, paint-says, paint-accepts}
 use Rattle.seluvava.specs.Cut.{Lent, hasRoom, allLong, callNumberOn, callNumber, cutAnswer}
-use Rattle.promises.specs.Numbers.{Tests, applies, lowestFrom, lowestOf, noGrid, onBins, loadTests, loadApplies, mergeTests, mergeApplies, cutTests, cutApplies, callApplies, bandTests, mapApplies, paintApplies, OnGrid, CanLoad, CanMerge, CanMap, CanPaint}
+use Rattle.promises.specs.Numbers.{Tests, applies, lowestFrom, lowestOf, noGrid, onBins, loadTests, loadApplies, mergeTests, mergeApplies, cutTests, cutApplies, callApplies, bandTests, mapApplies, paintApplies, OnGrid, CanLoad, CanMerge}
 
 -- ---- a chain of refusals whose numbers do not descend gives the lowest that applies
 unfoldable chain : Tests → ℕ
@@ -144,23 +145,36 @@ module _ (b1 b2 b3 : ℕ) where
 
   module _ (map : List ℕ) where
     -- the two lengths that a band tests in turn are one test
-    band-lowest : (colours : ℕ) (fits lengths : Bool) (frame : List ℕ) (first pixels : ℕ) → ((leb 1 colours && leb colours 256) && fits) ≡ lengths → numberOn (gridOf b1 b2 b3) (λ g. bandNumber g map colours fits (length frame) first pixels) ≡ lowestOf (applies (bandTests (gridOf b1 b2 b3) map colours lengths frame first pixels))
+    band-lowest : (paletteColours : ℕ) (fits lengths : Bool) (frame : List ℕ) (first pixels : ℕ)
+        → ((leb 1 paletteColours && leb paletteColours 256) && fits) ≡ lengths
+        → numberOn (gridOf b1 b2 b3) (λ g. bandNumber g map paletteColours fits (length frame) first pixels)
+        ≡ lowestOf (applies (bandTests (gridOf b1 b2 b3) map paletteColours lengths frame first pixels))
     unfolding bandNumber bandTests chain ascends noGrid onBins numberOn onGrid gridAnswer refuse
-    band-lowest colours fits lengths frame first pixels e = go (gridOf b1 b2 b3) ∙ lowest (bandTests (gridOf b1 b2 b3) map colours lengths frame first pixels) 1 (omega arith) refl
+    band-lowest paletteColours fits lengths frame first pixels e =
+        go (gridOf b1 b2 b3)
+        ∙ lowest (bandTests (gridOf b1 b2 b3) map paletteColours lengths frame first pixels) 1 (omega arith) refl
       where
         rest : ℕ
-        rest = refuse (ltb (length frame / 3) (first + pixels)) 5 (refuse (not (allBelow colours map)) 9 0)
+        rest = refuse (ltb (length frame / 3) (first + pixels)) 5 (refuse (not (allBelow paletteColours map)) 9 0)
 
-        lent : refuse (not (leb 1 colours && leb colours 256)) 5 (refuse (not fits) 5 rest) ≡ refuse (not lengths) 5 rest
-        lent = sym (both (leb 1 colours && leb colours 256) fits 5 rest) ∙ ap (λ (b : Bool). refuse (not b) 5 rest) e
+        lent : refuse (not (leb 1 paletteColours && leb paletteColours 256)) 5 (refuse (not fits) 5 rest)
+            ≡ refuse (not lengths) 5 rest
+        lent =
+            sym (both (leb 1 paletteColours && leb paletteColours 256) fits 5 rest)
+            ∙ ap (λ (b : Bool). refuse (not b) 5 rest) e
 
-        go : (c : Chosen) → numberOn c (λ g. bandNumber g map colours fits (length frame) first pixels) ≡ chain (bandTests c map colours lengths frame first pixels)
+        go : (c : Chosen)
+            → numberOn c (λ g. bandNumber g map paletteColours fits (length frame) first pixels)
+            ≡ chain (bandTests c map paletteColours lengths frame first pixels)
         go (chosen.Accepted g) = ap (λ (n : ℕ). refuse (not (eqb (length frame % 3) 0)) 3 (refuse (not (eqb (length map) (binsOf g))) 5 n)) lent
         go chosen.Refused = refl
 
-    pub map-lowest : (colours : ℕ) (frame indices : List ℕ) (first pixels : ℕ) → mapNumber b1 b2 b3 map colours frame indices first pixels ≡ lowestOf (mapApplies b1 b2 b3 map colours frame indices first pixels)
+    pub map-lowest : (paletteColours : ℕ) (frame indices : List ℕ) (first pixels : ℕ)
+        → mapNumber b1 b2 b3 map paletteColours frame indices first pixels
+        ≡ lowestOf (mapApplies b1 b2 b3 map paletteColours frame indices first pixels)
     unfolding mapNumber mapNumberOn mapApplies
-    map-lowest colours frame indices first pixels = band-lowest colours (eqb (length indices) (length frame / 3)) _ frame first pixels refl
+    map-lowest paletteColours frame indices first pixels =
+        band-lowest paletteColours (eqb (length indices) (length frame / 3)) _ frame first pixels refl
 
     pub paint-lowest : (palette frame : List ℕ) (first pixels : ℕ) → paintNumber b1 b2 b3 map palette frame first pixels ≡ lowestOf (paintApplies b1 b2 b3 map palette frame first pixels)
     unfolding paintNumber paintNumberOn paintApplies
@@ -229,32 +243,24 @@ module _ (b1 b2 b3 : ℕ) where
     λ o. cut-accepts b1 b2 b3 k t b (o .chosen) (o .can),
   )
 
-  pub map-exactly : (map : List ℕ) (colours : ℕ) (frame indices : List ℕ) (first pixels : ℕ) → (mapNumber b1 b2 b3 map colours frame indices first pixels ≡ 0) ↔ OnGrid b1 b2 b3 (CanMap map colours frame indices first pixels)
-  map-exactly map colours frame indices first pixels = (
+  pub map-exactly : (map : List ℕ) (paletteColours : ℕ) (frame indices : List ℕ) (first pixels : ℕ)
+      → (mapNumber b1 b2 b3 map paletteColours frame indices first pixels ≡ 0)
+      ↔ OnGrid b1 b2 b3 (λ g. CanMap g map paletteColours frame indices first pixels)
+  map-exactly map paletteColours frame indices first pixels = (
     λ e.
-        let d = map-says b1 b2 b3 map colours frame indices first pixels e in
-        record {
-          g = d .g;
-          chosen = d .chosen;
-          can = record { threes = d .threes; lent = d .lent; some = d .some; few = d .few; one-each = d .one-each; inside = d .inside; below = d .below };
-        },
-    λ o.
-        let c = o .can in
-        map-accepts b1 b2 b3 map colours frame indices first pixels (o .chosen) (c .threes) (c .lent) (c .some) (c .few) (c .one-each) (c .inside) (c .below) .0,
+        let d = map-says b1 b2 b3 map paletteColours frame indices first pixels e in
+        record { g = d .g; chosen = d .chosen; can = d .can },
+    λ o. map-accepts b1 b2 b3 map paletteColours frame indices first pixels (o .chosen) (o .can) .0,
   )
 
-  pub paint-exactly : (map palette frame : List ℕ) (first pixels : ℕ) → (paintNumber b1 b2 b3 map palette frame first pixels ≡ 0) ↔ OnGrid b1 b2 b3 (CanPaint map palette frame first pixels)
+  pub paint-exactly : (map palette frame : List ℕ) (first pixels : ℕ)
+      → (paintNumber b1 b2 b3 map palette frame first pixels ≡ 0)
+      ↔ OnGrid b1 b2 b3 (λ g. CanPaint g map palette frame first pixels)
   paint-exactly map palette frame first pixels = (
     λ e.
         let d = paint-says b1 b2 b3 map palette frame first pixels e in
-        record {
-          g = d .g;
-          chosen = d .chosen;
-          can = record { threes = d .threes; lent = d .lent; some = d .some; few = d .few; whole = d .whole; inside = d .inside; below = d .below };
-        },
-    λ o.
-        let c = o .can in
-        paint-accepts b1 b2 b3 map palette frame first pixels (o .chosen) (c .threes) (c .lent) (c .some) (c .few) (c .whole) (c .inside) (c .below) .0,
+        record { g = d .g; chosen = d .chosen; can = d .can },
+    λ o. paint-accepts b1 b2 b3 map palette frame first pixels (o .chosen) (o .can) .0,
   )
 
   -- ---- a refusal writes nothing
@@ -268,8 +274,11 @@ module _ (b1 b2 b3 : ℕ) where
     pub refused-cut : (k : ℕ) (t : List ℕ) (b : Buffers) → cutNumber b1 b2 b3 k t b ≡ suc n → (cutRecord b1 b2 b3 k t b ≡ refusedRecord (suc n)) × (cutLater b1 b2 b3 k t b ≡ b)
     refused-cut k t b e = cut-refuses b1 b2 b3 k t b e
 
-    pub refused-map : (map : List ℕ) (colours : ℕ) (frame indices : List ℕ) (first pixels : ℕ) → mapNumber b1 b2 b3 map colours frame indices first pixels ≡ suc n → mapLater b1 b2 b3 map colours frame indices first pixels ≡ indices
-    refused-map map colours frame indices first pixels e = map-refused b1 b2 b3 map colours frame indices first pixels e
+    pub refused-map : (map : List ℕ) (paletteColours : ℕ) (frame indices : List ℕ) (first pixels : ℕ)
+        → mapNumber b1 b2 b3 map paletteColours frame indices first pixels ≡ suc n
+        → mapLater b1 b2 b3 map paletteColours frame indices first pixels ≡ indices
+    refused-map map paletteColours frame indices first pixels e =
+        map-refused b1 b2 b3 map paletteColours frame indices first pixels e
 
     pub refused-paint : (map palette frame : List ℕ) (first pixels : ℕ) → paintNumber b1 b2 b3 map palette frame first pixels ≡ suc n → paintLater b1 b2 b3 map palette frame first pixels ≡ frame
     refused-paint map palette frame first pixels e = paint-refused b1 b2 b3 map palette frame first pixels e

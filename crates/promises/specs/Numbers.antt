@@ -14,7 +14,7 @@ use Rattle.table.specs.Table.{viewOf}
 use Rattle.table.specs.Sound.{limit, total, sound}
 use Rattle.loader.specs.Load.{weightOf, batchOf}
 use Rattle.cutter.specs.Cut.{Buffers, lengthsOf, longEnough}
-use Rattle.mapper.specs.Band.{allBelow}
+use Rattle.band.specs.Band.{allBelow}
 use Rattle.seluvava.specs.Cut.{Lent, hasRoom}
 
 -- ---- which numbers apply
@@ -91,26 +91,29 @@ callApplies b1 b2 b3 k t l = applies (cutTests (gridOf b1 b2 b3) k t (l .buffers
 
 -- "map and paint 1, 3, 5, 9"; `lengths` are those that only one of them is lent
 unfoldable pub bandTests : Chosen → List ℕ → ℕ → Bool → List ℕ → ℕ → ℕ → Tests
-bandTests c map colours lengths frame first pixels =
+bandTests c map paletteColours lengths frame first pixels =
     (1, noGrid c)
     ∷ (3, not (eqb (length frame % 3) 0))
     ∷ (5, onBins c (λ g. not (eqb (length map) (binsOf g))))
     ∷ (5, not lengths)
     ∷ (5, ltb (length frame / 3) (first + pixels))
-    ∷ (9, not (allBelow colours map))
+    ∷ (9, not (allBelow paletteColours map))
     ∷ []
 
 -- "map is told the palette's length in colours, and anything outside 1..256 gives 5"; "index buffer exactly one byte per frame pixel"
 unfoldable pub mapApplies : ℕ → ℕ → ℕ → List ℕ → ℕ → List ℕ → List ℕ → ℕ → ℕ → ℕ → Bool
-mapApplies b1 b2 b3 map colours frame indices first pixels =
-    applies (bandTests (gridOf b1 b2 b3) map colours ((leb 1 colours && leb colours 256) && eqb (length indices) (length frame / 3)) frame first pixels)
+mapApplies b1 b2 b3 map paletteColours frame indices first pixels =
+    applies
+    (bandTests (gridOf b1 b2 b3) map paletteColours
+    ((leb 1 paletteColours && leb paletteColours 256) && eqb (length indices) (length frame / 3)) frame first pixels)
 
 -- "the palette for painting 3..768 bytes, a multiple of three"
 unfoldable pub paintApplies : ℕ → ℕ → ℕ → List ℕ → List ℕ → List ℕ → ℕ → ℕ → ℕ → Bool
 paintApplies b1 b2 b3 map palette frame first pixels =
     applies (bandTests (gridOf b1 b2 b3) map (length palette / 3) ((leb 3 (length palette) && leb (length palette) 768) && eqb (length palette % 3) 0) frame first pixels)
 
--- ---- what a call is given that nothing refuses; of a cut it is `CanCut`
+-- ---- what a call is given that nothing refuses; of a cut, a mapping and a painting it is `CanCut`, `CanMap`,
+-- `CanPaint`
 -- no 1: each size is among the seven; and on their grid, none of the call's other numbers
 pub record OnGrid (b1 b2 b3 : ℕ) (Can : Grid → Type 0) : Type 0 where
   pub g : Grid
@@ -130,23 +133,3 @@ pub record CanMerge (t s : List ℕ) (g : Grid) : Type 0 where
   pub lent : (length t ≡ 5 * binsOf g) × (length s ≡ 5 * binsOf g)
   pub are-sound : (sound limit g (viewOf t) ≡ true) × (sound limit g (viewOf s) ≡ true)
   pub fits : total g (viewOf t) + total g (viewOf s) ≤ limit
-
--- of a mapping, no 3, 5, 9
-pub record CanMap (map : List ℕ) (colours : ℕ) (frame indices : List ℕ) (first pixels : ℕ) (g : Grid) : Type 0 where
-  pub threes : length frame % 3 ≡ 0
-  pub lent : length map ≡ binsOf g
-  pub some : 1 ≤ colours
-  pub few : colours ≤ 256
-  pub one-each : length indices ≡ length frame / 3
-  pub inside : first + pixels ≤ length frame / 3
-  pub below : allBelow colours map ≡ true
-
--- of a painting, the same numbers: "the palette for painting 3..768 bytes, a multiple of three"
-pub record CanPaint (map palette frame : List ℕ) (first pixels : ℕ) (g : Grid) : Type 0 where
-  pub threes : length frame % 3 ≡ 0
-  pub lent : length map ≡ binsOf g
-  pub some : 3 ≤ length palette
-  pub few : length palette ≤ 768
-  pub whole : length palette % 3 ≡ 0
-  pub inside : first + pixels ≤ length frame / 3
-  pub below : allBelow (length palette / 3) map ≡ true

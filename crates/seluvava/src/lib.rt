@@ -11,7 +11,7 @@ ghost use lib.ListN.{length};
 ghost use Rattle.loader.specs.Load.{loadNumber, loadLater};
 ghost use Rattle.loader.specs.Merge.{mergeNumber, mergeLater};
 ghost use Rattle.mapper.specs.Map.{mapNumber, mapLater};
-ghost use Rattle.mapper.specs.Paint.{paintNumber, paintLater};
+ghost use Rattle.painter.specs.Paint.{paintNumber, paintLater};
 ghost use Rattle.cutter.specs.Cut.{buffers};
 ghost use Rattle.cutter.specs.Fronts.{filled};
 ghost use Rattle.seluvava.specs.Sizes.{binsFor, tableLenFor};
@@ -173,16 +173,30 @@ pub extern "C" fn seluvava_map(
     b2: usize,
     b3: usize,
     map: &[u8],
-    colours: usize,
+    palette_colours: usize,
     frame: &[u8],
     indices: &mut [u8],
     first: usize,
     pixels: usize,
 ) -> u8
-    ensures { λ r. ⌜ r ≡ mapNumber b1 b2 b3 (now (map .entry)) colours (now (frame .entry)) (now (indices .entry)) first pixels ⌝ }
-    ensures { λ r. ⌜ now (indices .exit) ≡ mapLater b1 b2 b3 (now (map .entry)) colours (now (frame .entry)) (now (indices .entry)) first pixels ⌝ }
+    ensures number { λ r. ⌜ r
+        ≡ mapNumber b1 b2 b3 (now (map .entry)) «palette_colours» (now (frame .entry)) (now (indices .entry))
+        first pixels ⌝ }
+    ensures later { λ r. ⌜ now (indices .exit)
+        ≡ mapLater b1 b2 b3 (now (map .entry)) «palette_colours» (now (frame .entry)) (now (indices .entry))
+        first pixels ⌝ }
 {
-    mapper::map(b1, b2, b3, map, colours, frame, indices, first, pixels)
+    mapper::map(
+        b1,
+        b2,
+        b3,
+        map,
+        palette_colours,
+        frame,
+        indices,
+        first,
+        pixels,
+    )
 }
 
 // The palette's colour at each pixel's index, in the place of a band of a frame.
@@ -197,8 +211,10 @@ pub extern "C" fn seluvava_paint(
     first: usize,
     pixels: usize,
 ) -> u8
-    ensures { λ r. ⌜ r ≡ paintNumber b1 b2 b3 (now (map .entry)) (now (palette .entry)) (now (frame .entry)) first pixels ⌝ }
-    ensures { λ r. ⌜ now (frame .exit) ≡ paintLater b1 b2 b3 (now (map .entry)) (now (palette .entry)) (now (frame .entry)) first pixels ⌝ }
+    ensures number { λ r. ⌜ r
+        ≡ paintNumber b1 b2 b3 (now (map .entry)) (now (palette .entry)) (now (frame .entry)) first pixels ⌝ }
+    ensures later { λ r. ⌜ now (frame .exit)
+        ≡ paintLater b1 b2 b3 (now (map .entry)) (now (palette .entry)) (now (frame .entry)) first pixels ⌝ }
 {
-    mapper::paint(b1, b2, b3, map, palette, frame, first, pixels)
+    painter::paint(b1, b2, b3, map, palette, frame, first, pixels)
 }
