@@ -74,7 +74,7 @@ module _ (g : Grid) where
       kept true e = absurd (omega arith)
       kept false e = refl
 
-  -- what one box holdsAt gets its index
+  -- what one box holds gets its index
   gets : (i : ℕ) (xs : List Bounds) (old : List ℕ) (p : ℕ) → p < length old → holding g xs p ≡ 1 → getD (fillFrom g i xs old) p 0 ≡ indexFrom g i xs p
   unfolding fillFrom fillOf holding indexFrom
   gets i [] old p h e = absurd (omega arith)

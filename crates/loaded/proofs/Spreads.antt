@@ -29,7 +29,7 @@ use Rattle.sums.specs.Box.{boxSum}
 use Rattle.boxes.specs.Box.{Within}
 use Rattle.boxes.specs.Holds.{holds}
 use Rattle.boxes.proofs.Within.{InBox, bin-inside}
-use Rattle.boxes.proofs.Held.{place-held, held-place}
+use Rattle.boxes.proofs.Held.{holds-in, in-holds}
 use Rattle.sums.proofs.Laws.{bins-empty}
 use Rattle.loaded.proofs.Boxes.{holdsColour, loaded-box, occupied-colour}
 use Rattle.sums.proofs.Same.{stats-same}

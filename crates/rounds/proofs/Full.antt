@@ -13,7 +13,7 @@ use Rattle.grid.specs.Grid.{Accepted, binsOf}
 use Rattle.table.specs.Cell.{View}
 use Rattle.table.specs.Sound.{limit, total}
 use Rattle.table.proofs.Soundness.{Sound}
-use Rattle.boxes.proofs.Held.{held-place}
+use Rattle.boxes.proofs.Held.{in-holds}
 use Rattle.boxes.specs.declared.sides.Bounds.{Bounds}
 use Rattle.sums.specs.Box.{statsOf, marks, occupiedIn}
 use Rattle.boxes.specs.Box.{lowSide, highSide}
