@@ -1,7 +1,7 @@
 // The index of a pixel: the map's byte at its bin, whose place two step tables and a shift lead to.
+use grid::dimension::bin_of;
 use grid::place::Grid;
 use pixels::colour::Rgb;
-use grid::dimension::bin_of;
 use pixels::colour::colour;
 ghost use mathlib.Core.Path.{_≡_};
 ghost use Prim.Native.Nat.{_+_, _*_, _<_};

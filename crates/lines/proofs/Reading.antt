@@ -7,7 +7,7 @@ use Prim.Native.Nat.{ℕ, _%_}
 use borrow.Author.Tests.{eqb-true}
 use lib.ListN.{length, take}
 use lib.Seq.{length-take-le}
-use Rattle.lines.specs.declared.Loaded.{Loaded}
+use Rattle.lines.specs.declared.batches.Loaded.{Loaded}
 use Rattle.lines.specs.Listing.{batchAnswer, batchLater, Filled}
 use Rattle.lines.specs.Reading.{Progress, progress, afterBatch, afterAll, InThrees, Came, AllCame}
 

@@ -8,7 +8,7 @@ use lib.ListN.{length, take, replicate}
 use Rattle.basics.specs.Answer.{whenDone}
 use Rattle.loader.specs.Load.{loadNumber, loadLater}
 use Rattle.cutter.specs.Cut.{Buffers, buffers, cutRecord, cutLater}
-use Rattle.lines.specs.declared.Loaded.{Loaded}
+use Rattle.lines.specs.declared.batches.Loaded.{Loaded}
 use Rattle.lines.specs.Text.{listingOf, refusedOf}
 
 -- ---- "It reads RGB triples from standard input in batches, grid 8,8,8"

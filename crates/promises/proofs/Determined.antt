@@ -18,7 +18,7 @@ use Rattle.grid.proofs.place.bins as bins
 use Rattle.grid.proofs.place.place as place
 use Rattle.pixels.proofs.colour.colour as colour
 use Rattle.grid.proofs.steps.steps as steps
-use Rattle.pixels.proofs.equal.equal_colours as flat
+use Rattle.pixels.proofs.equal.equal_colours as equal-colours
 use Rattle.table.proofs.cell_at as cell-at
 use Rattle.table.proofs.put_at as put-at
 use Rattle.table.proofs.plus as plus
@@ -33,6 +33,12 @@ use Rattle.spread.proofs.spread as spread
 use Rattle.spread.proofs.score as score
 use Rattle.spread.proofs.position_between as position-between
 use Rattle.spread.proofs.better as better
+use Rattle.boxes.proofs.sides.first_bin as first-bin
+use Rattle.boxes.proofs.sides.end_bin as end-bin
+use Rattle.boxes.proofs.sides.is_one_bin as is-one-bin
+use Rattle.boxes.proofs.sides.whole as whole
+use Rattle.boxes.proofs.bytes.packed as packed
+use Rattle.boxes.proofs.bytes.unpacked as unpacked
 use Rattle.boxes.proofs.sides.low_side as low-side
 use Rattle.boxes.proofs.sides.high_side as high-side
 use Rattle.spread.proofs.best_cut as best-cut
@@ -44,10 +50,10 @@ use Rattle.band.proofs.number.band_number as band-number
 use Rattle.band.proofs.look_up.index_at as index-at
 use Rattle.mapper.proofs.call.map as map
 use Rattle.painter.proofs.call.paint as paint
-use Rattle.lines.specs.declared.Loaded.{Loaded}
-use Rattle.lines.proofs.empty_table as empty-table
-use Rattle.lines.proofs.load_batch as load-batch
-use Rattle.lines.proofs.text as text
+use Rattle.lines.specs.declared.batches.Loaded.{Loaded}
+use Rattle.lines.proofs.batches.empty_table as empty-table
+use Rattle.lines.proofs.batches.load_batch as load-batch
+use Rattle.lines.proofs.text.text as text
 use Rattle.cutter.proofs.cut as cut
 use Rattle.seluvava.specs.declared.CutAnswer.{CutAnswer}
 use Rattle.seluvava.specs.Cut.{Lent, lent}
@@ -62,6 +68,13 @@ use Rattle.basics.specs.Determines.{Determines}
 
 both : {A B : Type 0} {a c : A} {b d : B} → a ≡ c → b ≡ d → _≡_ {A = A × B} (a, b) (c, d)
 both p q = λ i. (p i, q i)
+
+-- ---- pixels
+pub colour-determined : Determines 1 colour.Kinds.ps colour.Kinds.r colour.Reads.Learnt (λ κs r e. r)
+colour-determined κs a r s x y p q = determined p q
+
+pub equal-colours-determined : Determines 1 equal-colours.Kinds.ps equal-colours.Kinds.r equal-colours.Reads.Learnt (λ κs r e. r)
+equal-colours-determined κs a r s x y p q = determined p q
 
 -- ---- grid
 pub shift-of-determined : Determines 0 shift-of.Kinds.ps shift-of.Kinds.r shift-of.Reads.Learnt (λ κs r e. r)
@@ -85,14 +98,33 @@ bins-determined κs a r s x y p q = determined p q
 pub place-determined : Determines 0 place.Kinds.ps place.Kinds.r place.Reads.Learnt (λ κs r e. r)
 place-determined κs a r s x y p q = determined p q
 
-pub colour-determined : Determines 1 colour.Kinds.ps colour.Kinds.r colour.Reads.Learnt (λ κs r e. r)
-colour-determined κs a r s x y p q = determined p q
-
 pub steps-determined : Determines 0 steps.Kinds.ps steps.Kinds.r steps.Reads.Learnt (λ κs r e. r)
 steps-determined κs a r s x y p q = determined p q
 
-pub flat-determined : Determines 1 flat.Kinds.ps flat.Kinds.r flat.Reads.Learnt (λ κs r e. r)
-flat-determined κs a r s x y p q = determined p q
+-- ---- boxes
+pub first-bin-determined : Determines 0 first-bin.Kinds.ps first-bin.Kinds.r first-bin.Reads.Learnt (λ κs r e. r)
+first-bin-determined κs a r s x y p q = determined p q
+
+pub end-bin-determined : Determines 0 end-bin.Kinds.ps end-bin.Kinds.r end-bin.Reads.Learnt (λ κs r e. r)
+end-bin-determined κs a r s x y p q = determined p q
+
+pub is-one-bin-determined : Determines 0 is-one-bin.Kinds.ps is-one-bin.Kinds.r is-one-bin.Reads.Learnt (λ κs r e. r)
+is-one-bin-determined κs a r s x y p q = determined p q
+
+pub low-side-determined : Determines 0 low-side.Kinds.ps low-side.Kinds.r low-side.Reads.Learnt (λ κs r e. r)
+low-side-determined κs a r s x y p q = determined p q
+
+pub high-side-determined : Determines 0 high-side.Kinds.ps high-side.Kinds.r high-side.Reads.Learnt (λ κs r e. r)
+high-side-determined κs a r s x y p q = determined p q
+
+pub whole-determined : Determines 0 whole.Kinds.ps whole.Kinds.r whole.Reads.Learnt (λ κs r e. r)
+whole-determined κs a r s x y p q = determined p q
+
+pub packed-determined : Determines 0 packed.Kinds.ps packed.Kinds.r packed.Reads.Learnt (λ κs r e. r)
+packed-determined κs a r s x y p q = determined p q
+
+pub unpacked-determined : Determines 0 unpacked.Kinds.ps unpacked.Kinds.r unpacked.Reads.Learnt (λ κs r e. r)
+unpacked-determined κs a r s x y p q = determined p q
 
 -- ---- table
 pub cell-at-determined : Determines 1 cell-at.Kinds.ps cell-at.Kinds.r cell-at.Reads.Learnt (λ κs r e. r)
@@ -139,12 +171,6 @@ position-between-determined κs a r s x y p q = determined p q
 
 pub better-determined : Determines 0 better.Kinds.ps better.Kinds.r better.Reads.Learnt (λ κs r e. r)
 better-determined κs a r s x y p q = determined p q
-
-pub low-side-determined : Determines 0 low-side.Kinds.ps low-side.Kinds.r low-side.Reads.Learnt (λ κs r e. r)
-low-side-determined κs a r s x y p q = determined p q
-
-pub high-side-determined : Determines 0 high-side.Kinds.ps high-side.Kinds.r high-side.Reads.Learnt (λ κs r e. r)
-high-side-determined κs a r s x y p q = determined p q
 
 pub best-cut-determined : Determines 2 best-cut.Kinds.ps best-cut.Kinds.r best-cut.Reads.Learnt (λ κs r e. r)
 best-cut-determined κs a r s x y p q = determined p q

@@ -1,9 +1,9 @@
--- `lines::empty_table` meets its contract: it is that many zeros.
+-- `lines::batches::empty_table` meets its contract: it is that many zeros.
 -- Assumes nothing.
 use mathlib.Core.Path.{refl}
 use Rattle.lines.specs.Listing.{emptyTable}
-use Rattle.lines.proofs.empty_table.Statement.{statement}
-use Rattle.lines.proofs.empty_table.Tie as tie
+use Rattle.lines.proofs.batches.empty_table.Statement.{statement}
+use Rattle.lines.proofs.batches.empty_table.Tie as tie
 
 returns : tie.Need-returns
 unfolding emptyTable

@@ -1,4 +1,4 @@
--- `lines::listing` meets its contract: after each turn the first line and the lines so far are put.
+-- `lines::listing::listing` meets its contract: after each turn the first line and the lines so far are put.
 -- Assumes nothing.
 use mathlib.Core.Path.{_≡_, _∙_}
 use Prim.Native.Nat.{_+_, _-_, _*_, _≤_}
@@ -8,8 +8,8 @@ use borrow.Author.Needs.{needs}
 use Rattle.lines.specs.Text.{linesOf, listingOf}
 use Rattle.lines.specs.Put.{Put}
 use Rattle.lines.proofs.Putting.{put-none, put-more, put-length, put-whole}
-use Rattle.lines.proofs.listing.Statement.{statement}
-use Rattle.lines.proofs.listing.Tie as tie
+use Rattle.lines.proofs.listing.listing.Statement.{statement}
+use Rattle.lines.proofs.listing.listing.Tie as tie
 
 abbrev Inv-loop : tie.InvT-loop
 Inv-loop boxes palette counts out₀ at₀ i₀ out at i = Put out₀ at₀ (linesOf palette counts i) out at × (at ≤ 128 * (i + 1)) × (i ≤ boxes)

@@ -1,4 +1,4 @@
--- `lines::word` meets its contract: after each byte the bytes so far are put.
+-- `lines::parts::word` meets its contract: after each byte the bytes so far are put.
 -- Assumes nothing.
 use mathlib.Core.Path.{refl}
 use mathlib.Core.List.{List}
@@ -11,8 +11,8 @@ use lib.ListN.{length, getD, set, take}
 use lib.Seq.{take-suc, take-all}
 use Rattle.lines.specs.Put.{Put}
 use Rattle.lines.proofs.Putting.{put-one, put-more, put-length}
-use Rattle.lines.proofs.word.Statement.{statement}
-use Rattle.lines.proofs.word.Tie as tie
+use Rattle.lines.proofs.parts.word.Statement.{statement}
+use Rattle.lines.proofs.parts.word.Tie as tie
 
 next : {a b : List ℕ} {at : ℕ} (bytes : List ℕ) (i : ℕ) → Put a at (take i bytes) b (at + i) → i < length bytes
     → Put a at (take (i + 1) bytes) (set b (at + i) (getD bytes i 0)) (at + (i + 1))

@@ -1,10 +1,10 @@
--- `lines::number` meets its contract: no u64 has more than 20 digits.
+-- `lines::parts::number` meets its contract: no u64 has more than 20 digits.
 -- Assumes nothing.
 use native.Mathlib.Omega.{arith}
 use Rattle.lines.proofs.Decimal.{decimal-20}
 use borrow.Author.Needs.{needs}
-use Rattle.lines.proofs.number.Statement.{statement}
-use Rattle.lines.proofs.number.Tie as tie
+use Rattle.lines.proofs.parts.number.Statement.{statement}
+use Rattle.lines.proofs.parts.number.Tie as tie
 
 digits-requires : tie.Need-digits-requires
 digits-requires c κs = omega (arith, decimal-20 (c .before .before .args .n) (c .before .before .fits .n .fits))

@@ -1,4 +1,4 @@
--- `lines::load_batch` meets its contract: the load of the filled front, and the lower of the two numbers.
+-- `lines::batches::load_batch` meets its contract: the load of the filled front, and the lower of the two numbers.
 -- Assumes nothing.
 use mathlib.Core.Path.{ap, _∙_}
 use mathlib.Core.List.{List}
@@ -9,8 +9,8 @@ use denote.Ref.{now}
 use lib.Dec.{eqb}
 use lib.ListN.{length, take}
 use Rattle.lines.specs.Listing.{lowerOf, partNumber, partLater, batchAnswer, batchLater}
-use Rattle.lines.proofs.load_batch.Statement.{statement}
-use Rattle.lines.proofs.load_batch.Tie as tie
+use Rattle.lines.proofs.batches.load_batch.Statement.{statement}
+use Rattle.lines.proofs.batches.load_batch.Tie as tie
 
 sub-load : tie.Need-sub-load
 sub-load c = search needs

@@ -1,4 +1,4 @@
--- `lines::total` meets its contract: the sum so far is that of the counts passed, each below 2^32.
+-- `lines::listing::total` meets its contract: the sum so far is that of the counts passed, each below 2^32.
 -- Assumes nothing.
 use mathlib.Core.Path.{_≡_, refl, sym, ap, _∙_}
 use Prim.Native.Nat.{ℕ, _+_, _-_, _*_, _≤_}
@@ -10,8 +10,8 @@ use lib.ListN.{getD}
 use Rattle.basics.specs.Range.{sumFrom}
 use Rattle.basics.proofs.Range.{sum-last}
 use Rattle.lines.specs.Text.{totalOf}
-use Rattle.lines.proofs.total.Statement.{statement}
-use Rattle.lines.proofs.total.Tie as tie
+use Rattle.lines.proofs.listing.total.Statement.{statement}
+use Rattle.lines.proofs.listing.total.Tie as tie
 
 next : (counts : List ℕ) (i : ℕ) → totalOf counts (i + 1) ≡ totalOf counts i + getD counts i 0
 unfolding totalOf

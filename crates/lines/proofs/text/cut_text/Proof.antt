@@ -1,12 +1,12 @@
--- `lines::cut_text` meets its contract: a cut into 16 boxes finds no more, and for these there is room.
+-- `lines::text::cut_text` meets its contract: a cut into 16 boxes finds no more, and for these there is room.
 -- Assumes nothing.
 use native.Mathlib.Omega.{arith}
 use Rattle.cutter.proofs.Few.{few}
 use borrow.Author.Needs.{needs}
 use Rattle.lines.specs.Listing.{lentZeros}
 use Rattle.lines.proofs.Texts.{cut-refused, cut-listed}
-use Rattle.lines.proofs.cut_text.Statement.{statement}
-use Rattle.lines.proofs.cut_text.Tie as tie
+use Rattle.lines.proofs.text.cut_text.Statement.{statement}
+use Rattle.lines.proofs.text.cut_text.Tie as tie
 
 slice-aggregate-cut : tie.Need-slice-aggregate-cut
 slice-aggregate-cut c = search needs

@@ -1,11 +1,11 @@
--- `lines::field` meets its contract: a space, and the number behind it.
+-- `lines::parts::field` meets its contract: a space, and the number behind it.
 -- Assumes nothing.
 use native.Mathlib.Omega.{arith}
 use Rattle.lines.specs.Text.{fieldOf}
 use Rattle.lines.proofs.Putting.{put-more}
 use borrow.Author.Needs.{needs}
-use Rattle.lines.proofs.field.Statement.{statement}
-use Rattle.lines.proofs.field.Tie as tie
+use Rattle.lines.proofs.parts.field.Statement.{statement}
+use Rattle.lines.proofs.parts.field.Tie as tie
 
 byte-requires : tie.Need-byte-requires
 byte-requires c κs = search needs

@@ -1,11 +1,11 @@
--- `lines::refused` meets its contract: its three parts one behind the other, each with its room.
+-- `lines::listing::refused` meets its contract: its three parts one behind the other, each with its room.
 -- Assumes nothing.
 use native.Mathlib.Omega.{arith}
 use Rattle.lines.specs.Text.{refusedOf, refusedWord, newline}
 use Rattle.lines.proofs.Putting.{put-more, put-whole}
 use borrow.Author.Needs.{needs}
-use Rattle.lines.proofs.refused.Statement.{statement}
-use Rattle.lines.proofs.refused.Tie as tie
+use Rattle.lines.proofs.listing.refused.Statement.{statement}
+use Rattle.lines.proofs.listing.refused.Tie as tie
 
 slice-aggregate-word : tie.Need-slice-aggregate-word
 slice-aggregate-word c = search needs

@@ -1,11 +1,11 @@
--- `lines::line` meets its contract: its six parts one behind the other, each with its room.
+-- `lines::listing::line` meets its contract: its six parts one behind the other, each with its room.
 -- Assumes nothing.
 use native.Mathlib.Omega.{arith}
 use Rattle.lines.specs.Text.{lineOf, newline}
 use Rattle.lines.proofs.Putting.{put-more}
 use borrow.Author.Needs.{needs}
-use Rattle.lines.proofs.line.Statement.{statement}
-use Rattle.lines.proofs.line.Tie as tie
+use Rattle.lines.proofs.listing.line.Statement.{statement}
+use Rattle.lines.proofs.listing.line.Tie as tie
 
 number-requires : tie.Need-number-requires
 number-requires c κs = search needs

@@ -1,8 +1,8 @@
--- `lines::lower` meets its contract, case by case.
+-- `lines::batches::lower` meets its contract, case by case.
 -- Assumes nothing.
 use Rattle.lines.proofs.Texts.{lower-first, lower-second, lower-other, lower-same}
-use Rattle.lines.proofs.lower.Statement.{statement}
-use Rattle.lines.proofs.lower.Tie as tie
+use Rattle.lines.proofs.batches.lower.Statement.{statement}
+use Rattle.lines.proofs.batches.lower.Tie as tie
 
 returns : tie.Need-returns
 returns c = lower-first _ _ (c .if1 .taken)

@@ -1,11 +1,11 @@
--- `lines::head` meets its contract: its five parts one behind the other, each with its room.
+-- `lines::listing::head` meets its contract: its five parts one behind the other, each with its room.
 -- Assumes nothing.
 use native.Mathlib.Omega.{arith}
 use Rattle.lines.specs.Text.{headOf, boxesWord, totalWord, newline}
 use Rattle.lines.proofs.Putting.{put-more}
 use borrow.Author.Needs.{needs}
-use Rattle.lines.proofs.head.Statement.{statement}
-use Rattle.lines.proofs.head.Tie as tie
+use Rattle.lines.proofs.listing.head.Statement.{statement}
+use Rattle.lines.proofs.listing.head.Tie as tie
 
 slice-aggregate-word : tie.Need-slice-aggregate-word
 slice-aggregate-word c = search needs

@@ -1,9 +1,9 @@
--- `lines::text` meets its contract: the line of a refusal, and else the text of the cut.
+-- `lines::text::text` meets its contract: the line of a refusal, and else the text of the cut.
 -- Assumes nothing.
 use borrow.Author.Needs.{needs}
 use Rattle.lines.proofs.Texts.{text-refused, text-cut}
-use Rattle.lines.proofs.text.Statement.{statement}
-use Rattle.lines.proofs.text.Tie as tie
+use Rattle.lines.proofs.text.text.Statement.{statement}
+use Rattle.lines.proofs.text.text.Tie as tie
 
 refused-requires : tie.Need-refused-requires
 refused-requires c κs = search needs

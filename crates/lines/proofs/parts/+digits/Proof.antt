@@ -9,13 +9,13 @@ use borrow.Fn.PlainCycle.{Measures, is, falls, and}
 use lib.ListN.{length, length-append}
 use Rattle.lines.proofs.Decimal.{decimal-one, decimal-more, tenth}
 use Rattle.lines.proofs.Putting.{put-more, put-length}
-use Rattle.lines.proofs.digits.Reads as digits
-use Rattle.lines.proofs.digits.Kinds as digits-kinds
-use Rattle.lines.proofs.+digits.Lts-digits as digits-lts
-use Rattle.lines.proofs.byte.Reads as byte-reads
-use Rattle.lines.proofs.last_digit.Reads as last-digit-reads
-use Rattle.lines.proofs.+digits.{statement}
-use Rattle.lines.proofs.+digits.Tie.{close}
+use Rattle.lines.proofs.parts.digits.Reads as digits
+use Rattle.lines.proofs.parts.digits.Kinds as digits-kinds
+use Rattle.lines.proofs.parts.+digits.Lts-digits as digits-lts
+use Rattle.lines.proofs.parts.byte.Reads as byte-reads
+use Rattle.lines.proofs.parts.last_digit.Reads as last-digit-reads
+use Rattle.lines.proofs.parts.+digits.{statement}
+use Rattle.lines.proofs.parts.+digits.Tie.{close}
 
 abbrev μ-digits : Measures 1 digits-kinds.ps ℕ
 μ-digits κs a = a .1 .1 .0
