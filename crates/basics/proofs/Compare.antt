@@ -82,7 +82,8 @@ not-less-trans (inf true) (fin t b d) z n p q = impossible p
 not-less-trans (fin s a e) (fin t b d) nan n p q = refl
 not-less-trans (fin s a e) (fin t b d) (inf u) n p q = q
 not-less-trans (fin s a e) (fin t b d) (fin u c f) n p q =
-    below-through s t u (a * up e) (b * up d) (c * up f) (down e) (down d) (down f) (den-pos (fin s a e)) (den-pos (fin t b d)) (den-pos (fin u c f)) p q
+    below-through s t u (a * up e) (b * up d) (c * up f) (down e) (down d) (down f) (den-pos (fin s a e))
+    (den-pos (fin t b d)) (den-pos (fin u c f)) p q
 
 below-asym : (s t : Bool) (a b : ℕ) → below s a t b ≡ true → below t b s a ≡ false
 below-asym false false a b p = let l = ltb-true a b p in le-ltb b a (omega arith)

@@ -24,6 +24,7 @@ passed true n rest e = absurd (never e)
 passed false n rest e = (refl, e)
 
 -- the length after a call that, where it is done, leaves as many numbers as there were
-pub same-length : (n : ℕ) (t e : List ℕ) → ((m : ℕ) → n ≡ suc m → e ≡ t) → (n ≡ 0 → length e ≡ length t) → length e ≡ length t
+pub same-length : (n : ℕ) (t e : List ℕ) → ((m : ℕ) → n ≡ suc m → e ≡ t) → (n ≡ 0 → length e ≡ length t)
+    → length e ≡ length t
 same-length zero t e r d = d refl
 same-length (suc n) t e r d = ap length (r n refl)

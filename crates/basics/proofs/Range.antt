@@ -4,7 +4,8 @@ use mathlib.Core.Path.{_≡_, refl, sym, ap, _∙_}
 use mathlib.Core.Bool.{Bool, true, false, cond, _&&_}
 use mathlib.Core.List.{List}
 use Prim.Native.Nat.{ℕ, zero, suc, _+_, _-_, _*_, _≤_, _<_}
-use native.Mathlib.Nat.{add-zero, zero-add, add-assoc, add-suc, suc-add, le-of-suc-le-suc, zero-mul, suc-mul, sub-self, mul-zero, mul-add, add-comm}
+use native.Mathlib.Nat.{add-zero, zero-add, add-assoc, add-suc, suc-add, le-of-suc-le-suc, zero-mul, suc-mul, sub-self}
+use native.Mathlib.Nat.{mul-zero, mul-add, add-comm}
 use native.Mathlib.Omega.{arith}
 use native.Mathlib.Decide.{ℕ-discrete}
 use borrow.Author.Tests.{eq-eqb, ne-eqb}
@@ -27,7 +28,8 @@ list-at i (suc n) f (suc k) d h =
     list-at (suc i) n f k d (le-of-suc-le-suc h) ∙ ap f (suc-add i k ∙ sym (add-suc i k))
 
 -- a list that has f k at each k of its n places
-pub list-is : {A : Type 0} (n : ℕ) (f : ℕ → A) (l : List A) (d : A) → length l ≡ n → ((k : ℕ) → k < n → getD l k d ≡ f k) → l ≡ listFrom 0 n f
+pub list-is : {A : Type 0} (n : ℕ) (f : ℕ → A) (l : List A) (d : A) → length l ≡ n
+    → ((k : ℕ) → k < n → getD l k d ≡ f k) → l ≡ listFrom 0 n f
 list-is n f l d e h =
     ext-getD d l (listFrom 0 n f) (e ∙ sym (length-list 0 n f))
     (λ k b. h k (rw e at b) ∙ ap f (sym (zero-add k)) ∙ sym (list-at 0 n f k d (rw e at b)))
@@ -36,7 +38,8 @@ list-is n f l d e h =
 abbrev pub Filled : List ℕ → (ℕ → ℕ) → ℕ → Type 0
 Filled l f n = (k : ℕ) → k < n → getD l k 0 ≡ f k
 
-pub filled-more : (l : List ℕ) (f : ℕ → ℕ) (n x : ℕ) → n < length l → x ≡ f n → Filled l f n → Filled (set l n x) f (n + 1)
+pub filled-more : (l : List ℕ) (f : ℕ → ℕ) (n x : ℕ) → n < length l → x ≡ f n → Filled l f n
+    → Filled (set l n x) f (n + 1)
 filled-more l f n x h e old k b = go (ℕ-discrete k n)
   where
     go : Dec (k ≡ n) → getD (set l n x) k 0 ≡ f k
@@ -56,7 +59,9 @@ unfolding sumFrom
 sum-append i zero m f = rw (zero-add m, add-zero i) (sym (zero-add (sumFrom i m f)))
 sum-append i (suc n) m f =
     ap (λ (k : ℕ). sumFrom i k f) (suc-add n m)
-    ∙ ap (λ (x : ℕ). f i + x) (sum-append (suc i) n m f ∙ ap (λ (k : ℕ). sumFrom (suc i) n f + sumFrom k m f) (suc-add i n ∙ sym (add-suc i n)))
+    ∙ ap (λ (x : ℕ). f i + x)
+    (sum-append (suc i) n m f
+    ∙ ap (λ (k : ℕ). sumFrom (suc i) n f + sumFrom k m f) (suc-add i n ∙ sym (add-suc i n)))
     ∙ sym (add-assoc (f i) (sumFrom (suc i) n f) (sumFrom (i + suc n) m f))
 
 pub sum-last : (i n : ℕ) (f : ℕ → ℕ) → sumFrom i (n + 1) f ≡ sumFrom i n f + f (i + n)
@@ -66,7 +71,8 @@ sum-last i n f = sum-append i n 1 f ∙ ap (λ (x : ℕ). sumFrom i n f + x) (ad
 -- the sum up to k is that up to i and from there on
 pub sum-split : (i k : ℕ) (f : ℕ → ℕ) → i ≤ k → sumFrom 0 k f ≡ sumFrom 0 i f + sumFrom i (k - i) f
 sum-split i k f h =
-    ap (λ (n : ℕ). sumFrom 0 n f) (parts i k h) ∙ sum-append 0 i (k - i) f ∙ ap (λ (n : ℕ). sumFrom 0 i f + sumFrom n (k - i) f) (zero-add i)
+    ap (λ (n : ℕ). sumFrom 0 n f) (parts i k h) ∙ sum-append 0 i (k - i) f
+    ∙ ap (λ (n : ℕ). sumFrom 0 i f + sumFrom n (k - i) f) (zero-add i)
   where
     parts : (i k : ℕ) → i ≤ k → k ≡ i + (k - i)
     parts i k h = omega arith
@@ -78,7 +84,8 @@ run-none i f = rw (sub-self i) refl
 
 pub run-more : (i k : ℕ) (f : ℕ → ℕ) → i ≤ k → sumFrom i ((k + 1) - i) f ≡ sumFrom i (k - i) f + f k
 run-more i k f h =
-    ap (λ (n : ℕ). sumFrom i n f) (longer i k h) ∙ sum-last i (k - i) f ∙ ap (λ (n : ℕ). sumFrom i (k - i) f + f n) (there i k h)
+    ap (λ (n : ℕ). sumFrom i n f) (longer i k h) ∙ sum-last i (k - i) f
+    ∙ ap (λ (n : ℕ). sumFrom i (k - i) f + f n) (there i k h)
   where
     longer : (i k : ℕ) → i ≤ k → (k + 1) - i ≡ (k - i) + 1
     longer i k h = omega arith
@@ -121,7 +128,8 @@ sum-le i (suc n) f g h =
 pub sum-scale : (k i n : ℕ) (f : ℕ → ℕ) → sumFrom i n (λ p. k * f p) ≡ k * sumFrom i n f
 unfolding sumFrom
 sum-scale k i zero f = sym (mul-zero k)
-sum-scale k i (suc n) f = ap (λ (x : ℕ). k * f i + x) (sum-scale k (suc i) n f) ∙ sym (mul-add k (f i) (sumFrom (suc i) n f))
+sum-scale k i (suc n) f = ap (λ (x : ℕ). k * f i + x) (sum-scale k (suc i) n f)
+    ∙ sym (mul-add k (f i) (sumFrom (suc i) n f))
 
 -- more terms
 pub sum-grow : (i n m : ℕ) (f : ℕ → ℕ) → n ≤ m → sumFrom i n f ≤ sumFrom i m f
@@ -145,7 +153,8 @@ sum-blocks (suc n) m i f =
 pub sum-shift : (a i n : ℕ) (f : ℕ → ℕ) → sumFrom (a + i) n f ≡ sumFrom i n (λ k. f (a + k))
 unfolding sumFrom
 sum-shift a i zero f = refl
-sum-shift a i (suc n) f = ap (λ (x : ℕ). f (a + i) + x) (ap (λ (x : ℕ). sumFrom x n f) (sym (add-suc a i)) ∙ sum-shift a (suc i) n f)
+sum-shift a i (suc n) f =
+    ap (λ (x : ℕ). f (a + i) + x) (ap (λ (x : ℕ). sumFrom x n f) (sym (add-suc a i)) ∙ sum-shift a (suc i) n f)
 
 -- no term is larger than the sum
 pub term-le : (i n : ℕ) (f : ℕ → ℕ) (p : ℕ) → i ≤ p → p < i + n → f p ≤ sumFrom i n f
@@ -178,7 +187,8 @@ unfolding sumFrom
 sum-hit i zero q x a b = absurd (omega arith)
 sum-hit i (suc n) q x a b = go (ℕ-discrete q i) (λ k. sum-hit (suc i) n q x k (omega (arith, suc-add i n, add-suc i n)))
   where
-    go : Dec (q ≡ i) → (suc i ≤ q → sumFrom (suc i) n (λ p. hit q p x) ≡ x) → hit q i x + sumFrom (suc i) n (λ p. hit q p x) ≡ x
+    go : Dec (q ≡ i) → (suc i ≤ q → sumFrom (suc i) n (λ p. hit q p x) ≡ x)
+        → hit q i x + sumFrom (suc i) n (λ p. hit q p x) ≡ x
     go (yes e) ih = omega (arith, hit-yes q i x e, sum-miss (suc i) n q x (omega arith))
     go (no m) ih = omega (arith, hit-no q i x m, ih (omega arith))
 
@@ -242,7 +252,9 @@ unfolding allFrom
 all-append i zero m f = rw (zero-add m, add-zero i) refl
 all-append i (suc n) m f =
     ap (λ (k : ℕ). allFrom i k f) (suc-add n m)
-    ∙ ap (λ (x : Bool). f i && x) (all-append (suc i) n m f ∙ ap (λ (k : ℕ). allFrom (suc i) n f && allFrom k m f) (suc-add i n ∙ sym (add-suc i n)))
+    ∙ ap (λ (x : Bool). f i && x)
+    (all-append (suc i) n m f
+    ∙ ap (λ (k : ℕ). allFrom (suc i) n f && allFrom k m f) (suc-add i n ∙ sym (add-suc i n)))
     ∙ sym (and-assoc (f i) (allFrom (suc i) n f) (allFrom (i + suc n) m f))
 
 pub all-last : (i n : ℕ) (f : ℕ → Bool) → allFrom i (n + 1) f ≡ (allFrom i n f && f (i + n))

@@ -49,7 +49,11 @@ module _ {x : Bounds} {r gr b : ℕ} where
   pub in-holds : InBox x r gr b → holds x r gr b ≡ true
   unfolding holds
   in-holds i =
-      rw (lies-by (x .r0) (x .r1) r (i .one .0) (i .one .1), lies-by (x .g0) (x .g1) gr (i .two .0) (i .two .1), lies-by (x .b0) (x .b1) b (i .three .0) (i .three .1))
+      rw (
+        lies-by (x .r0) (x .r1) r (i .one .0) (i .one .1),
+        lies-by (x .g0) (x .g1) gr (i .two .0) (i .two .1),
+        lies-by (x .b0) (x .b1) b (i .three .0) (i .three .1),
+      )
       refl
 
 -- the bin at a place is one of the box
@@ -139,7 +143,8 @@ module _ (g : Grid) (x : Bounds) (d c : ℕ) (h : minAt x d ≤ c) (l : c ≤ ma
       go (upper e f) = rw (e, f) refl
 
   -- a cut keeps the number of boxes that hold a place
-  pub cut-holding : cond (holdsAt g x p) 1 0 ≡ cond (holdsAt g (lowSide x d c) p) 1 0 + cond (holdsAt g (highSide x d c) p) 1 0
+  pub cut-holding : cond (holdsAt g x p) 1 0
+      ≡ cond (holdsAt g (lowSide x d c) p) 1 0 + cond (holdsAt g (highSide x d c) p) 1 0
   cut-holding = go side
     where
       go : {a b c : Bool} → Side a b c → cond a 1 0 ≡ cond b 1 0 + cond c 1 0

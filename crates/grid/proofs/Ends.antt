@@ -11,11 +11,13 @@ use Rattle.grid.specs.Grid.{gridAnswer, onGrid, numberOn}
 
 -- ---- what the code shows of a call
 module _ {A : Type 0} (c : Chosen) (f : Grid → ℕ) (done : Grid → A) (kept : A) where
-  pub grid-refused : c ≡ chosen.Refused → (1 ≡ numberOn c f) × (kept ≡ onGrid c kept (λ g. whenDone (f g) (done g) kept))
+  pub grid-refused : c ≡ chosen.Refused
+      → (1 ≡ numberOn c f) × (kept ≡ onGrid c kept (λ g. whenDone (f g) (done g) kept))
   unfolding numberOn onGrid gridAnswer
   grid-refused e = (rw e refl, rw e refl)
 
-  pub ends : {g : Grid} → c ≡ chosen.Accepted g → {n : ℕ} → f g ≡ n → {e : A} → e ≡ whenDone n (done g) kept → (n ≡ numberOn c f) × (e ≡ onGrid c kept (λ g. whenDone (f g) (done g) kept))
+  pub ends : {g : Grid} → c ≡ chosen.Accepted g → {n : ℕ} → f g ≡ n → {e : A} → e ≡ whenDone n (done g) kept
+      → (n ≡ numberOn c f) × (e ≡ onGrid c kept (λ g. whenDone (f g) (done g) kept))
   unfolding numberOn onGrid
   ends p q r = (rw (p, q) refl, rw (p, q, r) refl)
 
@@ -28,7 +30,8 @@ done-leaves : {A : Type 0} (m : ℕ) (x t : A) → m ≡ 0 → whenDone m x t �
 unfolding whenDone
 done-leaves m x t e = rw e refl
 
-pub call-refused : {A : Type 0} (c : Chosen) (f : Grid → ℕ) (done : Grid → A) (t : A) {n : ℕ} → numberOn c f ≡ suc n → onGrid c t (λ g. whenDone (f g) (done g) t) ≡ t
+pub call-refused : {A : Type 0} (c : Chosen) (f : Grid → ℕ) (done : Grid → A) (t : A) {n : ℕ} → numberOn c f ≡ suc n
+    → onGrid c t (λ g. whenDone (f g) (done g) t) ≡ t
 unfolding numberOn onGrid
 call-refused (chosen.Accepted g) f done t e = left-alone (f g) (done g) t e
 call-refused chosen.Refused f done t e = refl
@@ -39,9 +42,11 @@ pub record OnGrid {A : Type 0} (c : Chosen) (f : Grid → ℕ) (done : Grid → 
   pub number : f g ≡ 0
   pub later : onGrid c t (λ h. whenDone (f h) (done h) t) ≡ done g
 
-pub call-done : {A : Type 0} (c : Chosen) (f : Grid → ℕ) (done : Grid → A) (t : A) → numberOn c f ≡ 0 → OnGrid c f done t
+pub call-done : {A : Type 0} (c : Chosen) (f : Grid → ℕ) (done : Grid → A) (t : A) → numberOn c f ≡ 0
+    → OnGrid c f done t
 unfolding numberOn onGrid gridAnswer
-call-done (chosen.Accepted g) f done t e = record { g = g; is = refl; number = e; later = done-leaves (f g) (done g) t e }
+call-done (chosen.Accepted g) f done t e =
+    record { g = g; is = refl; number = e; later = done-leaves (f g) (done g) t e }
 call-done chosen.Refused f done t e = absurd (never e)
   where
     never : _≡_ {A = ℕ} 1 0 → ⊥

@@ -3,7 +3,8 @@
 use mathlib.Core.Path.{_≡_, refl, sym, ap, subst, _∙_}
 use mathlib.Core.List.{List}
 use Prim.Native.Nat.{ℕ, zero, suc, _+_, _*_, _/_, _%_, _≤_, _<_}
-use native.Mathlib.Nat.{add-zero, mul-le-mul, div-lt-iff-lt-mul, mod-lt, div-add-mod', add-mul, mul-assoc, mul-one, zero-add}
+use native.Mathlib.Nat.{add-zero, mul-le-mul, div-lt-iff-lt-mul, mod-lt, div-add-mod', add-mul, mul-assoc, mul-one}
+use native.Mathlib.Nat.{zero-add}
 use native.Mathlib.Omega.{arith}
 use lib.Arith.{digits-lt, digits-div, digits-mod}
 use lib.ListN.{getD}
@@ -12,7 +13,8 @@ use Rattle.pixels.specs.declared.colour.Rgb.{Rgb}
 use Rattle.grid.specs.declared.dimension.Shift.{Shift}
 use Rattle.grid.specs.Size.{choices, shiftIn, shiftOf, binOf}
 use Rattle.basics.specs.Dimension.{choose}
-use Rattle.grid.specs.Grid.{sizeAt, shiftAt, gridWith, gridOf, rgbGrid, Accepted, binsOf, placeOf, binAt, Inside, colourPlace, strideAt, stepsOf, StepsOf}
+use Rattle.grid.specs.Grid.{sizeAt, shiftAt, gridWith, gridOf, rgbGrid, Accepted, binsOf, placeOf, binAt, Inside}
+use Rattle.grid.specs.Grid.{colourPlace, strideAt, stepsOf, StepsOf}
 use Rattle.pixels.specs.Colour.{componentAt}
 use Rattle.grid.specs.declared.dimension.Shift.the-variants as shift
 use Rattle.grid.specs.declared.place.Chosen.the-variants as chosen
@@ -32,7 +34,8 @@ pub record Chose (b1 b2 b3 : ℕ) (g : Grid) : Type 0 where
   pub two : g .size2 ≡ b2
   pub three : g .size3 ≡ b3
 
-each-size : (b1 b2 b3 s1 s2 s3 : ℕ) → shiftOf b1 ≡ shift.By s1 → shiftOf b2 ≡ shift.By s2 → shiftOf b3 ≡ shift.By s3 → (d : ℕ) → shiftOf (choose d b1 b2 b3) ≡ shift.By (choose d s1 s2 s3)
+each-size : (b1 b2 b3 s1 s2 s3 : ℕ) → shiftOf b1 ≡ shift.By s1 → shiftOf b2 ≡ shift.By s2 → shiftOf b3 ≡ shift.By s3
+    → (d : ℕ) → shiftOf (choose d b1 b2 b3) ≡ shift.By (choose d s1 s2 s3)
 unfolding choose
 each-size b1 b2 b3 s1 s2 s3 p q r zero = p
 each-size b1 b2 b3 s1 s2 s3 p q r (suc zero) = q
@@ -41,7 +44,8 @@ each-size b1 b2 b3 s1 s2 s3 p q r (suc (suc d)) = r
 refused-never : (g : Grid) → chosen.Refused ≡ chosen.Accepted g → ⊥
 refused-never g q = let z : _≡_ {A = ℕ} 0 1 = cc in omega arith
 
-chose-with : (b1 b2 b3 : ℕ) (g : Grid) (x y z : Shift) → shiftOf b1 ≡ x → shiftOf b2 ≡ y → shiftOf b3 ≡ z → gridWith b1 b2 b3 x y z ≡ chosen.Accepted g → Chose b1 b2 b3 g
+chose-with : (b1 b2 b3 : ℕ) (g : Grid) (x y z : Shift) → shiftOf b1 ≡ x → shiftOf b2 ≡ y → shiftOf b3 ≡ z
+    → gridWith b1 b2 b3 x y z ≡ chosen.Accepted g → Chose b1 b2 b3 g
 unfolding gridWith sizeAt shiftAt
 chose-with b1 b2 b3 g (shift.By s1) (shift.By s2) (shift.By s3) p q r e =
     let made : Grid = record { shift1 = s1; shift2 = s2; shift3 = s3; size1 = b1; size2 = b2; size3 = b3 } in
@@ -98,7 +102,8 @@ unfolding placeOf binsOf
 place-lt i = digits-lt (row-lt i) (i .three)
 
 -- the bins of a place
-pub bin-of-place : (g : Grid) (d r gr b : ℕ) → gr < g .size2 → b < g .size3 → binAt g d (placeOf g r gr b) ≡ choose d r gr b
+pub bin-of-place : (g : Grid) (d r gr b : ℕ) → gr < g .size2 → b < g .size3
+    → binAt g d (placeOf g r gr b) ≡ choose d r gr b
 unfolding binAt placeOf choose
 bin-of-place g zero r gr b h k =
     ap (λ (n : ℕ). n / g .size2) (digits-div (r * g .size2 + gr) k) ∙ digits-div r h
@@ -107,7 +112,8 @@ bin-of-place g (suc zero) r gr b h k =
 bin-of-place g (suc (suc d)) r gr b h k = digits-mod (r * g .size2 + gr) k
 
 -- place is one to one
-pub place-once : {g : Grid} {r gr b r' gr' b' : ℕ} → Inside g r gr b → Inside g r' gr' b' → placeOf g r gr b ≡ placeOf g r' gr' b' → (d : ℕ) → choose d r gr b ≡ choose d r' gr' b'
+pub place-once : {g : Grid} {r gr b r' gr' b' : ℕ} → Inside g r gr b → Inside g r' gr' b'
+    → placeOf g r gr b ≡ placeOf g r' gr' b' → (d : ℕ) → choose d r gr b ≡ choose d r' gr' b'
 place-once {g} {r} {gr} {b} {r'} {gr'} {b'} i j e d =
     sym (bin-of-place g d r gr b (i .two) (i .three))
     ∙ ap (binAt g d) e
@@ -125,7 +131,8 @@ bins-inside {g} a p h =
     record {
       accepted = a;
       one = div-lt-iff-lt-mul {k = g .size2} {x = p / g .size3} {y = g .size1} (omega (arith, size-low (two a)))
-          .1 (div-lt-iff-lt-mul {k = g .size3} {x = p} {y = g .size1 * g .size2} (omega (arith, size-low (three a))) .1 h);
+          .1 (div-lt-iff-lt-mul {k = g .size3} {x = p} {y = g .size1 * g .size2}
+          (omega (arith, size-low (three a))) .1 h);
       two = mod-lt (p / g .size3) {m = g .size2} (omega (arith, size-low (two a)));
       three = mod-lt p {m = g .size3} (omega (arith, size-low (three a)));
     }
@@ -142,22 +149,33 @@ pub record Bytes (x : Rgb) : Type 0 where
   pub two : x .c2 < 256
   pub three : x .c3 < 256
 
-pub colour-inside : {g : Grid} → Accepted g → {x : Rgb} → Bytes x → Inside g (binOf (g .shift1) (x .c1)) (binOf (g .shift2) (x .c2)) (binOf (g .shift3) (x .c3))
+pub colour-inside : {g : Grid} → Accepted g → {x : Rgb} → Bytes x
+    → Inside g (binOf (g .shift1) (x .c1)) (binOf (g .shift2) (x .c2)) (binOf (g .shift3) (x .c3))
 colour-inside {g} a {x} b =
-    record { accepted = a; one = bin-lt (one a) (x .c1) (b .one); two = bin-lt (two a) (x .c2) (b .two); three = bin-lt (three a) (x .c3) (b .three) }
+    record {
+      accepted = a;
+      one = bin-lt (one a) (x .c1) (b .one);
+      two = bin-lt (two a) (x .c2) (b .two);
+      three =
+          bin-lt (three a) (x .c3) (b .three);
+    }
 
-chosen-bin : (g : Grid) (x : Rgb) (d : ℕ) → choose d (binOf (g .shift1) (x .c1)) (binOf (g .shift2) (x .c2)) (binOf (g .shift3) (x .c3)) ≡ binOf (shiftAt g d) (componentAt x d)
+chosen-bin : (g : Grid) (x : Rgb) (d : ℕ)
+    → choose d (binOf (g .shift1) (x .c1)) (binOf (g .shift2) (x .c2)) (binOf (g .shift3) (x .c3))
+    ≡ binOf (shiftAt g d) (componentAt x d)
 unfolding choose shiftAt componentAt
 chosen-bin g x zero = refl
 chosen-bin g x (suc zero) = refl
 chosen-bin g x (suc (suc d)) = refl
 
 -- the bins of a colour's place
-pub colour-bin : {g : Grid} → Accepted g → {x : Rgb} → Bytes x → (d : ℕ) → binAt g d (colourPlace g x) ≡ binOf (shiftAt g d) (componentAt x d)
+pub colour-bin : {g : Grid} → Accepted g → {x : Rgb} → Bytes x → (d : ℕ)
+    → binAt g d (colourPlace g x) ≡ binOf (shiftAt g d) (componentAt x d)
 unfolding colourPlace
 colour-bin {g} a {x} b d =
     let i = colour-inside a b in
-    bin-of-place g d (binOf (g .shift1) (x .c1)) (binOf (g .shift2) (x .c2)) (binOf (g .shift3) (x .c3)) (i .two) (i .three) ∙ chosen-bin g x d
+    bin-of-place g d (binOf (g .shift1) (x .c1)) (binOf (g .shift2) (x .c2)) (binOf (g .shift3) (x .c3)) (i .two)
+    (i .three) ∙ chosen-bin g x d
 
 pub colour-place-lt : {g : Grid} → Accepted g → {x : Rgb} → Bytes x → colourPlace g x < binsOf g
 unfolding colourPlace
@@ -166,7 +184,8 @@ colour-place-lt a b = place-lt (colour-inside a b)
 -- the step of a component
 pub step-at : (g : Grid) (d c : ℕ) → c < 256 → getD (stepsOf g d) c 0 ≡ binOf (shiftAt g d) c * strideAt g d
 unfolding stepsOf
-step-at g d c h = list-at 0 256 (λ k. binOf (shiftAt g d) k * strideAt g d) c 0 h ∙ ap (λ (k : ℕ). binOf (shiftAt g d) k * strideAt g d) (zero-add c)
+step-at g d c h = list-at 0 256 (λ k. binOf (shiftAt g d) k * strideAt g d) c 0 h
+    ∙ ap (λ (k : ℕ). binOf (shiftAt g d) k * strideAt g d) (zero-add c)
 
 -- in the last dimension it is the bin itself
 pub last-step : (g : Grid) (c : ℕ) → c < 256 → getD (stepsOf g 2) c 0 ≡ binOf (g .shift3) c
@@ -174,7 +193,8 @@ unfolding shiftAt strideAt choose
 last-step g c h = step-at g 2 c h ∙ mul-one (binOf (g .shift3) c)
 
 -- the three steps add up to the place
-steps-add : (g : Grid) (x : Rgb) → Bytes x → getD (stepsOf g 0) (x .c1) 0 + getD (stepsOf g 1) (x .c2) 0 + getD (stepsOf g 2) (x .c3) 0 ≡ colourPlace g x
+steps-add : (g : Grid) (x : Rgb) → Bytes x
+    → getD (stepsOf g 0) (x .c1) 0 + getD (stepsOf g 1) (x .c2) 0 + getD (stepsOf g 2) (x .c3) 0 ≡ colourPlace g x
 unfolding colourPlace placeOf strideAt shiftAt choose
 steps-add g x b =
     let r = binOf (g .shift1) (x .c1) in
@@ -189,7 +209,8 @@ steps-add g x b =
       mul-one (binOf (g .shift3) (x .c3)),
     )
 
-pub steps-place : {g : Grid} {t1 t2 t3 : List ℕ} → StepsOf g t1 t2 t3 → {x : Rgb} → Bytes x → getD t1 (x .c1) 0 + getD t2 (x .c2) 0 + getD t3 (x .c3) 0 ≡ colourPlace g x
+pub steps-place : {g : Grid} {t1 t2 t3 : List ℕ} → StepsOf g t1 t2 t3 → {x : Rgb} → Bytes x
+    → getD t1 (x .c1) 0 + getD t2 (x .c2) 0 + getD t3 (x .c3) 0 ≡ colourPlace g x
 steps-place {g} s {x} b = rw (s .one, s .two, s .three) (steps-add g x b)
 
 -- the places where rows and planes start

@@ -60,6 +60,7 @@ module _ (t : List ℕ) {r : CutRecord} (e : r ≡ cutRecord 8 8 8 16 t lentZero
   unfolding cutText
   cut-refused h = rw (← e) (when-refused (r .number) _ _ h)
 
-  pub cut-listed : {later : Buffers} → later ≡ cutLater 8 8 8 16 t lentZeros → r .number ≡ 0 → cutText t ≡ listingOf (r .boxes) (later .palette) (later .counts)
+  pub cut-listed : {later : Buffers} → later ≡ cutLater 8 8 8 16 t lentZeros → r .number ≡ 0
+      → cutText t ≡ listingOf (r .boxes) (later .palette) (later .counts)
   unfolding cutText
   cut-listed l h = rw (← e, ← l) (when-done (r .number) _ _ h)

@@ -1,9 +1,11 @@
--- A table loaded from colours: where two bins of a box are occupied, two of its colours differ, so the computed spread is above 0.
+-- A table loaded from colours: where two bins of a box are occupied, two of its colours differ, so the computed spread
+-- is above 0.
 -- Assumes nothing.
 use mathlib.Core.Path.{_≡_, refl, sym, ap, ap₂, subst, _∙_}
 use mathlib.Core.Logic.{inl, inr}
 use mathlib.Core.Bool.{Bool, true, false, cond, _&&_}
-use mathlib.Core.List.{List, [], _∷_, List·Memᴰ, List·Memᴰ·head, List·Memᴰ·tail, List·Memᴰ·not-nil, List·Memᴰ·cases-cons}
+use mathlib.Core.List.{List, [], _∷_, List·Memᴰ, List·Memᴰ·head, List·Memᴰ·tail, List·Memᴰ·not-nil}
+use mathlib.Core.List.{List·Memᴰ·cases-cons}
 use Prim.Native.Nat.{ℕ, _+_, _-_, _*_, _≤_, _<_}
 use native.Mathlib.Nat.{le-trans, zero-add, zero-mul, mul-one, pos-of-ne-zero}
 use native.Mathlib.Omega.{arith}
@@ -36,14 +38,16 @@ use Rattle.sums.proofs.Same.{stats-same}
 use Rattle.spread.specs.Spread.{exactQ, SpreadsAbove}
 use Rattle.boxes.specs.Box.{oneBin}
 use Rattle.spread.proofs.Above.{box-above}
-use Rattle.loaded.proofs.Points.{Point, total, sumBy, sum1, sum2, sum3, squares, Positive, Alike, two-colours, colours-half}
+use Rattle.loaded.proofs.Points.{Point, total, sumBy, sum1, sum2, sum3, squares, Positive, Alike, two-colours}
+use Rattle.loaded.proofs.Points.{colours-half}
 
 -- ---- more than one bin
 one-run : (i n p q : ℕ) → n - i ≡ 1 → (i ≤ p) × (p < n) → (i ≤ q) × (q < n) → p ≡ q
 one-run i n p q e h k = omega (arith, h .0, h .1, k .0, k .1)
 
 -- two bins of a box at two places
-pub not-one : (g : Grid) {x : Bounds} {r gr b r' gr' b' : ℕ} → InBox x r gr b → InBox x r' gr' b' → (placeOf g r gr b ≡ placeOf g r' gr' b' → ⊥) → oneBin x ≡ false
+pub not-one : (g : Grid) {x : Bounds} {r gr b r' gr' b' : ℕ} → InBox x r gr b → InBox x r' gr' b'
+    → (placeOf g r gr b ≡ placeOf g r' gr' b' → ⊥) → oneBin x ≡ false
 unfolding oneBin
 not-one g {x} {r} {gr} {b} {r'} {gr'} {b'} i k n = go (oneBin x) refl
   where
@@ -93,7 +97,8 @@ module _ (g : Grid) (x : Bounds) where
         | inr k ↦ kept (isPoint d) (point-in cs k h)
       ]
     where
-      kept : (t : Bool) → List·Memᴰ (pointOf c) (points cs) → List·Memᴰ (pointOf c) (cond t (pointOf d ∷ points cs) (points cs))
+      kept : (t : Bool) → List·Memᴰ (pointOf c) (points cs)
+          → List·Memᴰ (pointOf c) (cond t (pointOf d ∷ points cs) (points cs))
       kept true m = List·Memᴰ·tail m
       kept false m = m
 
@@ -105,12 +110,16 @@ module _ (g : Grid) (x : Bounds) where
     points-sum : (cs : List Weighted) → sumOver cs part ≡ sumBy f (points cs)
     unfolding points
     points-sum [] = over-none part
-    points-sum (c ∷ cs) = over-more c cs part ∙ ap (λ (n : ℕ). part c + n) (points-sum cs) ∙ go (holdsColour g x (c .colour)) (ltb 0 (c .weight)) refl
+    points-sum (c ∷ cs) = over-more c cs part ∙ ap (λ (n : ℕ). part c + n) (points-sum cs)
+        ∙ go (holdsColour g x (c .colour)) (ltb 0 (c .weight)) refl
       where
         none : ltb 0 (c .weight) ≡ false → c .weight * f (pointOf c) ≡ 0
-        none e = let z : c .weight ≡ 0 = omega (arith, ltb-false 0 (c .weight) e) in ap (λ (n : ℕ). n * f (pointOf c)) z ∙ zero-mul (f (pointOf c))
+        none e = let z : c .weight ≡ 0 = omega (arith, ltb-false 0 (c .weight) e) in ap (λ (n : ℕ). n * f (pointOf c)) z
+            ∙ zero-mul (f (pointOf c))
 
-        go : (s t : Bool) → ltb 0 (c .weight) ≡ t → cond s (c .weight * f (pointOf c)) 0 + sumBy f (points cs) ≡ sumBy f (cond (s && t) (pointOf c ∷ points cs) (points cs))
+        go : (s t : Bool) → ltb 0 (c .weight) ≡ t
+            → cond s (c .weight * f (pointOf c)) 0 + sumBy f (points cs)
+            ≡ sumBy f (cond (s && t) (pointOf c ∷ points cs) (points cs))
         go true true e = refl
         go true false e = ap (λ (n : ℕ). n + sumBy f (points cs)) (none e) ∙ zero-add (sumBy f (points cs))
         go false t e = zero-add (sumBy f (points cs))
@@ -122,7 +131,8 @@ total-sum (p ∷ l) = ap₂ (λ (m n : ℕ). m + n) (mul-one (p .weight)) (total
 
 module _ {g : Grid} {x : Bounds} (w : Within g x) (cs : List Weighted) (b : AllBytes cs) where
   -- number j of the box, where a colour's share of it is its weight times f
-  by-points : (j : ℕ) (f : Point → ℕ) → ((c : Weighted) → share c j ≡ c .weight * f (pointOf c)) → boxSum g (loaded g cs zeros) x j ≡ sumBy f (points g x cs)
+  by-points : (j : ℕ) (f : Point → ℕ) → ((c : Weighted) → share c j ≡ c .weight * f (pointOf c))
+      → boxSum g (loaded g cs zeros) x j ≡ sumBy f (points g x cs)
   by-points j f e =
       loaded-box w j cs b
       ∙ ap (sumOver cs) (λ i c. cond (holdsColour g x (c .colour)) (e c i) 0)
@@ -160,7 +170,9 @@ record Found (g : Grid) (l : List Point) (r gr b : ℕ) : Type 0 where
 
 bytes-of : (cs : List Weighted) → AllBytes cs → {c : Weighted} → List·Memᴰ c cs → Bytes (c .colour)
 bytes-of [] b m = absurd (List·Memᴰ·not-nil m)
-bytes-of (d ∷ cs) b m = elim (List·Memᴰ·cases-cons m) [ inl e ↦ subst (λ (c : Weighted). Bytes (c .colour)) (sym e) (b .0) | inr k ↦ bytes-of cs (b .1) k ]
+bytes-of (d ∷ cs) b m =
+    elim (List·Memᴰ·cases-cons m)
+    [ inl e ↦ subst (λ (c : Weighted). Bytes (c .colour)) (sym e) (b .0) | inr k ↦ bytes-of cs (b .1) k ]
 
 module _ {g : Grid} {x : Bounds} (w : Within g x) {r gr b : ℕ} (i : InBox x r gr b) where
   abbrev place : ℕ
@@ -181,10 +193,17 @@ module _ {g : Grid} {x : Bounds} (w : Within g x) {r gr b : ℕ} (i : InBox x r 
   found cs k o =
       let c = o .colour in
       let there = bins-of c (bytes-of cs k (o .among-them)) (o .there) in
-      record { point = pointOf c; member = point-in g x cs (o .among-them) (rw (held-colour c there) (lt-ltb 0 (c .weight) (o .weighs))); binned = there }
+      record {
+        point = pointOf c;
+        member =
+            point-in g x cs (o .among-them) (rw (held-colour c there) (lt-ltb 0 (c .weight) (o .weighs)));
+        binned =
+            there;
+      }
 
 -- points of different bins are not alike
-unlike : {g : Grid} {p q : Point} {r gr b r' gr' b' : ℕ} → Binned g p r gr b → Binned g q r' gr' b' → (placeOf g r gr b ≡ placeOf g r' gr' b' → ⊥) → Alike p q → ⊥
+unlike : {g : Grid} {p q : Point} {r gr b r' gr' b' : ℕ} → Binned g p r gr b → Binned g q r' gr' b'
+    → (placeOf g r gr b ≡ placeOf g r' gr' b' → ⊥) → Alike p q → ⊥
 unlike {g} e f n a =
     let one = sym (e .one) ∙ ap (binOf (g .shift1)) (a .one) ∙ f .one in
     let two = sym (e .two) ∙ ap (binOf (g .shift2)) (a .two) ∙ f .two in
@@ -192,7 +211,8 @@ unlike {g} e f n a =
     n (λ j. placeOf g (one j) (two j) (three j))
 
 -- the property is one of the numbers at the places of the grid
-pub spreads-same : {g : Grid} {v u : View} → ((p j : ℕ) → p < binsOf g → j < 5 → v p j ≡ u p j) → SpreadsAbove g u → SpreadsAbove g v
+pub spreads-same : {g : Grid} {v u : View} → ((p j : ℕ) → p < binsOf g → j < 5 → v p j ≡ u p j) → SpreadsAbove g u
+    → SpreadsAbove g v
 spreads-same {g} {v} {u} same s =
     record {
       above = λ x w r gr z r' gr' z' i k o o' n.

@@ -14,7 +14,8 @@ use Rattle.pixels.specs.declared.colour.Rgb.{Rgb}
 use Rattle.basics.specs.Range.{sumFrom}
 use Rattle.pixels.specs.Colour.{colourAt}
 use Rattle.pixels.specs.Equal.{sameColour, equalColours, differs}
-use Rattle.basics.proofs.Range.{sum-blocks, sum-same, sum-zero, term-le, all-true, all-at, and-left, and-right, tests-same}
+use Rattle.basics.proofs.Range.{sum-blocks, sum-same, sum-zero, term-le, all-true, all-at, and-left, and-right}
+use Rattle.basics.proofs.Range.{tests-same}
 
 -- ---- two colours
 same-colour : (x y : Rgb) → x ≡ y → sameColour x y ≡ true
@@ -79,7 +80,8 @@ module _ (bytes : List ℕ) where
         arith,
         none-differs (k * 3) (3 * k) (3 * suc k) (omega arith) (omega arith) (ap (λ (x : Rgb). x .c1) e),
         none-differs (suc (k * 3)) (3 * k + 1) (3 * suc k + 1) (omega arith) (omega arith) (ap (λ (x : Rgb). x .c2) e),
-        none-differs (suc (suc (k * 3))) (3 * k + 2) (3 * suc k + 2) (omega arith) (omega arith) (ap (λ (x : Rgb). x .c3) e),
+        none-differs (suc (suc (k * 3))) (3 * k + 2) (3 * suc k + 2) (omega arith) (omega arith)
+            (ap (λ (x : Rgb). x .c3) e),
       )
 
   next-same : (k : ℕ) → changes k ≡ 0 → colourAt bytes (suc k) ≡ colourAt bytes k
@@ -91,17 +93,21 @@ module _ (bytes : List ℕ) where
   }
 
   -- the colours that follow i are colour i where none changes
-  run : (i n : ℕ) → ((j : ℕ) → j < n → changes (i + j) ≡ 0) → (j : ℕ) → j ≤ n → colourAt bytes (i + j) ≡ colourAt bytes i
+  run : (i n : ℕ) → ((j : ℕ) → j < n → changes (i + j) ≡ 0) → (j : ℕ) → j ≤ n
+      → colourAt bytes (i + j) ≡ colourAt bytes i
   run i n h zero l = ap (colourAt bytes) (add-zero i)
-  run i n h (suc j) l = ap (colourAt bytes) (add-suc i j) ∙ next-same (i + j) (h j (omega arith)) ∙ run i n h j (omega arith)
+  run i n h (suc j) l = ap (colourAt bytes) (add-suc i j) ∙ next-same (i + j) (h j (omega arith))
+      ∙ run i n h j (omega arith)
 
   module _ (i : ℕ) where
     counted-by-colours : sumFrom (3 * i) 192 (differs bytes) ≡ sumFrom i 64 changes
-    counted-by-colours = ap (λ (p : ℕ). sumFrom p 192 (differs bytes)) (mul-comm 3 i) ∙ sum-blocks 64 3 i (differs bytes)
+    counted-by-colours = ap (λ (p : ℕ). sumFrom p 192 (differs bytes)) (mul-comm 3 i)
+        ∙ sum-blocks 64 3 i (differs bytes)
 
     unchanged : equalColours bytes i ≡ true → sumFrom i 64 changes ≡ 0
     unchanged e =
-        sum-same i 64 changes (λ k. 0) (λ k a b. same-next k (at (suc k) (omega arith) (omega arith) ∙ sym (at k a (omega arith))))
+        sum-same i 64 changes (λ k. 0)
+        (λ k a b. same-next k (at (suc k) (omega arith) (omega arith) ∙ sym (at k a (omega arith))))
         ∙ sum-zero i 64
       where
         there : (i k : ℕ) → i ≤ k → k ≡ i + (k - i)

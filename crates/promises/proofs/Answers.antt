@@ -1,4 +1,5 @@
--- "Where an answer is an enum, a definition sets out this paper's number and values for each of its cases. The promises use that
+-- "Where an answer is an enum, a definition sets out this paper's number and values for each of its cases. The promises
+-- use that
 -- definition": what a caller is told of a size, of three sizes, of a table and of the best position of a box.
 -- Assumes nothing.
 use mathlib.Core.Path.{_≡_, refl, ap, _∙_}
@@ -35,7 +36,8 @@ unfolding shiftIn
 none-in [] size n = refl
 none-in (c ∷ cs) size n = go (eqb size (c .0)) refl (none-in cs size (λ s m. n s (List·Memᴰ·tail m)))
   where
-    go : (b : Bool) → eqb size (c .0) ≡ b → shiftIn cs size ≡ shift.Refused → cond b (shift.By (c .1)) (shiftIn cs size) ≡ shift.Refused
+    go : (b : Bool) → eqb size (c .0) ≡ b → shiftIn cs size ≡ shift.Refused
+        → cond b (shift.By (c .1)) (shiftIn cs size) ≡ shift.Refused
     go true e rest = absurd (n (c .1) (List·Memᴰ·head (λ i. (eqb-true size (c .0) e i, c .1))))
     go false e rest = rest
 
@@ -66,8 +68,10 @@ third-refused b1 b2 b3 shift.Refused y = refl
 no-grid : (b1 b2 b3 : ℕ) → NotAmong b1 ⊎ (NotAmong b2 ⊎ NotAmong b3) → gridOf b1 b2 b3 ≡ chosen.Refused
 unfolding gridOf gridWith
 no-grid b1 b2 b3 (inl n) = ap (λ (x : Shift). gridWith b1 b2 b3 x (shiftOf b2) (shiftOf b3)) (not-among b1 n)
-no-grid b1 b2 b3 (inr (inl n)) = ap (λ (x : Shift). gridWith b1 b2 b3 (shiftOf b1) x (shiftOf b3)) (not-among b2 n) ∙ second-refused b1 b2 b3 (shiftOf b1) (shiftOf b3)
-no-grid b1 b2 b3 (inr (inr n)) = ap (λ (x : Shift). gridWith b1 b2 b3 (shiftOf b1) (shiftOf b2) x) (not-among b3 n) ∙ third-refused b1 b2 b3 (shiftOf b1) (shiftOf b2)
+no-grid b1 b2 b3 (inr (inl n)) = ap (λ (x : Shift). gridWith b1 b2 b3 (shiftOf b1) x (shiftOf b3)) (not-among b2 n)
+    ∙ second-refused b1 b2 b3 (shiftOf b1) (shiftOf b3)
+no-grid b1 b2 b3 (inr (inr n)) = ap (λ (x : Shift). gridWith b1 b2 b3 (shiftOf b1) (shiftOf b2) x) (not-among b3 n)
+    ∙ third-refused b1 b2 b3 (shiftOf b1) (shiftOf b2)
 
 pub grid-told : (b1 b2 b3 : ℕ) → GridTold b1 b2 b3 (gridAnswer (gridOf b1 b2 b3))
 unfolding gridAnswer gridOf gridWith
@@ -85,7 +89,10 @@ weighed-told g v =
       refused = λ e. ap weighedAnswer (unsound-told limit g v e);
     }
 
--- ---- the best position of a box: "either a position with its float score, or that no position exists; the second exactly when no
--- position has weight on both sides", and "The smallest score wins; on a tie the lowest dimension, in it the lowest bin"
-pub position-told : (g : Grid) (v : View) (x : Bounds) → sound limit g v ≡ true → Within g x → Tells (Candidate g v x) (positionAnswer (bestCut g v x))
+-- ---- the best position of a box: "either a position with its float score, or that no position exists; the second
+-- exactly when no
+-- position has weight on both sides", and "The smallest score wins; on a tie the lowest dimension, in it the lowest
+-- bin"
+pub position-told : (g : Grid) (v : View) (x : Bounds) → sound limit g v ≡ true → Within g x
+    → Tells (Candidate g v x) (positionAnswer (bestCut g v x))
 position-told g v x e w = best-told (record { holds = e }) w

@@ -1,4 +1,5 @@
--- The listing program over its whole input (document 01, "The listing program"), by the definitions of the contracts of `lines`: what
+-- The listing program over its whole input (document 01, "The listing program"), by the definitions of the contracts of
+-- `lines`: what
 -- was read so far, batch by batch, and what is then written. Definitions only.
 use mathlib.Core.Path.{_≡_}
 use mathlib.Core.List.{List, [], _∷_, _++_}

@@ -1,4 +1,5 @@
--- When each number applies to a call, and what a call is given that nothing refuses (document 01, "Numbers a caller gets back").
+-- When each number applies to a call, and what a call is given that nothing refuses (document 01, "Numbers a caller
+-- gets back").
 -- Definitions only.
 use mathlib.Core.Path.{_≡_}
 use mathlib.Core.Bool.{Bool, true, false, not, _&&_, _||_, cond}
@@ -87,7 +88,8 @@ unfoldable pub cutApplies : ℕ → ℕ → ℕ → ℕ → List ℕ → Buffers
 cutApplies b1 b2 b3 k t b = applies (cutTests (gridOf b1 b2 b3) k t b true)
 
 unfoldable pub callApplies : ℕ → ℕ → ℕ → ℕ → List ℕ → Lent → ℕ → Bool
-callApplies b1 b2 b3 k t l = applies (cutTests (gridOf b1 b2 b3) k t (l .buffers) (hasRoom k (length (l .boxes)) (length (l .spreads))))
+callApplies b1 b2 b3 k t l =
+    applies (cutTests (gridOf b1 b2 b3) k t (l .buffers) (hasRoom k (length (l .boxes)) (length (l .spreads))))
 
 -- "map and paint 1, 3, 5, 9"; `lengths` are those that only one of them is lent
 unfoldable pub bandTests : Chosen → List ℕ → ℕ → Bool → List ℕ → ℕ → ℕ → Tests
@@ -100,7 +102,8 @@ bandTests c map paletteColours lengths frame first pixels =
     ∷ (9, not (allBelow paletteColours map))
     ∷ []
 
--- "map is told the palette's length in colours, and anything outside 1..256 gives 5"; "index buffer exactly one byte per frame pixel"
+-- "map is told the palette's length in colours, and anything outside 1..256 gives 5"; "index buffer exactly one byte
+-- per frame pixel"
 unfoldable pub mapApplies : ℕ → ℕ → ℕ → List ℕ → ℕ → List ℕ → List ℕ → ℕ → ℕ → ℕ → Bool
 mapApplies b1 b2 b3 map paletteColours frame indices first pixels =
     applies
@@ -110,7 +113,8 @@ mapApplies b1 b2 b3 map paletteColours frame indices first pixels =
 -- "the palette for painting 3..768 bytes, a multiple of three"
 unfoldable pub paintApplies : ℕ → ℕ → ℕ → List ℕ → List ℕ → List ℕ → ℕ → ℕ → ℕ → Bool
 paintApplies b1 b2 b3 map palette frame first pixels =
-    applies (bandTests (gridOf b1 b2 b3) map (length palette / 3) ((leb 3 (length palette) && leb (length palette) 768) && eqb (length palette % 3) 0) frame first pixels)
+    applies (bandTests (gridOf b1 b2 b3) map (length palette / 3)
+    ((leb 3 (length palette) && leb (length palette) 768) && eqb (length palette % 3) 0) frame first pixels)
 
 -- ---- what a call is given that nothing refuses; of a cut, a mapping and a painting it is `CanCut`, `CanMap`,
 -- `CanPaint`

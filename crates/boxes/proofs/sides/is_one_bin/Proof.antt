@@ -27,7 +27,9 @@ sub-result c = search needs
 
 returns-3 : tie.Need-returns-3
 unfolding oneBin
-returns-3 c = sym (and-first _ (eq-eqb _ 1 (c .before .before .before .if1 .left)) ∙ and-first _ (eq-eqb _ 1 (c .before .if2 .left)))
+returns-3 c =
+    sym (and-first _ (eq-eqb _ 1 (c .before .before .before .if1 .left))
+    ∙ and-first _ (eq-eqb _ 1 (c .before .if2 .left)))
 
 pub is-one-bin-spec : {M : Type 1} → statement M
 is-one-bin-spec = tie.close (tie.spec sub-if1 returns sub-if2 returns-2 sub-result returns-3)

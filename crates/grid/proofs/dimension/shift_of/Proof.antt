@@ -1,4 +1,5 @@
--- `grid::dimension::shift_of` meets its contract: each arm is one of the seven choices, and what no arm takes is none of them.
+-- `grid::dimension::shift_of` meets its contract: each arm is one of the seven choices, and what no arm takes is none
+-- of them.
 -- Assumes nothing.
 use mathlib.Core.Path.{refl}
 use borrow.Author.Tests.{ne-eqb}

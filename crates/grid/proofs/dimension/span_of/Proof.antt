@@ -1,4 +1,5 @@
--- `grid::dimension::span_of` meets its contract: the width is the power of two, and the span of a byte's bin ends at 255 at the latest.
+-- `grid::dimension::span_of` meets its contract: the width is the power of two, and the span of a byte's bin ends at
+-- 255 at the latest.
 -- Assumes nothing.
 use mathlib.Core.Path.{refl}
 use native.Mathlib.Omega.{arith}

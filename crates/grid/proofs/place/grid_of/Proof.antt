@@ -11,7 +11,8 @@ use Rattle.grid.proofs.place.grid_of.Statement.{statement}
 use Rattle.grid.proofs.place.grid_of.Tie as tie
 
 -- the grid of three sizes whose shifts are known
-of-shifts : (b1 b2 b3 : ℕ) (s t u : Shift) → shiftOf b1 ≡ s → shiftOf b2 ≡ t → shiftOf b3 ≡ u → gridOf b1 b2 b3 ≡ gridWith b1 b2 b3 s t u
+of-shifts : (b1 b2 b3 : ℕ) (s t u : Shift) → shiftOf b1 ≡ s → shiftOf b2 ≡ t → shiftOf b3 ≡ u
+    → gridOf b1 b2 b3 ≡ gridWith b1 b2 b3 s t u
 unfolding gridOf
 of-shifts b1 b2 b3 s t u p q r i = gridWith b1 b2 b3 (p i) (q i) (r i)
 
@@ -80,7 +81,8 @@ returns-4 c =
     let two = c .before .before .before .before .before in
     let three = c .before in
     sym
-    (of-shifts (a .size1) (a .size2) (a .size3) (By (one .shift1 .given .0 .0)) (By (two .shift2 .given .0 .0)) (By (three .shift3 .given .0 .0))
+    (of-shifts (a .size1) (a .size2) (a .size3) (By (one .shift1 .given .0 .0)) (By (two .shift2 .given .0 .0))
+    (By (three .shift3 .given .0 .0))
     (sym (one .before .before .shift-of .ensures) ∙ one .shift1 .given .1)
     (sym (two .before .before .shift-of2 .ensures) ∙ two .shift2 .given .1)
     (sym (three .before .before .shift-of3 .ensures) ∙ three .shift3 .given .1))

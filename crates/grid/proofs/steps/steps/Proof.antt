@@ -35,7 +35,10 @@ returns-3 c =
     let d = c .before .before .args .dimension in
     let g = c .before .before .args .g in
     let m = c .before .match .rest in
-    rw (choose-third d (g .shift1) (g .shift2) (g .shift3) (m .0 .1) (m .1), choose-third d (g .size2 * g .size3) (g .size3) 1 (m .0 .1) (m .1))
+    rw (
+      choose-third d (g .shift1) (g .shift2) (g .shift3) (m .0 .1) (m .1),
+      choose-third d (g .size2 * g .size3) (g .size3) 1 (m .0 .1) (m .1),
+    )
     (c .strides3 .ensures)
 
 pub steps-spec : {M : Type 1} → statement M

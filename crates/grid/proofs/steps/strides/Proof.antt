@@ -52,7 +52,8 @@ loop-again c =
     let l = c .before .before .loop in (
       omega arith,
       simp length-set (l .inv .1),
-      filled-more (l .out) _ (l .c) _ (omega arith) (ap (λ (n : ℕ). n * c .before .before .before .args .stride) (c .bin-of .ensures)) (l .inv .2),
+      filled-more (l .out) _ (l .c) _ (omega arith)
+          (ap (λ (n : ℕ). n * c .before .before .before .args .stride) (c .bin-of .ensures)) (l .inv .2),
     )
 
 returns : tie.Need-returns Inv-loop μ-loop

@@ -39,8 +39,13 @@ returns c =
     let a = c .before .before .before .before .before .before .before .before .before .args in
     let load = c .before .before .before .load .ensures in
     let front : ℕ → List ℕ = λ n. take n (now (a .batch)) in
-    let number = c .lower .ensures ∙ ap (lowerOf (a .lowest)) (load .0 ∙ ap (λ (n : ℕ). partNumber (now (a .table)) (front n)) (sub-zero (a .filled))) in
-    (λ i. record { number = number i; more = eqb (a .filled) (length (now (a .batch))) }, load .1 ∙ ap (λ (n : ℕ). partLater (now (a .table)) (front n)) (sub-zero (a .filled)))
+    let number = c .lower .ensures
+    ∙ ap (lowerOf (a .lowest))
+    (load .0 ∙ ap (λ (n : ℕ). partNumber (now (a .table)) (front n)) (sub-zero (a .filled))) in (
+      λ i. record { number = number i; more = eqb (a .filled) (length (now (a .batch))) },
+      load .1
+          ∙ ap (λ (n : ℕ). partLater (now (a .table)) (front n)) (sub-zero (a .filled)),
+    )
 
 pub load-batch-spec : {M : Type 1} → statement M
 load-batch-spec =

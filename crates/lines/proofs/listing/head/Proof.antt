@@ -40,9 +40,17 @@ returns c =
     let boxes = between .before .before .before .before .before in
     let first = boxes .before .before .before .before in (
       put-more
-          (put-more (put-more (put-more (first .word .ensures) (boxes .number .ensures .0)) (between .word2 .ensures)) (total .number2 .ensures .0))
+          (put-more (put-more (put-more (first .word .ensures) (boxes .number .ensures .0)) (between .word2 .ensures))
+          (total .number2 .ensures .0))
           (end .byte .ensures),
-      omega (arith, end .byte .ensures .ends, total .number2 .ensures .1, between .word2 .ensures .ends, boxes .number .ensures .1, first .word .ensures .ends),
+      omega (
+        arith,
+        end .byte .ensures .ends,
+        total .number2 .ensures .1,
+        between .word2 .ensures .ends,
+        boxes .number .ensures .1,
+        first .word .ensures .ends,
+      ),
     )
 
 pub head-spec : {M : Type 1} → statement M

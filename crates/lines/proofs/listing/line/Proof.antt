@@ -46,7 +46,15 @@ returns c =
           (blue .field3 .ensures .0))
           (count .field4 .ensures .0))
           (end .byte .ensures),
-      omega (arith, end .byte .ensures .ends, count .field4 .ensures .1, blue .field3 .ensures .1, green .field2 .ensures .1, red .field .ensures .1, index .number .ensures .1),
+      omega (
+        arith,
+        end .byte .ensures .ends,
+        count .field4 .ensures .1,
+        blue .field3 .ensures .1,
+        green .field2 .ensures .1,
+        red .field .ensures .1,
+        index .number .ensures .1,
+      ),
     )
 
 pub line-spec : {M : Type 1} → statement M

@@ -12,7 +12,8 @@ use Rattle.lines.proofs.listing.listing.Statement.{statement}
 use Rattle.lines.proofs.listing.listing.Tie as tie
 
 abbrev Inv-loop : tie.InvT-loop
-Inv-loop boxes palette counts out₀ at₀ i₀ out at i = Put out₀ at₀ (linesOf palette counts i) out at × (at ≤ 128 * (i + 1)) × (i ≤ boxes)
+Inv-loop boxes palette counts out₀ at₀ i₀ out at i =
+    Put out₀ at₀ (linesOf palette counts i) out at × (at ≤ 128 * (i + 1)) × (i ≤ boxes)
 
 abbrev μ-loop : tie.MeasureT-loop
 μ-loop boxes palette counts out₀ at₀ i₀ out at i = boxes - i
@@ -46,8 +47,11 @@ loop-again : tie.Need-loop-again Inv-loop μ-loop
 unfolding linesOf
 loop-again c =
     let line = c .before .before in
-    let l = line .before .before .before .loop in
-    (rw (add-one (l .i)) (put-more (l .inv .0) (line .box-line .ensures .0)), omega (arith, line .box-line .ensures .1), omega arith)
+    let l = line .before .before .before .loop in (
+      rw (add-one (l .i)) (put-more (l .inv .0) (line .box-line .ensures .0)),
+      omega (arith, line .box-line .ensures .1),
+      omega arith,
+    )
 
 same-length : tie.Need-same-length Inv-loop μ-loop
 same-length c =
@@ -61,7 +65,8 @@ returns c =
     let l = c .before .loop in
     let head = c .before .before .before .before in
     let lent = c .before .before .before .before .before .before .before .before .before .before .pre in
-    let all : l .i ≡ c .before .before .before .before .before .before .before .before .before .before .args .boxes = omega arith in
+    let all : l .i ≡ c .before .before .before .before .before .before .before .before .before .before .args .boxes =
+    omega arith in
     let text = rw (head .before .total .ensures, all) at (put-more (head .head .ensures .0) (l .inv .0)) in
     put-whole text (omega (arith, lent .room))
 

@@ -33,7 +33,8 @@ returns : tie.Need-returns
 unfolding lentZeros
 returns c =
     let cut = c .before .before .before .before .before .before .before .before .before .before .cut in
-    rw (cut-refused _ (cut .ensures .0) (c .before .before .before .before .if1 .taken)) (c .before .before .refused .ensures)
+    rw (cut-refused _ (cut .ensures .0) (c .before .before .before .before .if1 .taken))
+    (c .before .before .refused .ensures)
 
 slice-aggregate-listing : tie.Need-slice-aggregate-listing
 slice-aggregate-listing c = search needs
@@ -54,7 +55,8 @@ returns-2 : tie.Need-returns-2
 unfolding lentZeros
 returns-2 c =
     let cut = c .before .before .before .before .before .before .before .before .before .before .before .before .cut in
-    rw (cut-listed _ (cut .ensures .0) (cut .ensures .1) (c .before .before .before .before .before .before .if1 .left)) (c .before .before .listing .ensures)
+    rw (cut-listed _ (cut .ensures .0) (cut .ensures .1) (c .before .before .before .before .before .before .if1 .left))
+    (c .before .before .listing .ensures)
 
 pub cut-text-spec : {M : Type 1} → statement M
 cut-text-spec =

@@ -54,7 +54,8 @@ loop-again c =
     let last = sum-last (a .at) (l .k) (differs b) in (
       omega arith,
       ⊎-elim (λ w. omega arith) (λ w. omega arith) (c .if1 .came),
-      ⊎-elim (λ w. omega (arith, last, unlike b (a .at + l .k) (w .0 .taken))) (λ w. omega (arith, last, alike b (a .at + l .k) (w .0 .left))) (c .if1 .came),
+      ⊎-elim (λ w. omega (arith, last, unlike b (a .at + l .k) (w .0 .taken)))
+          (λ w. omega (arith, last, alike b (a .at + l .k) (w .0 .left))) (c .if1 .came),
     )
 
 returns : tie.Need-returns Inv-loop μ-loop

@@ -28,7 +28,8 @@ returns c =
     let a = c .before .before .before .before .before .args in
     let same = c .before .same-colour in
     ends-differ (now (a .bytes)) (a .i)
-    ((λ k. sameColour (sym (c .before .before .before .colour .ensures) k) (sym (c .before .before .colour2 .ensures) k))
+    ((λ k. sameColour (sym (c .before .before .before .colour .ensures) k)
+    (sym (c .before .before .colour2 .ensures) k))
     ∙ sym (same .ensures)
     ∙ not-true (same .result) (c .if1 .taken))
 

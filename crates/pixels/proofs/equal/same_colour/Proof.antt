@@ -18,7 +18,10 @@ returns-3 : tie.Need-returns-3
 unfolding sameColour
 returns-3 c =
     let a = c .before .before .before .before .before .before .before .before .args in
-    rw (eq-eqb (a .x .c1) (a .y .c1) (c .before .before .before .before .before .if1 .left), eq-eqb (a .x .c2) (a .y .c2) (c .before .before .if2 .left)) refl
+    rw (
+      eq-eqb (a .x .c1) (a .y .c1) (c .before .before .before .before .before .if1 .left),
+      eq-eqb (a .x .c2) (a .y .c2) (c .before .before .if2 .left),
+    ) refl
 
 pub same-colour-spec : {M : Type 1} → statement M
 same-colour-spec = tie.close (tie.spec returns returns-2 returns-3)
