@@ -33,8 +33,8 @@ pub struct Loaded {
 // Loads the filled front of a batch. A refusal does not end the input: what follows may have a lower number.
 pub fn load_batch(table: &mut [u64], batch: &[u8], filled: usize, lowest: u8) -> Loaded
     requires { ⌜ Filled (now batch) filled ⌝ }
-    ensures { λ r. ⌜ r ≡ batchAnswer (now (table .entry)) (now (batch .entry)) filled lowest ⌝ }
-    ensures { λ r. ⌜ now (table .exit) ≡ batchLater (now (table .entry)) (now (batch .entry)) filled ⌝ }
+    ensures answer { λ r. ⌜ r ≡ batchAnswer (now (table .entry)) (now (batch .entry)) filled lowest ⌝ }
+    ensures later { λ r. ⌜ now (table .exit) ≡ batchLater (now (table .entry)) (now (batch .entry)) filled ⌝ }
 {
     let number = load(8, 8, 8, table, &batch[0..filled], false, &[0; 0]);
     Loaded {

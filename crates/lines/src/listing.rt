@@ -6,13 +6,14 @@ use crate::parts::word;
 ghost use mathlib.Core.Path.{_≡_};
 ghost use Prim.Native.Nat.{_+_, _*_, _≤_, _<_};
 ghost use lib.ListN.{length};
-ghost use Rattle.lines.specs.Text.{headOf, lineOf, lineAt, totalOf, listingOf, refusedOf, withText, lineRoom, Lent};
+ghost use Rattle.lines.specs.Text.{headOf, lineOf, lineAt, totalOf, listingOf, refusedOf, withText, lineRoom};
+ghost use Rattle.lines.specs.Text.{Lent};
 ghost use Rattle.lines.specs.Put.{Put};
 
 fn head(out: &mut [u8], boxes: u64, total: u64) -> usize
     requires { ⌜ lineRoom ≤ length (now out) ⌝ }
-    ensures { λ r. ⌜ Put (now (out .entry)) 0 (headOf boxes total) (now (out .exit)) r ⌝ }
-    ensures { λ r. ⌜ r ≤ lineRoom ⌝ }
+    ensures put { λ r. ⌜ Put (now (out .entry)) 0 (headOf boxes total) (now (out .exit)) r ⌝ }
+    ensures fits { λ r. ⌜ r ≤ lineRoom ⌝ }
 {
     let first = word(out, 0, b"boxes ");
     let second = number(out, first, boxes);
@@ -23,8 +24,8 @@ fn head(out: &mut [u8], boxes: u64, total: u64) -> usize
 
 fn line(out: &mut [u8], at: usize, index: u64, red: u8, green: u8, blue: u8, count: u32) -> usize
     requires { ⌜ at + lineRoom ≤ length (now out) ⌝ }
-    ensures { λ r. ⌜ Put (now (out .entry)) at (lineOf index red green blue count) (now (out .exit)) r ⌝ }
-    ensures { λ r. ⌜ r ≤ at + lineRoom ⌝ }
+    ensures put { λ r. ⌜ Put (now (out .entry)) at (lineOf index red green blue count) (now (out .exit)) r ⌝ }
+    ensures fits { λ r. ⌜ r ≤ at + lineRoom ⌝ }
 {
     let first = number(out, at, index);
     let second = field(out, first, red as u64);
@@ -36,10 +37,11 @@ fn line(out: &mut [u8], at: usize, index: u64, red: u8, green: u8, blue: u8, cou
 
 // The line of box i.
 fn box_line(out: &mut [u8], at: usize, i: usize, palette: &[u8], counts: &[u32]) -> usize
-    requires { ⌜ at + lineRoom ≤ length (now out) ⌝ }
-    requires { ⌜ (3 * i + 2 < length (now palette)) × (i < length (now counts)) ⌝ }
-    ensures { λ r. ⌜ Put (now (out .entry)) at (lineAt (now (palette .entry)) (now (counts .entry)) i) (now (out .exit)) r ⌝ }
-    ensures { λ r. ⌜ r ≤ at + lineRoom ⌝ }
+    requires room { ⌜ at + lineRoom ≤ length (now out) ⌝ }
+    requires there { ⌜ (3 * i + 2 < length (now palette)) × (i < length (now counts)) ⌝ }
+    ensures put { λ r. ⌜ Put (now (out .entry)) at (lineAt (now (palette .entry)) (now (counts .entry)) i)
+        (now (out .exit)) r ⌝ }
+    ensures fits { λ r. ⌜ r ≤ at + lineRoom ⌝ }
 {
     let red = palette[3 * i];
     let green = palette[3 * i + 1];
@@ -64,9 +66,10 @@ fn total(boxes: usize, counts: &[u32]) -> u64
 // Puts the whole listing at the start of a buffer, and answers its length.
 pub fn listing(boxes: usize, palette: &[u8], counts: &[u32], out: &mut [u8]) -> usize
     requires { ⌜ Lent boxes (now palette) (now counts) (now out) ⌝ }
-    ensures { λ r. ⌜ r ≡ length (listingOf boxes (now (palette .entry)) (now (counts .entry))) ⌝ }
-    ensures { λ r. ⌜ now (out .exit) ≡ withText (listingOf boxes (now (palette .entry)) (now (counts .entry))) (now (out .entry)) ⌝ }
-    ensures { λ r. ⌜ r ≤ length (now (out .exit)) ⌝ }
+    ensures ends { λ r. ⌜ r ≡ length (listingOf boxes (now (palette .entry)) (now (counts .entry))) ⌝ }
+    ensures later { λ r. ⌜ now (out .exit)
+        ≡ withText (listingOf boxes (now (palette .entry)) (now (counts .entry))) (now (out .entry)) ⌝ }
+    ensures fits { λ r. ⌜ r ≤ length (now (out .exit)) ⌝ }
 {
     let mut at = head(out, boxes as u64, total(boxes, counts));
     let mut i = 0;
@@ -80,9 +83,9 @@ pub fn listing(boxes: usize, palette: &[u8], counts: &[u32], out: &mut [u8]) -> 
 // Puts the line of a refusal at the start of a buffer, and answers its length.
 pub fn refused(refusal: u8, out: &mut [u8]) -> usize
     requires { ⌜ lineRoom ≤ length (now out) ⌝ }
-    ensures { λ r. ⌜ r ≡ length (refusedOf refusal) ⌝ }
-    ensures { λ r. ⌜ now (out .exit) ≡ withText (refusedOf refusal) (now (out .entry)) ⌝ }
-    ensures { λ r. ⌜ r ≤ length (now (out .exit)) ⌝ }
+    ensures ends { λ r. ⌜ r ≡ length (refusedOf refusal) ⌝ }
+    ensures later { λ r. ⌜ now (out .exit) ≡ withText (refusedOf refusal) (now (out .entry)) ⌝ }
+    ensures fits { λ r. ⌜ r ≤ length (now (out .exit)) ⌝ }
 {
     let first = word(out, 0, b"refused ");
     let last = number(out, first, refusal as u64);

@@ -47,8 +47,8 @@ fn digits(out: &mut [u8], at: usize, n: u64) -> usize
 
 pub fn number(out: &mut [u8], at: usize, n: u64) -> usize
     requires { ⌜ at + 20 ≤ length (now out) ⌝ }
-    ensures { λ r. ⌜ Put (now (out .entry)) at (decimalOf n) (now (out .exit)) r ⌝ }
-    ensures { λ r. ⌜ r ≤ at + 20 ⌝ }
+    ensures put { λ r. ⌜ Put (now (out .entry)) at (decimalOf n) (now (out .exit)) r ⌝ }
+    ensures fits { λ r. ⌜ r ≤ at + 20 ⌝ }
 {
     digits(out, at, n)
 }
@@ -56,8 +56,8 @@ pub fn number(out: &mut [u8], at: usize, n: u64) -> usize
 // A number after a space.
 pub fn field(out: &mut [u8], at: usize, n: u64) -> usize
     requires { ⌜ at + 21 ≤ length (now out) ⌝ }
-    ensures { λ r. ⌜ Put (now (out .entry)) at (fieldOf n) (now (out .exit)) r ⌝ }
-    ensures { λ r. ⌜ r ≤ at + 21 ⌝ }
+    ensures put { λ r. ⌜ Put (now (out .entry)) at (fieldOf n) (now (out .exit)) r ⌝ }
+    ensures fits { λ r. ⌜ r ≤ at + 21 ⌝ }
 {
     let after = byte(out, at, b' ');
     number(out, after, n)

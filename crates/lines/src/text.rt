@@ -11,9 +11,9 @@ ghost use Rattle.lines.specs.Listing.{cutText, textOf, textRoom};
 // The text of a table that was loaded without a refusal.
 fn cut_text(table: &[u64], out: &mut [u8]) -> usize
     requires { ⌜ textRoom ≤ length (now out) ⌝ }
-    ensures { λ r. ⌜ r ≡ length (cutText (now (table .entry))) ⌝ }
-    ensures { λ r. ⌜ now (out .exit) ≡ withText (cutText (now (table .entry))) (now (out .entry)) ⌝ }
-    ensures { λ r. ⌜ r ≤ length (now (out .exit)) ⌝ }
+    ensures ends { λ r. ⌜ r ≡ length (cutText (now (table .entry))) ⌝ }
+    ensures later { λ r. ⌜ now (out .exit) ≡ withText (cutText (now (table .entry))) (now (out .entry)) ⌝ }
+    ensures fits { λ r. ⌜ r ≤ length (now (out .exit)) ⌝ }
 {
     let mut work = [0; 2560];
     let mut palette = [0; 48];
@@ -39,9 +39,9 @@ fn cut_text(table: &[u64], out: &mut [u8]) -> usize
 // Puts the program's whole text at the start of a buffer, and answers its length.
 pub fn text(table: &[u64], lowest: u8, out: &mut [u8]) -> usize
     requires { ⌜ textRoom ≤ length (now out) ⌝ }
-    ensures { λ r. ⌜ r ≡ length (textOf lowest (now (table .entry))) ⌝ }
-    ensures { λ r. ⌜ now (out .exit) ≡ withText (textOf lowest (now (table .entry))) (now (out .entry)) ⌝ }
-    ensures { λ r. ⌜ r ≤ length (now (out .exit)) ⌝ }
+    ensures ends { λ r. ⌜ r ≡ length (textOf lowest (now (table .entry))) ⌝ }
+    ensures later { λ r. ⌜ now (out .exit) ≡ withText (textOf lowest (now (table .entry))) (now (out .entry)) ⌝ }
+    ensures fits { λ r. ⌜ r ≤ length (now (out .exit)) ⌝ }
 {
     if lowest != 0 {
         return refused(lowest, out);

@@ -59,7 +59,8 @@ struct Progress {
 
 // Loads the next 16,384 pixels. A batch that is not full is the last one, and so is one whose reading failed.
 fn load_next(table: &mut [u64], lowest: u8) -> Progress
-    ensures { λ r. ⌜ Came (progress lowest (now (table .entry))) (progress (r .number) (now (table .exit))) (r .more) ⌝ }
+    ensures { λ r. ⌜ Came (progress lowest (now (table .entry))) (progress (r .number) (now (table .exit)))
+        (r .more) ⌝ }
 {
     let mut space = [0; 49152];
     let batch = fill(&mut space);
