@@ -6,9 +6,8 @@ use crate::parts::word;
 ghost use mathlib.Core.Path.{_≡_};
 ghost use Prim.Native.Nat.{_+_, _*_, _≤_, _<_};
 ghost use lib.ListN.{length};
-ghost use Rattle.lines.specs.Text.{headOf, lineOf, lineAt, totalOf, listingOf, refusedOf, withText, lineRoom};
-ghost use Rattle.lines.specs.Text.{Lent};
-ghost use Rattle.lines.specs.Put.{Put};
+ghost use Rattle.lines.specs.Text.{headOf, lineOf, lineAt, totalOf, listingOf, refusedOf, withText};
+ghost use Rattle.lines.specs.Inner.{Put, RoomForLines, lineRoom};
 
 fn head(out: &mut [u8], boxes: u64, total: u64) -> usize
     requires { ⌜ lineRoom ≤ length (now out) ⌝ }
@@ -65,7 +64,7 @@ fn total(boxes: usize, counts: &[u32]) -> u64
 
 // Puts the whole listing at the start of a buffer, and answers its length.
 pub fn listing(boxes: usize, palette: &[u8], counts: &[u32], out: &mut [u8]) -> usize
-    requires { ⌜ Lent boxes (now palette) (now counts) (now out) ⌝ }
+    requires { ⌜ RoomForLines boxes (now palette) (now counts) (now out) ⌝ }
     ensures ends { λ r. ⌜ r ≡ length (listingOf boxes (now (palette .entry)) (now (counts .entry))) ⌝ }
     ensures later { λ r. ⌜ now (out .exit)
         ≡ withText (listingOf boxes (now (palette .entry)) (now (counts .entry))) (now (out .entry)) ⌝ }

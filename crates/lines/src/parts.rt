@@ -4,7 +4,7 @@ ghost use mathlib.Core.List.{[], _∷_};
 ghost use Prim.Native.Nat.{_+_, _%_, _≤_, _<_};
 ghost use lib.ListN.{length};
 ghost use Rattle.lines.specs.Text.{decimalOf, fieldOf};
-ghost use Rattle.lines.specs.Put.{Put};
+ghost use Rattle.lines.specs.Inner.{Put};
 
 pub fn byte(out: &mut [u8], at: usize, value: u8) -> usize
     requires { ⌜ at < length (now out) ⌝ }
