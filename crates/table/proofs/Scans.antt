@@ -1,7 +1,6 @@
--- How a weighing goes on from one run of bins to the next.
+-- How a total goes on from one run of bins to the next.
 -- Assumes nothing.
 use mathlib.Core.Path.{_≡_, refl, sym, ap, _∙_}
-use mathlib.Core.List.{List}
 use mathlib.Core.Bool.{Bool, true, false, true≢false, cond, _&&_}
 use Prim.Native.Nat.{ℕ, zero, suc, _+_, _-_, _*_, _≤_, _<_}
 use native.Mathlib.Nat.{add-assoc, add-zero, zero-add, add-mul, one-mul}
@@ -17,29 +16,17 @@ use Rattle.basics.specs.Dimension.{choose}
 use Rattle.basics.proofs.Range.{sum-append, all-append, all-at, term-le, and-left, and-right, and-false}
 use Rattle.grid.proofs.Size.{in-size, span-byte}
 use Rattle.grid.proofs.Places.{one, two, three, place-lt, bin-of-place, place-along}
-use Rattle.table.specs.declared.Cell.{Cell}
-use Rattle.table.specs.declared.Weighed.{Weighed}
-use Rattle.table.specs.declared.Weighed.the-variants.{Total, Unsound}
+use Rattle.table.specs.declared.cell.Cell.{Cell}
+use Rattle.table.specs.declared.sound.SoundTotal.{SoundTotal}
+use Rattle.table.specs.declared.sound.SoundTotal.the-variants.{Total, Unsound}
 use Rattle.table.specs.Cell.{View, cellOf, numberOf}
-use Rattle.table.specs.Table.{HasCell}
-use Rattle.table.specs.Sound.{limit, inBounds, spanAt, binSound, total, sound, weighed}
-use Rattle.table.specs.Scan.{scanned, Row, ByteSpan}
+use Rattle.table.specs.Table.{Table, HasCell}
+use Rattle.table.specs.Sound.{limit, inBounds, spanAt, binSound, total, sound, soundTotal}
+use Rattle.table.specs.Inner.{scanned, Row, ByteSpan}
 use Rattle.table.proofs.Cells.{number-cell}
 use Rattle.table.proofs.Soundness.{bounds-same}
-
-cond-total : (b : Bool) (x y : ℕ) → cond b (Total x) Unsound ≡ Total y → (b ≡ true) × (y ≡ x)
-cond-total true x y e = (refl, (cc))
-cond-total false x y e = absurd (never e)
-  where
-    never : Unsound ≡ Total y → ⊥
-    never q = let z : _≡_ {A = ℕ} 0 1 = cc in omega arith
-
-cond-unsound : (b : Bool) (x : ℕ) → cond b (Total x) Unsound ≡ Unsound → b ≡ false
-cond-unsound true x e = absurd (never e)
-  where
-    never : Total x ≡ Unsound → ⊥
-    never q = let z : _≡_ {A = ℕ} 0 1 = cc in omega arith
-cond-unsound false x e = refl
+use Rattle.table.proofs.Tables.{has-cell}
+use Rattle.table.proofs.Total.{cond-total, cond-unsound}
 
 module _ (most : ℕ) (g : Grid) (v : View) where
   abbrev weights : ℕ → ℕ → ℕ
@@ -104,7 +91,7 @@ module _ (most : ℕ) (g : Grid) (v : View) where
       go false r l = rw (all-append p n m (binSound g v), r) refl
 
   -- block after block of bins, each of one size: rows of a plane, planes of a table
-  pub block-more : (p size k had x : ℕ) (w : Weighed) → scanned most g v p (k * size) had ≡ Total x → {q : ℕ} → q ≡ p + k * size → w ≡ scanned most g v q size x → scanned most g v p ((k + 1) * size) had ≡ w
+  pub block-more : (p size k had x : ℕ) (w : SoundTotal) → scanned most g v p (k * size) had ≡ Total x → {q : ℕ} → q ≡ p + k * size → w ≡ scanned most g v q size x → scanned most g v p ((k + 1) * size) had ≡ w
   block-more p size k had x w e {q} at r =
       ap (λ (n : ℕ). scanned most g v p n had) (add-mul k 1 size ∙ ap (λ (n : ℕ). k * size + n) (one-mul size))
       ∙ scan-more p (k * size) size had x e
@@ -122,19 +109,10 @@ module _ (most : ℕ) (g : Grid) (v : View) where
   pub scan-under : (p n had x : ℕ) → scanned most g v p n had ≡ Total x → x ≤ most
   scan-under p n had x e = let s = scan-says p n had x e in omega (arith, s .is, s .under)
 
-  -- a table is weighed by all of its bins
-  pub scan-all : weighed most g v ≡ scanned most g v 0 (binsOf g) 0
-  unfolding weighed sound total scanned
+  -- a table is soundTotal by all of its bins
+  pub scan-all : soundTotal most g v ≡ scanned most g v 0 (binsOf g) 0
+  unfolding soundTotal sound total scanned
   scan-all = rw (zero-add (weights 0 (binsOf g))) refl
-
--- what weighing a whole table says
-pub weighed-unsound : (most : ℕ) (g : Grid) (v : View) → weighed most g v ≡ Unsound → sound most g v ≡ false
-unfolding weighed
-weighed-unsound most g v e = cond-unsound (sound most g v) (total g v) e
-
-pub weighed-total : (most : ℕ) (g : Grid) (v : View) (x : ℕ) → weighed most g v ≡ Total x → (sound most g v ≡ true) × (x ≡ total g v)
-unfolding weighed
-weighed-total most g v x e = cond-total (sound most g v) (total g v) x e
 
 -- ---- a row of bins
 chosen-span : (g : Grid) (r gr b d : ℕ) → spanOf (shiftAt g d) (choose d r gr b) ≡ choose d (spanOf (g .shift1) r) (spanOf (g .shift2) gr) (spanOf (g .shift3) b)
@@ -147,7 +125,7 @@ pub byte-span : (shift bin : ℕ) → InSize shift bin → ByteSpan (spanOf shif
 unfolding spanOf
 byte-span shift bin i = let h = span-byte shift bin i in record { low = omega arith; high = h }
 
-module _ {g : Grid} {t : List ℕ} {r gr had : ℕ} (row : Row g t r gr had) where
+module _ {most : ℕ} {g : Grid} {t : Table} {r gr had : ℕ} (row : Row most g t r gr had) where
   sizes : Accepted g
   sizes = row .table .accepted
 
@@ -158,7 +136,7 @@ module _ {g : Grid} {t : List ℕ} {r gr had : ℕ} (row : Row g t r gr had) whe
   row-place b h e = rw (e, place-along g r gr b) (place-lt (inside b h))
 
   pub row-cell : (b : ℕ) → b < g .size3 → {from : ℕ} → from ≡ placeOf g r gr 0 → HasCell t (from + b)
-  row-cell b h e = record { fits = omega (arith, row-place b h e, row .table .lent) }
+  row-cell b h {from} e = has-cell (row .table .lent) (from + b) (row-place b h e)
 
   pub row-one : InSize (g .shift1) r
   row-one = in-size (one sizes) r (row .inside .one)
@@ -192,13 +170,3 @@ module _ {g : Grid} {t : List ℕ} {r gr had : ℕ} (row : Row g t r gr had) whe
       ∙ ap (λ (y : Bool). leb (v p 0) limit && y)
       ((λ i. inBounds (λ d. (row-span b h d ∙ ap (λ (q : ℕ). spanAt g (q + b) d) (sym e)) i) (numberOf (cellOf (v p))))
       ∙ bounds-same (spanAt g p) (numberOf (cellOf (v p))) (v p) (λ j k. number-cell (v p) j k)))
-
--- the answer, case by case
-module _ (most : ℕ) (g : Grid) (v : View) where
-  pub total-told : sound most g v ≡ true → weighed most g v ≡ Total (total g v)
-  unfolding weighed
-  total-told e = rw e refl
-
-  pub unsound-told : sound most g v ≡ false → weighed most g v ≡ Unsound
-  unfolding weighed
-  unsound-told e = rw e refl

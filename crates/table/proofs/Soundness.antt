@@ -13,10 +13,10 @@ use Rattle.basics.specs.Range.{sumFrom, allFrom}
 use Rattle.grid.specs.Size.{spanOf}
 use Rattle.grid.specs.Grid.{Accepted, binsOf, binAt, shiftAt}
 use Rattle.basics.specs.Dimension.{choose}
-use Rattle.basics.proofs.Range.{sum-same, sum-zero, term-le, and-left, and-right, all-true, all-at, all-same}
+use Rattle.basics.proofs.Range.{sum-same, sum-zero, sum-le, sum-scale, term-le, and-left, and-right, all-true, all-at, all-same}
 use Rattle.grid.proofs.Size.{in-size, span-byte}
 use Rattle.grid.proofs.Places.{sized-at, bin-at-below}
-use Rattle.table.specs.declared.Cell.{Cell}
+use Rattle.table.specs.declared.cell.Cell.{Cell}
 use Rattle.table.specs.Cell.{View, zeros, numberOf}
 use Rattle.table.specs.Sound.{limit, between, inBounds, spanAt, binSound, total, sound}
 
@@ -155,13 +155,18 @@ module _ {most : ℕ} {g : Grid} {v : View} (s : Sound most g v) where
       keeps (spanAt g p) (v p)
       (all-at 0 (binsOf g) (binSound g v) (and-left (allFrom 0 (binsOf g) (binSound g v)) (leb (total g v) most) (s .holds)) p (omega arith) (omega arith))
 
-  pub sound-total : total g v ≤ most
+  pub total-high : total g v ≤ most
   unfolding sound
-  sound-total = leb-true (total g v) most (and-right (allFrom 0 (binsOf g) (binSound g v)) (leb (total g v) most) (s .holds))
+  total-high = leb-true (total g v) most (and-right (allFrom 0 (binsOf g) (binSound g v)) (leb (total g v) most) (s .holds))
 
   -- "the squares are at most 195,075·n"
   pub squares-high : (p : ℕ) → p < binsOf g → v p 4 ≤ 195075 * v p 0
   squares-high p h = sound-keeps p h .squares
+
+-- a table that is sound for a limit is sound for a larger one
+pub sound-wider : {few most : ℕ} {g : Grid} {v : View} → few ≤ most → Sound few g v → Sound most g v
+sound-wider {few} {most} {g} {v} l s =
+    sound-by most g v (sound-keeps s) (omega (arith, total-high s))
 
 -- "all weights total": the total is the sum of the weights
 pub total-is : (g : Grid) (v : View) → total g v ≡ sumFrom 0 (binsOf g) (λ p. v p 0)
@@ -198,4 +203,13 @@ module _ {most : ℕ} {g : Grid} {v : View} (a : Accepted g) (s : Sound most g v
 
   -- "every total stays below 195,075 · 2^32 < 2^50"
   pub number-below : most ≤ limit → (j : ℕ) → j < 5 → v p j < 2 ^ 50
-  number-below m j l = omega (arith, number-high j l, weight-high g v p h, sound-total s)
+  number-below m j l = omega (arith, number-high j l, weight-high g v p h, total-high s)
+
+-- the sums of a component over all bins are at most 255 times the total
+pub components-high : {most : ℕ} {g : Grid} {v : View} → Accepted g → Sound most g v → (d : ℕ) → d < 3
+    → sumFrom 0 (binsOf g) (λ p. v p (d + 1)) ≤ 255 * total g v
+unfolding total
+components-high {most} {g} {v} a s d l =
+    let each : sumFrom 0 (binsOf g) (λ p. v p (d + 1)) ≤ sumFrom 0 (binsOf g) (λ p. 255 * v p 0) =
+    sum-le 0 (binsOf g) (λ p. v p (d + 1)) (λ p. 255 * v p 0) (λ p h k. sums-high a s p (omega arith) d l) in
+    omega (arith, sum-scale 255 0 (binsOf g) (λ p. v p 0))

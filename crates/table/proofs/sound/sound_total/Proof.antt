@@ -1,4 +1,4 @@
--- `table::weigh` meets its contract: after each plane the total is that of the planes so far.
+-- `table::sound::sound_total` meets its contract: after each plane the total is that of the planes so far.
 -- Assumes nothing.
 use mathlib.Core.Path.{_≡_, sym, ap, _∙_}
 use Prim.Native.Nat.{ℕ, _≤_, _-_, _*_}
@@ -10,17 +10,17 @@ use Rattle.grid.specs.declared.place.Grid.{Grid}
 use Rattle.grid.specs.Grid.{binsOf}
 use Rattle.grid.proofs.Places.{one, two, three, plane-start}
 use Rattle.grid.proofs.Size.{size-low, size-high}
-use Rattle.table.specs.declared.Weighed.the-variants.{Total, Unsound}
-use Rattle.table.specs.Scan.{scanned}
-use Rattle.table.specs.Sound.{limit, weighed}
+use Rattle.table.specs.declared.sound.SoundTotal.the-variants.{Total, Unsound}
+use Rattle.table.specs.Inner.{scanned}
+use Rattle.table.specs.Sound.{limit, soundTotal}
 use Rattle.table.specs.Cell.{View}
 use Rattle.table.specs.Table.{viewOf}
 use Rattle.table.proofs.Scans.{scan-none, scan-under, scan-all, block-more, block-stop}
-use Rattle.table.proofs.weigh.Statement.{statement}
-use Rattle.table.proofs.weigh.Tie as tie
+use Rattle.table.proofs.sound.sound_total.Statement.{statement}
+use Rattle.table.proofs.sound.sound_total.Tie as tie
 
 -- all bins are the planes' bins
-whole : (g : Grid) (v : View) → weighed limit g v ≡ scanned limit g v 0 (g .size1 * (g .size2 * g .size3)) 0
+whole : (g : Grid) (v : View) → soundTotal limit g v ≡ scanned limit g v 0 (g .size1 * (g .size2 * g .size3)) 0
 unfolding binsOf
 whole g v = scan-all limit g v ∙ ap (λ (n : ℕ). scanned limit g v 0 n 0) (mul-assoc (g .size1) (g .size2) (g .size3))
 
@@ -39,8 +39,8 @@ loop-holds c =
           ∙ scan-none limit (s .args .g) (viewOf (now (s .args .table))) 0 0 (omega arith),
     )
 
-weigh-plane-requires : tie.Need-weigh-plane-requires Inv-loop μ-loop
-weigh-plane-requires c κs =
+plane-total-requires : tie.Need-plane-total-requires Inv-loop μ-loop
+plane-total-requires c κs =
     let s = c .before .before .before .before in
     let l = c .before .before .loop in
     let a = s .pre .accepted in
@@ -66,7 +66,7 @@ returns c =
     (whole g v
     ∙ block-stop limit g v 0 (g .size2 * g .size3) (l .r) (g .size1) 0 (c .before .before .before .if1 .taken)
     (block-more limit g v 0 (g .size2 * g .size3) (l .r) 0 (l .total) Unsound (l .inv .1) (plane-start g (l .r))
-    (sym (c .enum-told .given .1) ∙ c .before .before .weigh-plane .ensures)))
+    (sym (c .enum-told .given .1) ∙ c .before .before .plane-total .ensures)))
 
 add-r : tie.Need-add-r Inv-loop μ-loop
 add-r c =
@@ -82,10 +82,10 @@ loop-again c =
     let l = c .before .before .before .before .before .before .loop in
     let g = s .args .g in
     let v = viewOf (now (s .args .table)) in
-    let good : c .before .before .before .weigh-plane .result ≡ Total (c .before .x .given .0 .0) = c .before .x .given .1 in (
+    let good : c .before .before .before .plane-total .result ≡ Total (c .before .x .given .0 .0) = c .before .x .given .1 in (
       omega (arith, c .before .before .before .before .if1 .taken),
       block-more limit g v 0 (g .size2 * g .size3) (l .r) 0 (l .total) (Total (c .before .x .given .0 .0)) (l .inv .1) (plane-start g (l .r))
-          (sym good ∙ c .before .before .before .weigh-plane .ensures),
+          (sym good ∙ c .before .before .before .plane-total .ensures),
     )
 
 returns-2 : tie.Need-returns-2 Inv-loop μ-loop
@@ -97,14 +97,14 @@ returns-2 c =
     let all : l .r ≡ g .size1 = omega arith in
     sym (whole g v ∙ ap (λ (n : ℕ). scanned limit g v 0 (n * (g .size2 * g .size3)) 0) (sym all) ∙ l .inv .1)
 
-pub weigh-spec : {M : Type 1} → statement M
-weigh-spec =
+pub sound-total-spec : {M : Type 1} → statement M
+sound-total-spec =
     tie.close
     (tie.spec
     Inv-loop
     μ-loop
     loop-holds
-    weigh-plane-requires
+    plane-total-requires
     enum-known-x
     enum-told
     returns

@@ -1,12 +1,12 @@
--- `table::cell_at` meets its contract: five numbers, read where they stand.
+-- `table::layout::cell_at` meets its contract: five numbers, read where they stand.
 -- Assumes nothing.
 use mathlib.Core.Path.{refl}
 use native.Mathlib.Nat.{add-zero}
 use borrow.Author.Needs.{needs}
 use Rattle.table.specs.Cell.{cellOf}
 use Rattle.table.specs.Table.{viewOf}
-use Rattle.table.proofs.cell_at.Statement.{statement}
-use Rattle.table.proofs.cell_at.Tie as tie
+use Rattle.table.proofs.layout.cell_at.Statement.{statement}
+use Rattle.table.proofs.layout.cell_at.Tie as tie
 
 mul-at : tie.Need-mul-at
 mul-at c = search needs

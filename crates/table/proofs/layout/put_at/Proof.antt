@@ -1,12 +1,12 @@
--- `table::put_at` meets its contract: five numbers, written where they stand.
+-- `table::layout::put_at` meets its contract: five numbers, written where they stand.
 -- Assumes nothing.
 use mathlib.Core.Path.{refl}
 use native.Mathlib.Omega.{arith}
 use borrow.Author.Needs.{needs}
 use lib.ListN.{length-set}
 use Rattle.table.specs.Table.{putAt}
-use Rattle.table.proofs.put_at.Statement.{statement}
-use Rattle.table.proofs.put_at.Tie as tie
+use Rattle.table.proofs.layout.put_at.Statement.{statement}
+use Rattle.table.proofs.layout.put_at.Tie as tie
 
 mul-at : tie.Need-mul-at
 mul-at c = search needs

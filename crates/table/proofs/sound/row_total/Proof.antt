@@ -1,4 +1,4 @@
--- `table::weigh_row` meets its contract: after b bins all of them are in bounds and the total is that of their weights.
+-- `table::sound::row_total` meets its contract: after b bins all of them are in bounds and the total is that of their weights.
 -- Assumes nothing.
 use mathlib.Core.Bool.{true, _&&_, Bool}
 use mathlib.Core.Path.{_≡_, refl, sym, ap, _∙_}
@@ -13,15 +13,15 @@ use Rattle.basics.specs.Range.{sumFrom, allFrom}
 use Rattle.grid.proofs.Size.{size-high}
 use Rattle.basics.proofs.Range.{sum-last, all-last, and-left, and-right}
 use Rattle.grid.proofs.Places.{bins-high, three}
-use Rattle.table.specs.declared.Weighed.the-variants.{Total}
-use Rattle.table.specs.declared.Cell.{Cell}
-use Rattle.table.specs.Scan.{scanned}
+use Rattle.table.specs.declared.sound.SoundTotal.the-variants.{Total}
+use Rattle.table.specs.declared.cell.Cell.{Cell}
+use Rattle.table.specs.Inner.{scanned}
 use Rattle.table.specs.Sound.{limit, binSound}
 use Rattle.table.specs.Table.{viewOf}
 use Rattle.table.specs.Cell.{cellOf, View}
 use Rattle.table.proofs.Scans.{row-place, row-cell, row-one, row-two, row-three, row-bin, byte-span, scan-bad, scan-over, scan-total}
-use Rattle.table.proofs.weigh_row.Statement.{statement}
-use Rattle.table.proofs.weigh_row.Tie as tie
+use Rattle.table.proofs.sound.row_total.Statement.{statement}
+use Rattle.table.proofs.sound.row_total.Tie as tie
 
 abbrev Inv-loop : tie.InvT-loop
 Inv-loop table g r gr had s1 s2 start total₀ b₀ total b =
@@ -156,8 +156,8 @@ returns-3 c =
     ∙ sym (scan-total limit (s .args .g) v from (l .b) (s .args .had) (l .inv .2) (omega (arith, l .inv .1)))
     ∙ ap (λ (n : ℕ). scanned limit (s .args .g) v from n (s .args .had)) all)
 
-pub weigh-row-spec : {M : Type 1} → statement M
-weigh-row-spec =
+pub row-total-spec : {M : Type 1} → statement M
+row-total-spec =
     tie.close
     (tie.spec
     Inv-loop

@@ -1,4 +1,4 @@
--- `table::weigh_plane` meets its contract: after each row the total is that of the rows so far.
+-- `table::sound::plane_total` meets its contract: after each row the total is that of the rows so far.
 -- Assumes nothing.
 use mathlib.Core.Path.{_≡_, sym, ap, _∙_}
 use Prim.Native.Nat.{ℕ, _≤_, _-_, _*_}
@@ -9,13 +9,13 @@ use denote.Ref.{now}
 use Rattle.grid.specs.Grid.{placeOf}
 use Rattle.grid.proofs.Places.{two, row-start}
 use Rattle.grid.proofs.Size.{size-high}
-use Rattle.table.specs.declared.Weighed.the-variants.{Total, Unsound}
-use Rattle.table.specs.Scan.{scanned}
+use Rattle.table.specs.declared.sound.SoundTotal.the-variants.{Total, Unsound}
+use Rattle.table.specs.Inner.{scanned}
 use Rattle.table.specs.Sound.{limit}
 use Rattle.table.specs.Table.{viewOf}
 use Rattle.table.proofs.Scans.{scan-none, scan-under, block-more, block-stop}
-use Rattle.table.proofs.weigh_plane.Statement.{statement}
-use Rattle.table.proofs.weigh_plane.Tie as tie
+use Rattle.table.proofs.sound.plane_total.Statement.{statement}
+use Rattle.table.proofs.sound.plane_total.Tie as tie
 
 abbrev Inv-loop : tie.InvT-loop
 Inv-loop table g r had total₀ gr₀ total gr =
@@ -32,8 +32,8 @@ loop-holds c =
           ∙ scan-none limit (s .args .g) (viewOf (now (s .args .table))) _ (s .args .had) (s .pre .under),
     )
 
-weigh-row-requires : tie.Need-weigh-row-requires Inv-loop μ-loop
-weigh-row-requires c κs =
+row-total-requires : tie.Need-row-total-requires Inv-loop μ-loop
+row-total-requires c κs =
     let s = c .before .before .before .before in
     let l = c .before .before .loop in
     record {
@@ -57,7 +57,7 @@ returns c =
     sym
     (block-stop limit g v (placeOf g (s .args .r) 0 0) (g .size3) (l .gr) (g .size2) (s .args .had) (c .before .before .before .if1 .taken)
     (block-more limit g v (placeOf g (s .args .r) 0 0) (g .size3) (l .gr) (s .args .had) (l .total) Unsound (l .inv .1) (row-start g (s .args .r) (l .gr))
-    (sym (c .enum-told .given .1) ∙ c .before .before .weigh-row .ensures)))
+    (sym (c .enum-told .given .1) ∙ c .before .before .row-total .ensures)))
 
 add-gr : tie.Need-add-gr Inv-loop μ-loop
 add-gr c =
@@ -73,10 +73,10 @@ loop-again c =
     let l = c .before .before .before .before .before .before .loop in
     let g = s .args .g in
     let v = viewOf (now (s .args .table)) in
-    let good : c .before .before .before .weigh-row .result ≡ Total (c .before .x .given .0 .0) = c .before .x .given .1 in (
+    let good : c .before .before .before .row-total .result ≡ Total (c .before .x .given .0 .0) = c .before .x .given .1 in (
       omega (arith, c .before .before .before .before .if1 .taken),
       block-more limit g v (placeOf g (s .args .r) 0 0) (g .size3) (l .gr) (s .args .had) (l .total) (Total (c .before .x .given .0 .0)) (l .inv .1) (row-start g (s .args .r) (l .gr))
-          (sym good ∙ c .before .before .before .weigh-row .ensures),
+          (sym good ∙ c .before .before .before .row-total .ensures),
     )
 
 returns-2 : tie.Need-returns-2 Inv-loop μ-loop
@@ -86,14 +86,14 @@ returns-2 c =
     let all : l .gr ≡ s .args .g .size2 = omega arith in
     sym (l .inv .1) ∙ ap (λ (n : ℕ). scanned limit (s .args .g) (viewOf (now (s .args .table))) (placeOf (s .args .g) (s .args .r) 0 0) (n * s .args .g .size3) (s .args .had)) all
 
-pub weigh-plane-spec : {M : Type 1} → statement M
-weigh-plane-spec =
+pub plane-total-spec : {M : Type 1} → statement M
+plane-total-spec =
     tie.close
     (tie.spec
     Inv-loop
     μ-loop
     loop-holds
-    weigh-row-requires
+    row-total-requires
     enum-known-x
     enum-told
     returns
