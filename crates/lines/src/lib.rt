@@ -1,7 +1,7 @@
 // What the listing program does between reading and writing: it loads its input batch by batch, and puts the text for
 // what was loaded into a lent buffer.
 use cutter::cut;
-use loader::load;
+use loader::load::load;
 ghost use mathlib.Core.Path.{_≡_};
 ghost use mathlib.Core.List.{[], _∷_};
 ghost use Prim.Native.Nat.{_+_, _*_, _%_, _≤_, _<_};

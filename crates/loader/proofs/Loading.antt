@@ -21,11 +21,11 @@ use Rattle.basics.proofs.Range.{sum-plus, sum-zero, sum-hit, hit}
 use Rattle.grid.proofs.Size.{span-low, span-high}
 use Rattle.grid.proofs.Places.{Bytes, colour-bin, colour-place-lt}
 use Rattle.table.specs.Cell.{View}
-use Rattle.table.specs.Table.{viewOf}
+use Rattle.table.specs.Table.{Table, viewOf}
 use Rattle.table.specs.Sound.{spanAt, total}
 use Rattle.loader.specs.Load.{Weighted, share, adds, sumOver, weightOf, loaded}
 use Rattle.table.proofs.Soundness.{Keeps, keeps-zero, keeps-plus, Sound, sound-by, sound-keeps, sound-same, total-is, total-same, span-is}
-use Rattle.table.proofs.Cells.{Holds}
+use Rattle.table.proofs.Tables.{Holds}
 
 -- a test of a rest is one of a sum
 pub rest-test : (m had n : ℕ) → had ≤ m → leb n (m - had) ≡ leb (had + n) m
@@ -140,7 +140,7 @@ module _ {g : Grid} (a : Accepted g) where
       (omega (arith, load-total cs b v))
 
 -- ---- a table that holds what was there with colours loaded
-module _ {g : Grid} (a : Accepted g) (cs : List Weighted) (b : AllBytes cs) (v : View) {s : List ℕ} (holds : Holds (binsOf g) s (loaded g cs v)) where
+module _ {g : Grid} (a : Accepted g) (cs : List Weighted) (b : AllBytes cs) (v : View) {s : Table} (holds : Holds (binsOf g) s (loaded g cs v)) where
   pub held-sound : {most : ℕ} → Sound most g v → total g v + weightOf cs ≤ most → Sound most g (viewOf s)
   held-sound {most} k u = record { holds = sound-same g (viewOf s) (loaded g cs v) (holds .at) most ∙ load-sound a cs b k u .holds }
 

@@ -13,11 +13,12 @@ use Rattle.basics.specs.Range.{sumFrom}
 use Rattle.basics.proofs.Range.{sum-last}
 use Rattle.grid.proofs.Size.{size-low}
 use Rattle.grid.proofs.Places.{two, three, place-lt, place-along}
-use Rattle.table.specs.declared.Cell.{Cell}
-use Rattle.table.specs.Cell.{View, numberOf, cellOf, plusCell, minusCell, Room, AtLeast}
+use Rattle.table.specs.declared.cell.Cell.{Cell}
+use Rattle.table.specs.Cell.{View, numberOf, cellOf, plusCell, minusCell, SumsFit, AtLeast}
 use Rattle.table.specs.Table.{viewOf, written, putAt, HasCell}
 use Rattle.table.specs.Sound.{limit}
-use Rattle.table.proofs.Cells.{number-cell, number-plus, number-minus, cell-by, zero-cell, holds-list, length-put, put-there, put-elsewhere}
+use Rattle.table.proofs.Cells.{number-cell, number-plus, number-minus, cell-by, zero-cell}
+use Rattle.table.proofs.Tables.{holds-list, put-sized, put-there, put-elsewhere}
 use Rattle.table.proofs.Soundness.{Sound}
 use Rattle.sums.specs.Moments.{belowSum, momentsOf, lineSum, momentCell, lineCell, Lent, Before, Ready}
 use Rattle.sums.proofs.Below.{moments-at, below-none, below-no-row, below-step, below-grows, below-rises, below-small}
@@ -136,7 +137,7 @@ module _ {g : Grid} {t w : List ℕ} {r gr b : ℕ} (ready : Ready g t w r gr b)
         (λ j m. let f = made j m in omega (arith, f .step, f .goal, no-plane h gr j, no-plane h (gr + 1) j, no-row k (r + 1) j))
 
     module _ {a : Cell} (ha : Has g (viewOf t) b a (r + 1) gr) where
-      pub above-room : Room l a
+      pub above-room : SumsFit l a
       above-room = record { fits = λ j m. let f = made j m in omega (arith, f .step, f .row, f .fits, ha .at j m) }
 
       pub with-above : r ≡ 0 → {s : Cell} → s ≡ plusCell l a → s ≡ momentCell g (viewOf t) (placeOf g r gr b)
@@ -147,7 +148,7 @@ module _ {g : Grid} {t w : List ℕ} {r gr b : ℕ} (ready : Ready g t w r gr b)
           omega (arith, ap (λ (x : Cell). numberOf x j) q, number-plus l a j m, f .step, f .goal, ha .at j m, no-plane h gr j, no-plane h (gr + 1) j))
 
     module _ {c : Cell} (hc : Has g (viewOf t) b c r (gr + 1)) where
-      pub before-room : Room l c
+      pub before-room : SumsFit l c
       before-room = record { fits = λ j m. let f = made j m in omega (arith, f .step, f .plane, f .fits, hc .at j m) }
 
       pub with-before : gr ≡ 0 → {s : Cell} → s ≡ plusCell l c → s ≡ momentCell g (viewOf t) (placeOf g r gr b)
@@ -162,7 +163,7 @@ module _ {g : Grid} {t w : List ℕ} {r gr b : ℕ} (ready : Ready g t w r gr b)
         corner-least = record { least = λ j m. let f = made j m in omega (arith, f .row, hc .at j m, hd .at j m) }
 
         module _ {a : Cell} (ha : Has g (viewOf t) b a (r + 1) gr) {s : Cell} (q : s ≡ plusCell l a) {x : Cell} (o : x ≡ minusCell c d) where
-          pub rest-room : Room s x
+          pub rest-room : SumsFit s x
           rest-room =
               record {
                 fits = λ j m.
@@ -197,7 +198,7 @@ module _ {g : Grid} {t w : List ℕ} {r gr b : ℕ} (ready : Ready g t w r gr b)
         + (ap (λ (x : Cell). numberOf x j) q ∙ number-cell (viewOf t p) j h ∙ ap (λ (n : ℕ). viewOf t n j) at) i)
         ∙ sym (line-next j)
 
-    pub line-room : Room l c
+    pub line-room : SumsFit l c
     line-room = record { fits = λ j h. omega (arith, parts j h, line-small j h) }
 
     pub line-through : {s : Cell} → s ≡ plusCell l c → s ≡ lineCell g (viewOf t) r gr (b + 1)
@@ -220,7 +221,7 @@ module _ {g : Grid} {t w : List ℕ} {r gr b : ℕ} (ready : Ready g t w r gr b)
       record {
         table = ready .before .table;
         is-sound = ready .before .is-sound;
-        lent = ap length u ∙ length-put w (placeOf g r gr b) (momentCell g (viewOf t) (placeOf g r gr b)) ∙ ready .before .lent;
+        lent = ap length u ∙ put-sized w (placeOf g r gr b) (momentCell g (viewOf t) (placeOf g r gr b)) ∙ ready .before .lent;
         made = λ q j h k. ap (λ (x : List ℕ). viewOf x q j) u ∙ go q j h k (ℕ-discrete (placeOf g r gr b) q);
       }
     where

@@ -7,7 +7,7 @@ use lib.ListN.{length}
 use Rattle.grid.specs.declared.place.Grid.{Grid}
 use Rattle.basics.specs.Range.{sumFrom}
 use Rattle.grid.specs.Grid.{binsOf, placeOf, binAt, Inside}
-use Rattle.table.specs.declared.Cell.{Cell}
+use Rattle.table.specs.declared.cell.Cell.{Cell}
 use Rattle.table.specs.Cell.{View, cellOf}
 use Rattle.table.specs.Table.{Table, viewOf, written, TableOf}
 use Rattle.table.specs.Sound.{limit, sound}

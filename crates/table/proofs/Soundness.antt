@@ -3,7 +3,7 @@
 use mathlib.Core.Path.{_≡_, refl, ap, _∙_}
 use mathlib.Core.Bool.{Bool, true, false, _&&_}
 use Prim.Native.Nat.{ℕ, zero, suc, _+_, _*_, _^_, _≤_, _<_}
-use native.Mathlib.Nat.{add-mul, zero-mul, mul-le-mul-left, mul-comm}
+use native.Mathlib.Nat.{add-mul, zero-mul, mul-le-mul-left, mul-comm, lt-trans}
 use native.Mathlib.Omega.{arith}
 use borrow.Author.Tests.{le-leb, lt-leb, leb-true}
 use lib.Dec.{leb, leb·zero, lit<}
@@ -18,6 +18,7 @@ use Rattle.grid.proofs.Size.{in-size, span-byte}
 use Rattle.grid.proofs.Places.{sized-at, bin-at-below}
 use Rattle.table.specs.declared.cell.Cell.{Cell}
 use Rattle.table.specs.Cell.{View, zeros, numberOf}
+use Rattle.table.specs.Table.{Held}
 use Rattle.table.specs.Sound.{limit, between, inBounds, spanAt, binSound, total, sound}
 
 -- ---- the bounds of one bin, as facts
@@ -204,6 +205,10 @@ module _ {most : ℕ} {g : Grid} {v : View} (a : Accepted g) (s : Sound most g v
   -- "every total stays below 195,075 · 2^32 < 2^50"
   pub number-below : most ≤ limit → (j : ℕ) → j < 5 → v p j < 2 ^ 50
   number-below m j l = omega (arith, number-high j l, weight-high g v p h, total-high s)
+
+  -- so that a cell of it, written, fits its place
+  pub sound-held : most ≤ limit → {c : Cell} → ((j : ℕ) → j < 5 → numberOf c j ≡ v p j) → Held c
+  sound-held m e = record { fits = λ j l. rw (e j l) (lt-trans (number-below m j l) (lit< tt)) }
 
 -- the sums of a component over all bins are at most 255 times the total
 pub components-high : {most : ℕ} {g : Grid} {v : View} → Accepted g → Sound most g v → (d : ℕ) → d < 3
