@@ -1,5 +1,6 @@
--- What a caller of load and merge may use without seeing inside their definitions: a refusal leaves all as it was, lengths
--- stay, and where the number is 0 the grid is accepted, the tables were sound, the total fits, and each number is known.
+-- What a caller of load and merge may use without seeing inside their definitions: a refusal leaves all as it was,
+-- lengths stay, and where the number is 0 the grid is accepted, the tables were sound, the total fits, and each number
+-- is known.
 -- Assumes nothing.
 use mathlib.Core.Path.{_≡_, refl, sym, _∙_}
 use mathlib.Core.Bool.{Bool, true, false, not, _&&_}
@@ -42,7 +43,8 @@ module _ (b1 b2 b3 : ℕ) (t : Table) (colours : List ℕ) (weighted : Bool) (we
   pub load-refused : {n : ℕ} → number ≡ suc n → later ≡ t
   unfolding loadNumber loadLater
   load-refused e =
-      call-refused (gridOf b1 b2 b3) (load-on b1 b2 b3 t colours weighted weights) (load-after b1 b2 b3 t colours weighted weights) t e
+      call-refused (gridOf b1 b2 b3) (load-on b1 b2 b3 t colours weighted weights)
+      (load-after b1 b2 b3 t colours weighted weights) t e
 
   -- its tests on an accepted grid, in their order
   pub load-tests : {g : Grid} → gridOf b1 b2 b3 ≡ chosen.Accepted g → number
@@ -68,7 +70,8 @@ module _ (b1 b2 b3 : ℕ) (t : Table) (colours : List ℕ) (weighted : Bool) (we
   pub load-says : number ≡ 0 → LoadDone
   unfolding loadNumber loadLater loadNumberOn
   load-says e =
-      let c = call-done (gridOf b1 b2 b3) (load-on b1 b2 b3 t colours weighted weights) (load-after b1 b2 b3 t colours weighted weights) t e in
+      let c = call-done (gridOf b1 b2 b3) (load-on b1 b2 b3 t colours weighted weights)
+      (load-after b1 b2 b3 t colours weighted weights) t e in
       let four = passed _ 2 _ (c .number) in
       let five = passed _ 3 _ (four .1) in
       let six = passed _ 4 _ (five .1) in
@@ -82,28 +85,37 @@ module _ (b1 b2 b3 : ℕ) (t : Table) (colours : List ℕ) (weighted : Bool) (we
         lent = test-sized (not-false _ (six .0));
         sound-before = record { holds = not-false _ (seven .0) };
         under = ltb-false limit (total (c .g) (viewOf t) + weightOf (batchOf colours weighted weights)) (last .0);
-        holds = rw (c .later) (list-holds (binsOf (c .g)) (loaded (c .g) (batchOf colours weighted weights) (viewOf t)));
+        holds =
+            rw (c .later) (list-holds (binsOf (c .g)) (loaded (c .g) (batchOf colours weighted weights) (viewOf t)));
       }
 
   -- and the other way round: "none is given otherwise"
-  pub load-accepts : {g : Grid} → gridOf b1 b2 b3 ≡ chosen.Accepted g → length colours % 3 ≡ 0 → (weighted ≡ true → length weights ≡ length colours / 3) → Sized t (binsOf g) → sound limit g (viewOf t) ≡ true → total g (viewOf t) + weightOf (batchOf colours weighted weights) ≤ limit → number ≡ 0
+  pub load-accepts : {g : Grid} → gridOf b1 b2 b3 ≡ chosen.Accepted g → length colours % 3 ≡ 0
+      → (weighted ≡ true → length weights ≡ length colours / 3) → Sized t (binsOf g) → sound limit g (viewOf t) ≡ true
+      → total g (viewOf t) + weightOf (batchOf colours weighted weights) ≤ limit → number ≡ 0
   load-accepts e threes paired lent is-sound under =
-      sym (load-done b1 b2 b3 t colours weighted weights e threes (pairs weighted (length weights) (length colours / 3) paired) lent is-sound under refl .0)
+      sym (load-done b1 b2 b3 t colours weighted weights e threes
+      (pairs weighted (length weights) (length colours / 3) paired) lent is-sound under refl .0)
 
   pub load-length : length later ≡ length t
-  load-length = same-length number t later (λ m e. load-refused e) (λ e. let d = load-says e in same-size (d .holds .lent) (d .lent))
+  load-length =
+      same-length number t later (λ m e. load-refused e)
+      (λ e. let d = load-says e in same-size (d .holds .lent) (d .lent))
 
   module _ (bytes : (k : ℕ) → getD colours k 0 < 256) (e : number ≡ 0) where
     -- loading keeps a table sound, and the total after is the sum
     pub load-keeps : Sound limit (load-says e .g) (viewOf later)
     load-keeps =
         let d = load-says e in
-        held-sound (chose b1 b2 b3 (d .g) (d .chosen) .accepted) (batchOf colours weighted weights) (all-bytes-of colours weighted weights bytes) (viewOf t) (d .holds) (d .sound-before) (d .under)
+        held-sound (chose b1 b2 b3 (d .g) (d .chosen) .accepted) (batchOf colours weighted weights)
+        (all-bytes-of colours weighted weights bytes) (viewOf t) (d .holds) (d .sound-before) (d .under)
 
-    pub load-sum : total (load-says e .g) (viewOf later) ≡ total (load-says e .g) (viewOf t) + weightOf (batchOf colours weighted weights)
+    pub load-sum : total (load-says e .g) (viewOf later)
+        ≡ total (load-says e .g) (viewOf t) + weightOf (batchOf colours weighted weights)
     load-sum =
         let d = load-says e in
-        held-total (chose b1 b2 b3 (d .g) (d .chosen) .accepted) (batchOf colours weighted weights) (all-bytes-of colours weighted weights bytes) (viewOf t) (d .holds)
+        held-total (chose b1 b2 b3 (d .g) (d .chosen) .accepted) (batchOf colours weighted weights)
+        (all-bytes-of colours weighted weights bytes) (viewOf t) (d .holds)
 
 -- ---- merge
 module _ (b1 b2 b3 : ℕ) (t s : Table) where
@@ -148,17 +160,27 @@ module _ (b1 b2 b3 : ℕ) (t s : Table) where
       record {
         g = c .g;
         chosen = c .is;
-        lent = (test-sized (and-left first second (not-false _ (six .0))), test-sized (and-right first second (not-false _ (six .0))));
-        sound-before = (record { holds = and-left one two (not-false _ (seven .0)) }, record { holds = and-right one two (not-false _ (seven .0)) });
+        lent = (
+          test-sized (and-left first second (not-false _ (six .0))),
+          test-sized (and-right first second (not-false _ (six .0))),
+        );
+        sound-before = (
+          record { holds = and-left one two (not-false _ (seven .0)) },
+          record { holds = and-right one two (not-false _ (seven .0)) },
+        );
         under = ltb-false limit (total (c .g) (viewOf t) + total (c .g) (viewOf s)) (last .0);
         holds = rw (c .later) (list-holds (binsOf (c .g)) (merged (viewOf t) (viewOf s)));
       }
 
-  pub merge-accepts : {g : Grid} → gridOf b1 b2 b3 ≡ chosen.Accepted g → Sized t (binsOf g) → Sized s (binsOf g) → sound limit g (viewOf t) ≡ true → sound limit g (viewOf s) ≡ true → total g (viewOf t) + total g (viewOf s) ≤ limit → merge-number ≡ 0
+  pub merge-accepts : {g : Grid} → gridOf b1 b2 b3 ≡ chosen.Accepted g → Sized t (binsOf g) → Sized s (binsOf g)
+      → sound limit g (viewOf t) ≡ true → sound limit g (viewOf s) ≡ true
+      → total g (viewOf t) + total g (viewOf s) ≤ limit → merge-number ≡ 0
   merge-accepts e first second one two under = sym (merge-done b1 b2 b3 t s e first second one two under refl .0)
 
   pub merge-length : length merge-later ≡ length t
-  merge-length = same-length merge-number t merge-later (λ m e. merge-refused e) (λ e. let d = merge-says e in same-size (d .holds .lent) (d .lent .0))
+  merge-length =
+      same-length merge-number t merge-later (λ m e. merge-refused e)
+      (λ e. let d = merge-says e in same-size (d .holds .lent) (d .lent .0))
 
   module _ (e : merge-number ≡ 0) where
     pub merge-keeps : Sound limit (merge-says e .g) (viewOf merge-later)
@@ -169,7 +191,9 @@ module _ (b1 b2 b3 : ℕ) (t s : Table) where
               ∙ merge-sound (d .sound-before .0) (d .sound-before .1) (d .under) .holds;
         }
 
-    pub merge-sum : total (merge-says e .g) (viewOf merge-later) ≡ total (merge-says e .g) (viewOf t) + total (merge-says e .g) (viewOf s)
+    pub merge-sum : total (merge-says e .g) (viewOf merge-later)
+        ≡ total (merge-says e .g) (viewOf t) + total (merge-says e .g) (viewOf s)
     merge-sum =
         let d = merge-says e in
-        total-same (d .g) (viewOf merge-later) (merged (viewOf t) (viewOf s)) (d .holds .at) ∙ merge-total (d .g) (viewOf t) (viewOf s)
+        total-same (d .g) (viewOf merge-later) (merged (viewOf t) (viewOf s)) (d .holds .at)
+        ∙ merge-total (d .g) (viewOf t) (viewOf s)

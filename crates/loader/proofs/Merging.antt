@@ -16,7 +16,7 @@ use Rattle.table.specs.Cell.{View, numberOf, cellOf, plusCell}
 use Rattle.table.specs.Table.{Table, Sized, viewOf, written, putAt}
 use Rattle.table.specs.Sound.{limit, total}
 use Rattle.loader.specs.Merge.{merged}
-use Rattle.loader.specs.Inner.{CanAdd}
+use Rattle.loader.specs.Inner.{CellFits}
 use Rattle.table.proofs.Tables.{has-cell, Holds, holds-same, holds-list, holds-itself, add-holds}
 use Rattle.table.proofs.Cells.{number-cell, number-plus}
 use Rattle.table.proofs.Soundness.{keeps-plus, Sound, sound-by, sound-keeps, total-is, number-below, sound-held}
@@ -28,7 +28,8 @@ partly p v u q j = v q j + cond (ltb q p) (u q j) 0
 pub none-added : (n : ℕ) (t : Table) (u : View) → Sized t n → Holds n t (partly 0 (viewOf t) u)
 none-added n t u e =
     holds-same (holds-itself n t e)
-    (λ q j h k. sym (ap (λ (b : Bool). viewOf t q j + cond b (u q j) 0) (le-ltb q 0 (omega arith)) ∙ add-zero (viewOf t q j)))
+    (λ q j h k. sym (ap (λ (b : Bool). viewOf t q j + cond b (u q j) 0) (le-ltb q 0 (omega arith))
+    ∙ add-zero (viewOf t q j)))
 
 one-more : (p q x y : ℕ) → (x + cond (ltb q p) y 0) + cond (eqb p q) y 0 ≡ x + cond (ltb q (p + 1)) y 0
 one-more p q x y = go (ℕ-discrete p q) (decLe p q)
@@ -38,7 +39,8 @@ one-more p q x y = go (ℕ-discrete p q) (decLe p q)
     go (no e) (yes l) = rw (le-ltb q p l, ne-eqb p q e, le-ltb q (p + 1) (omega arith)) (omega arith)
     go (no e) (no l) = rw (lt-ltb q p (omega arith), ne-eqb p q e, lt-ltb q (p + 1) (omega arith)) (omega arith)
 
-module _ {n : ℕ} {t : Table} (v u : View) (p : ℕ) (h : Holds n t (partly p v u)) (l : p < n) {c : Cell} (e : c ≡ cellOf (u p)) where
+module _ {n : ℕ} {t : Table} (v u : View) (p : ℕ) (h : Holds n t (partly p v u)) (l : p < n) {c : Cell}
+    (e : c ≡ cellOf (u p)) where
   number : (j : ℕ) → j < 5 → numberOf c j ≡ u p j
   number j k = ap (λ (x : Cell). numberOf x j) e ∙ number-cell (u p) j k
 
@@ -57,7 +59,7 @@ module _ {n : ℕ} {t : Table} (v u : View) (p : ℕ) (h : Holds n t (partly p v
 
   -- a cell of it can be added where the tables merge to a sound one
   pub can-add : {most : ℕ} {g : Grid} → Accepted g → Sound most g (merged v u) → most ≤ limit → p < binsOf g
-      → CanAdd t p c
+      → CellFits t p c
   unfolding merged
   can-add a s m b =
       record {
@@ -85,9 +87,12 @@ all-added {n} v u h =
 pub merge-total : (g : Grid) (v u : View) → total g (merged v u) ≡ total g v + total g u
 unfolding merged
 merge-total g v u =
-    total-is g (merged v u) ∙ sum-plus 0 (binsOf g) (λ p. v p 0) (λ p. u p 0) ∙ (λ i. sym (total-is g v) i + sym (total-is g u) i)
+    total-is g (merged v u) ∙ sum-plus 0 (binsOf g) (λ p. v p 0) (λ p. u p 0)
+    ∙ (λ i. sym (total-is g v) i + sym (total-is g u) i)
 
-pub merge-sound : {most : ℕ} {g : Grid} {v u : View} → Sound most g v → Sound most g u → total g v + total g u ≤ most → Sound most g (merged v u)
+pub merge-sound : {most : ℕ} {g : Grid} {v u : View} → Sound most g v → Sound most g u → total g v + total g u ≤ most
+    → Sound most g (merged v u)
 unfolding merged
 merge-sound {most} {g} {v} {u} s r l =
-    sound-by most g (merged v u) (λ p h. keeps-plus (sound-keeps s p h) (sound-keeps r p h)) (omega (arith, merge-total g v u))
+    sound-by most g (merged v u) (λ p h. keeps-plus (sound-keeps s p h) (sound-keeps r p h))
+    (omega (arith, merge-total g v u))

@@ -1,4 +1,5 @@
--- A plan that ends with a table: the weights of its colours total at most the limit, and the table is that of its colours.
+-- A plan that ends with a table: the weights of its colours total at most the limit, and the table is that of its
+-- colours.
 -- Assumes nothing.
 use mathlib.Core.Path.{_≡_, refl, sym, ap, subst, _∙_}
 use mathlib.Core.Bool.{Bool, true, false, true≢false}
@@ -13,7 +14,8 @@ use Rattle.grid.proofs.Places.{chose}
 use Rattle.table.specs.Table.{Table, viewOf}
 use Rattle.table.specs.Sound.{limit, total}
 use Rattle.loader.specs.Load.{Weighted, weightOf, sumOver, tableOf, batchOf}
-use Rattle.loader.specs.Plan.{Plan, empty, load, merge, Ended, Stopped, Filled, endedOf, thenLoad, thenMerge, ends, leaves, firstMalformed, BytesIn}
+use Rattle.loader.specs.Plan.{Plan, empty, load, merge, Ended, Stopped, Filled, endedOf, thenLoad, thenMerge}
+use Rattle.loader.specs.Plan.{ends, leaves, firstMalformed, BytesIn}
 use Rattle.loader.proofs.Laws.{load-says, merge-says}
 use Rattle.loader.proofs.Order.{table-total, weight-append, leaves-bytes, ends-is}
 
@@ -50,11 +52,13 @@ unfolding onGrid
 same-grid {g} e = ap (λ (c : Chosen). onGrid c g (λ x. x)) e
 
 module _ (b1 b2 b3 : ℕ) {g : Grid} (e : gridOf b1 b2 b3 ≡ chosen.Accepted g) where
-  table-is : (p : Plan) → BytesIn p → weightOf (leaves p) ≤ limit → {t : Table} → ends b1 b2 b3 p ≡ Filled t → t ≡ tableOf g (leaves p)
+  table-is : (p : Plan) → BytesIn p → weightOf (leaves p) ≤ limit → {t : Table} → ends b1 b2 b3 p ≡ Filled t
+      → t ≡ tableOf g (leaves p)
   table-is p y h r = filled-is (firstMalformed p) (tableOf g (leaves p)) (sym (ends-is b1 b2 b3 e p y h) ∙ r)
 
   -- the total of a plan's table
-  its-total : (p : Plan) → BytesIn p → weightOf (leaves p) ≤ limit → {s : Table} → ends b1 b2 b3 p ≡ Filled s → total g (viewOf s) ≡ weightOf (leaves p)
+  its-total : (p : Plan) → BytesIn p → weightOf (leaves p) ≤ limit → {s : Table} → ends b1 b2 b3 p ≡ Filled s
+      → total g (viewOf s) ≡ weightOf (leaves p)
   its-total p y h r =
       ap (λ (s : Table). total g (viewOf s)) (table-is p y h r)
       ∙ table-total g (chose b1 b2 b3 g e .accepted) (leaves p) (leaves-bytes p y)
@@ -67,23 +71,36 @@ module _ (b1 b2 b3 : ℕ) {g : Grid} (e : gridOf b1 b2 b3 ≡ chosen.Accepted g)
       ds : List Weighted
       ds = batchOf (b .colours) (b .weighted) (b .weights)
 
-      go : (x : Ended) → ends b1 b2 b3 p ≡ x → thenLoad b1 b2 b3 x b ≡ Filled t → ((s : Table) → ends b1 b2 b3 p ≡ Filled s → weightOf (leaves p) ≤ limit) → weightOf (leaves p ++ ds) ≤ limit
+      go : (x : Ended) → ends b1 b2 b3 p ≡ x → thenLoad b1 b2 b3 x b ≡ Filled t
+          → ((s : Table) → ends b1 b2 b3 p ≡ Filled s → weightOf (leaves p) ≤ limit) → weightOf (leaves p ++ ds) ≤ limit
       go (Stopped n) q r before = absurd (stopped-not r)
       go (Filled s) q r before =
           let d = load-says b1 b2 b3 s (b .colours) (b .weighted) (b .weights) (filled-done _ _ r) in
-          let under : total g (viewOf s) + weightOf ds ≤ limit = subst (λ (h : Grid). total h (viewOf s) + weightOf ds ≤ limit) (same-grid (sym (d .chosen) ∙ e)) (d .under) in
+          let under : total g (viewOf s) + weightOf ds ≤ limit =
+          subst (λ (h : Grid). total h (viewOf s) + weightOf ds ≤ limit) (same-grid (sym (d .chosen) ∙ e)) (d .under) in
           omega (arith, under, its-total p (y .0) (before s q) q, weight-append (leaves p) ds)
-  filled-fits (merge p q) y {t} r = go (ends b1 b2 b3 p) refl (ends b1 b2 b3 q) refl r (λ s z. filled-fits p (y .0) z) (λ s z. filled-fits q (y .1) z)
+  filled-fits (merge p q) y {t} r =
+      go (ends b1 b2 b3 p) refl (ends b1 b2 b3 q) refl r (λ s z. filled-fits p (y .0) z) (λ s z. filled-fits q (y .1) z)
     where
       go : (x : Ended) → ends b1 b2 b3 p ≡ x → (z : Ended) → ends b1 b2 b3 q ≡ z → thenMerge b1 b2 b3 x z ≡ Filled t
-          → ((s : Table) → ends b1 b2 b3 p ≡ Filled s → weightOf (leaves p) ≤ limit) → ((s : Table) → ends b1 b2 b3 q ≡ Filled s → weightOf (leaves q) ≤ limit)
+          → ((s : Table) → ends b1 b2 b3 p ≡ Filled s → weightOf (leaves p) ≤ limit)
+          → ((s : Table) → ends b1 b2 b3 q ≡ Filled s → weightOf (leaves q) ≤ limit)
           → weightOf (leaves p ++ leaves q) ≤ limit
       go (Stopped n) k z l r first second = absurd (stopped-not r)
       go (Filled s) k (Stopped n) l r first second = absurd (stopped-not r)
       go (Filled s) k (Filled u) l r first second =
           let d = merge-says b1 b2 b3 s u (filled-done _ _ r) in
-          let under : total g (viewOf s) + total g (viewOf u) ≤ limit = subst (λ (h : Grid). total h (viewOf s) + total h (viewOf u) ≤ limit) (same-grid (sym (d .chosen) ∙ e)) (d .under) in
-          omega (arith, under, its-total p (y .0) (first s k) k, its-total q (y .1) (second u l) l, weight-append (leaves p) (leaves q))
+          let under : total g (viewOf s) + total g (viewOf u) ≤ limit =
+          subst (λ (h : Grid). total h (viewOf s) + total h (viewOf u) ≤ limit) (same-grid (sym (d .chosen) ∙ e))
+          (d .under) in
+          omega (
+            arith,
+            under,
+            its-total p (y .0) (first s k) k,
+            its-total q (y .1) (second u l) l,
+            weight-append (leaves p) (leaves q),
+          )
 
-  pub filled-table : (p : Plan) → BytesIn p → {t : Table} → ends b1 b2 b3 p ≡ Filled t → (weightOf (leaves p) ≤ limit) × (t ≡ tableOf g (leaves p))
+  pub filled-table : (p : Plan) → BytesIn p → {t : Table} → ends b1 b2 b3 p ≡ Filled t
+      → (weightOf (leaves p) ≤ limit) × (t ≡ tableOf g (leaves p))
   filled-table p y r = (filled-fits p y r, table-is p y (filled-fits p y r) r)

@@ -1,5 +1,5 @@
--- Laws of the step tables that carry the squares: how large their numbers are, and that three of them give a place and a sum of
--- squares, one below 2^32 and the other above.
+-- Laws of the step tables that carry the squares: how large their numbers are, and that three of them give a place and
+-- a sum of squares, one below 2^32 and the other above.
 -- Assumes nothing.
 use mathlib.Core.Path.{_≡_, refl, ap, _∙_}
 use mathlib.Core.List.{List}
@@ -34,12 +34,14 @@ step-high {g} a d c h =
 with-square : (t : List ℕ) (c : ℕ) → c < 256 → getD (withSquares t) c 0 ≡ getD t c 0 + 4294967296 * (c * c)
 unfolding withSquares
 with-square t c h =
-    list-at 0 256 (λ k. getD t k 0 + 4294967296 * (k * k)) c 0 h ∙ ap (λ (k : ℕ). getD t k 0 + 4294967296 * (k * k)) (zero-add c)
+    list-at 0 256 (λ k. getD t k 0 + 4294967296 * (k * k)) c 0 h
+    ∙ ap (λ (k : ℕ). getD t k 0 + 4294967296 * (k * k)) (zero-add c)
 
 -- ---- three of them
 pub squares-small : {x : Rgb} → Bytes x → squaresOf x ≤ 195075
 unfolding squaresOf
-squares-small {x} b = omega (arith, square-byte (x .c1) (b .one), square-byte (x .c2) (b .two), square-byte (x .c3) (b .three))
+squares-small {x} b =
+    omega (arith, square-byte (x .c1) (b .one), square-byte (x .c2) (b .two), square-byte (x .c3) (b .three))
 
 module _ {g : Grid} {t1 t2 t3 : List ℕ} (s : StepTables g t1 t2 t3) {x : Rgb} (b : Bytes x) where
   pub looked-up : getD t1 (x .c1) 0 + getD t2 (x .c2) 0 + getD t3 (x .c3) 0 ≡ colourPlace g x + 4294967296 * squaresOf x

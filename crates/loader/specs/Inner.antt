@@ -55,14 +55,14 @@ unfoldable pub withColour : Grid → Table → Weighted → Table
 withColour g t c = withCell t (colourPlace g (c .colour)) (cellOf (share c))
 
 -- a cell can be added at a place: each sum is a number, and fits its place
-pub record CanAdd (t : Table) (p : ℕ) (c : Cell) : Type 0 where
+pub record CellFits (t : Table) (p : ℕ) (c : Cell) : Type 0 where
   pub cell : HasCell t p
   pub sums : SumsFit (cellOf (viewOf t p)) c
   pub held : Held (plusCell (cellOf (viewOf t p)) c)
 
 -- n colours of a batch, from colour i on, can be added to a sound table: they are there, with one weight a colour where
 -- weights are given, and the total fits
-pub record CanLoad (most : ℕ) (g : Grid) (t : Table) (colours : List ℕ) (weighted : Bool) (weights : List ℕ)
+pub record PartFits (most : ℕ) (g : Grid) (t : Table) (colours : List ℕ) (weighted : Bool) (weights : List ℕ)
     (i n : ℕ) : Type 0 where
   pub table : TableOf g t
   pub is-sound : sound most g (viewOf t) ≡ true
@@ -71,7 +71,7 @@ pub record CanLoad (most : ℕ) (g : Grid) (t : Table) (colours : List ℕ) (wei
   pub under : total g (viewOf t) + weightOf (partOf colours weighted weights i n) ≤ most
 
 -- a second table can be added into a first: both are sound, and the total fits
-pub record CanMerge (most : ℕ) (g : Grid) (t s : Table) : Type 0 where
+pub record MergeFits (most : ℕ) (g : Grid) (t s : Table) : Type 0 where
   pub first : TableOf g t
   pub second : TableOf g s
   pub first-sound : sound most g (viewOf t) ≡ true

@@ -64,8 +64,8 @@ weightedAt colours weighted weights i =
 unfoldable pub batchOf : List ℕ → Bool → List ℕ → List Weighted
 batchOf colours weighted weights = listFrom 0 (length colours / 3) (weightedAt colours weighted weights)
 
--- the number of a load on an accepted grid: a limit and the number given beyond it, whether the table's length fits, and
--- what it holds
+-- the number of a load on an accepted grid: a limit and the number given beyond it, whether the table's length fits,
+-- and what it holds
 unfoldable pub loadNumberOn : ℕ → ℕ → Grid → Bool → View → List ℕ → Bool → List ℕ → ℕ
 loadNumberOn most beyond g sized v colours weighted weights =
     refuse (not (eqb (length colours % 3) 0)) 3

@@ -13,8 +13,8 @@ use Rattle.table.specs.Sound.{limit, total, sound, unsoundNumber}
 unfoldable pub merged : View → View → View
 merged v u p j = v p j + u p j
 
--- the number of a merge on an accepted grid: a limit and the number given beyond it, whether both lengths fit, and what the
--- tables hold; "either table unsound is 6"
+-- the number of a merge on an accepted grid: a limit and the number given beyond it, whether both lengths fit, and what
+-- the tables hold; "either table unsound is 6"
 unfoldable pub mergeNumberOn : ℕ → ℕ → Grid → Bool → View → View → ℕ
 mergeNumberOn most beyond g sized v u =
     refuse (not sized) 5

@@ -5,7 +5,7 @@ use Prim.Native.Nat.{ℕ, zero, suc, _*_, _/_, _%_, _<_}
 use lib.Dec.{eqb}
 use lib.ListN.{length, getD}
 use Rattle.basics.specs.Answer.{refuse}
-use Rattle.table.specs.Table.{Table, emptyTable}
+use Rattle.table.specs.Table.{Table, emptyOf}
 use Rattle.loader.specs.Load.{Weighted, batchOf, loadNumber, loadLater}
 use Rattle.loader.specs.Merge.{mergeNumber, mergeLater}
 
@@ -43,7 +43,7 @@ thenMerge b1 b2 b3 (Filled t) (Stopped n) = Stopped n
 thenMerge b1 b2 b3 (Filled t) (Filled s) = endedOf (mergeNumber b1 b2 b3 t s) (mergeLater b1 b2 b3 t s)
 
 unfoldable pub ends : ℕ → ℕ → ℕ → Plan → Ended
-ends b1 b2 b3 empty = Filled (emptyTable (b1 * b2 * b3))
+ends b1 b2 b3 empty = Filled (emptyOf (b1 * b2 * b3))
 ends b1 b2 b3 (load p b) = thenLoad b1 b2 b3 (ends b1 b2 b3 p) b
 ends b1 b2 b3 (merge p q) = thenMerge b1 b2 b3 (ends b1 b2 b3 p) (ends b1 b2 b3 q)
 

@@ -10,7 +10,7 @@ ghost use mathlib.Core.Path.{_≡_};
 ghost use Prim.Native.Nat.{_+_, _*_, _<_};
 ghost use lib.ListN.{length};
 ghost use Rattle.table.specs.Sound.{limit};
-ghost use Rattle.loader.specs.Inner.{withPart, StepTables, CanLoad};
+ghost use Rattle.loader.specs.Inner.{withPart, StepTables, PartFits};
 
 // Adds n colours of a batch, from colour at on, one after the other.
 fn add_each(
@@ -25,7 +25,7 @@ fn add_each(
     at: usize,
     n: usize,
 )
-    requires { ⌜ CanLoad limit g (now table) (now colours) weighted (now weights) at n ⌝ }
+    requires { ⌜ PartFits limit g (now table) (now colours) weighted (now weights) at n ⌝ }
     requires { ⌜ StepTables g (now t1) (now t2) (now t3) ⌝ }
     ensures { λ r. ⌜ now (table .exit)
         ≡ withPart g (now (table .entry)) (now (colours .entry)) weighted (now (weights .entry)) at n ⌝ }
@@ -53,7 +53,7 @@ fn add_block(
     weights: &[u32],
     at: usize,
 )
-    requires { ⌜ CanLoad limit g (now table) (now colours) weighted (now weights) at 64
+    requires { ⌜ PartFits limit g (now table) (now colours) weighted (now weights) at 64
         × (3 * at + 194 < length (now colours)) ⌝ }
     requires { ⌜ StepTables g (now t1) (now t2) (now t3) ⌝ }
     ensures { λ r. ⌜ now (table .exit)
@@ -84,7 +84,7 @@ fn add_blocks(
     weights: &[u32],
     n: usize,
 )
-    requires { ⌜ CanLoad limit g (now table) (now colours) weighted (now weights) 0 n ⌝ }
+    requires { ⌜ PartFits limit g (now table) (now colours) weighted (now weights) 0 n ⌝ }
     requires { ⌜ StepTables g (now t1) (now t2) (now t3) ⌝ }
     ensures { λ r. ⌜ now (table .exit)
         ≡ withPart g (now (table .entry)) (now (colours .entry)) weighted (now (weights .entry)) 0 n ⌝ }
@@ -106,7 +106,7 @@ pub(crate) fn add_colours(
     weights: &[u32],
     n: usize,
 )
-    requires { ⌜ CanLoad limit g (now table) (now colours) weighted (now weights) 0 n ⌝ }
+    requires { ⌜ PartFits limit g (now table) (now colours) weighted (now weights) 0 n ⌝ }
     ensures { λ r. ⌜ now (table .exit)
         ≡ withPart g (now (table .entry)) (now (colours .entry)) weighted (now (weights .entry)) 0 n ⌝ }
 {

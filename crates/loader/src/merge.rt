@@ -14,11 +14,11 @@ ghost use Rattle.grid.specs.Grid.{binsOf};
 ghost use Rattle.table.specs.Table.{viewOf, written};
 ghost use Rattle.table.specs.Sound.{limit};
 ghost use Rattle.loader.specs.Merge.{merged, mergeNumber, mergeLater};
-ghost use Rattle.loader.specs.Inner.{CanMerge};
+ghost use Rattle.loader.specs.Inner.{MergeFits};
 
 // Adds the cells of a second table to those of a first.
 fn add_cells(g: Grid, table: &mut [u64], second: &[u64])
-    requires { ⌜ CanMerge limit g (now table) (now second) ⌝ }
+    requires { ⌜ MergeFits limit g (now table) (now second) ⌝ }
     ensures { λ r. ⌜ now (table .exit)
         ≡ written (binsOf g) (merged (viewOf (now (table .entry))) (viewOf (now (second .entry)))) ⌝ }
 {

@@ -12,11 +12,11 @@ ghost use Rattle.grid.specs.Grid.{colourPlace};
 ghost use Rattle.table.specs.Cell.{cellOf};
 ghost use Rattle.table.specs.Sound.{limit};
 ghost use Rattle.loader.specs.Load.{share};
-ghost use Rattle.loader.specs.Inner.{squaresOf, withCell, withColour, StepTables, CanAdd};
+ghost use Rattle.loader.specs.Inner.{squaresOf, withCell, withColour, StepTables, CellFits};
 
 // Adds a cell to the one at a place.
 pub(crate) fn add_at(table: &mut [u64], place: usize, c: Cell)
-    requires { ⌜ CanAdd (now table) place c ⌝ }
+    requires { ⌜ CellFits (now table) place c ⌝ }
     ensures { λ r. ⌜ now (table .exit) ≡ withCell (now (table .entry)) place c ⌝ }
 {
     let old = cell_at(table, place);
@@ -49,7 +49,7 @@ pub(crate) fn add_colour(
     w: u64,
 )
     requires { ⌜ StepTables g (now t1) (now t2) (now t3) × (w ≤ limit) ⌝ }
-    requires { ⌜ CanAdd (now table) (colourPlace g x) (cellOf (share (record { colour = x; weight = w }))) ⌝ }
+    requires { ⌜ CellFits (now table) (colourPlace g x) (cellOf (share (record { colour = x; weight = w }))) ⌝ }
     ensures { λ r. ⌜ now (table .exit) ≡ withColour g (now (table .entry)) (record { colour = x; weight = w }) ⌝ }
 {
     let v = look_up(g, t1, t2, t3, x);

@@ -9,7 +9,7 @@ use lib.ListN.{length}
 use Rattle.grid.specs.declared.place.Grid.{Grid}
 use Rattle.grid.specs.declared.place.Chosen.the-variants as chosen
 use Rattle.grid.specs.Grid.{gridOf, binsOf}
-use Rattle.table.specs.Table.{viewOf}
+use Rattle.table.specs.Table.{Sized, viewOf}
 use Rattle.table.specs.Sound.{limit, sound}
 use Rattle.table.proofs.Soundness.{total-high}
 use Rattle.loader.specs.Load.{loadNumber, loadLater}
@@ -33,6 +33,6 @@ module _ (b1 b2 b3 : ℕ) (t : List ℕ) where
   weight-0-alone c1 c2 c3 = weight-0-adds-nothing [] [] [] [] c1 c2 c3 (omega arith) .1 ∙ empty-batch true []
 
   -- "it is refused only as any other load is": not for a table of the right length that is sound, however full
-  pub empty-accepted : (given : Bool) (weights : List ℕ) {g : Grid} → gridOf b1 b2 b3 ≡ chosen.Accepted g → (given ≡ true → length weights ≡ 0) → length t ≡ 5 * binsOf g → sound limit g (viewOf t) ≡ true → loadNumber b1 b2 b3 t [] given weights ≡ 0
+  pub empty-accepted : (given : Bool) (weights : List ℕ) {g : Grid} → gridOf b1 b2 b3 ≡ chosen.Accepted g → (given ≡ true → length weights ≡ 0) → Sized t (binsOf g) → sound limit g (viewOf t) ≡ true → loadNumber b1 b2 b3 t [] given weights ≡ 0
   empty-accepted given weights {g} e none lent is-sound =
       load-accepts b1 b2 b3 t [] given weights e (omega arith) none lent is-sound (omega (arith, empty-weight given weights, total-high {most = limit} {g = g} {v = viewOf t} (record { holds = is-sound })))

@@ -62,18 +62,37 @@ cell-fields f e =
     }
 
 -- cells of numbers, taken from each other
-pub minus-least : (f h k : ℕ → ℕ) → ((j : ℕ) → f j ≡ h j + k j) → {c d : Cell} → c ≡ cellOf f → d ≡ cellOf h → AtLeast c d
+pub minus-least : (f h k : ℕ → ℕ) → ((j : ℕ) → f j ≡ h j + k j) → {c d : Cell} → c ≡ cellOf f → d ≡ cellOf h
+    → AtLeast c d
 minus-least f h k e {c} {d} p q =
     record {
       least = λ j l.
-          omega (arith, ap (λ (x : Cell). numberOf x j) p, ap (λ (x : Cell). numberOf x j) q, number-cell f j l, number-cell h j l, e j);
+          omega (
+            arith,
+            ap (λ (x : Cell). numberOf x j) p,
+            ap (λ (x : Cell). numberOf x j) q,
+            number-cell f j l,
+            number-cell h j l,
+            e j,
+          );
     }
 
-pub minus-is : (f h k : ℕ → ℕ) → ((j : ℕ) → f j ≡ h j + k j) → {c d : Cell} → c ≡ cellOf f → d ≡ cellOf h → {x : Cell} → x ≡ minusCell c d → x ≡ cellOf k
+pub minus-is : (f h k : ℕ → ℕ) → ((j : ℕ) → f j ≡ h j + k j) → {c d : Cell} → c ≡ cellOf f → d ≡ cellOf h → {x : Cell}
+    → x ≡ minusCell c d → x ≡ cellOf k
 minus-is f h k e {c} {d} p q {x} r =
     cell-by x (cellOf k)
     (λ j l.
-    omega (arith, ap (λ (y : Cell). numberOf y j) r, number-minus c d j l, ap (λ (y : Cell). numberOf y j) p, ap (λ (y : Cell). numberOf y j) q, number-cell f j l, number-cell h j l, number-cell k j l, e j))
+    omega (
+      arith,
+      ap (λ (y : Cell). numberOf y j) r,
+      number-minus c d j l,
+      ap (λ (y : Cell). numberOf y j) p,
+      ap (λ (y : Cell). numberOf y j) q,
+      number-cell f j l,
+      number-cell h j l,
+      number-cell k j l,
+      e j,
+    ))
 
 pub zero-cell : _≡_ {A = Cell} (record { weight = 0; sum1 = 0; sum2 = 0; sum3 = 0; squares = 0 }) (cellOf (λ j. 0))
 unfolding cellOf

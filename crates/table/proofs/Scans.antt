@@ -45,10 +45,13 @@ module _ (most : ℕ) (g : Grid) (v : View) where
       record {
         bounds = and-left (allFrom p n (binSound g v)) (leb (had + weights p n) most) (b .0);
         is = b .1;
-        under = leb-true (had + weights p n) most (and-right (allFrom p n (binSound g v)) (leb (had + weights p n) most) (b .0));
+        under =
+            leb-true (had + weights p n) most
+            (and-right (allFrom p n (binSound g v)) (leb (had + weights p n) most) (b .0));
       }
 
-  pub scan-total : (p n had : ℕ) → allFrom p n (binSound g v) ≡ true → had + weights p n ≤ most → scanned most g v p n had ≡ Total (had + weights p n)
+  pub scan-total : (p n had : ℕ) → allFrom p n (binSound g v) ≡ true → had + weights p n ≤ most
+      → scanned most g v p n had ≡ Total (had + weights p n)
   unfolding scanned
   scan-total p n had b l = rw (b, le-leb (had + weights p n) most l) refl
 
@@ -62,22 +65,31 @@ module _ (most : ℕ) (g : Grid) (v : View) where
   scan-over p n had l = rw (lt-leb (had + weights p n) most l, and-false (allFrom p n (binSound g v))) refl
 
   -- a bin breaks its bounds, or its weight alone passes the limit
-  pub scan-bad : (p n had q : ℕ) → p ≤ q → q < p + n → (leb (v q 0) most && binSound g v q) ≡ false → scanned most g v p n had ≡ Unsound
+  pub scan-bad : (p n had q : ℕ) → p ≤ q → q < p + n → (leb (v q 0) most && binSound g v q) ≡ false
+      → scanned most g v p n had ≡ Unsound
   unfolding scanned
   scan-bad p n had q a b e = go (leb (v q 0) most) refl (allFrom p n (binSound g v)) refl e
     where
-      go : (w : Bool) → leb (v q 0) most ≡ w → (x : Bool) → allFrom p n (binSound g v) ≡ x → (w && binSound g v q) ≡ false → scanned most g v p n had ≡ Unsound
+      go : (w : Bool) → leb (v q 0) most ≡ w → (x : Bool) → allFrom p n (binSound g v) ≡ x
+          → (w && binSound g v q) ≡ false → scanned most g v p n had ≡ Unsound
       go false l x r d =
           scan-over p n had (omega (arith, leb-false (v q 0) most l, term-le p n (λ k. v k 0) q a b))
       go true l true r d = absurd (true≢false (sym (all-at p n (binSound g v) r q a b) ∙ d))
       go true l false r d = rw r refl
 
   -- from a run of bins to the next
-  pub scan-more : (p n m had x : ℕ) → scanned most g v p n had ≡ Total x → scanned most g v p (n + m) had ≡ scanned most g v (p + n) m x
+  pub scan-more : (p n m had x : ℕ) → scanned most g v p n had ≡ Total x
+      → scanned most g v p (n + m) had ≡ scanned most g v (p + n) m x
   unfolding scanned
   scan-more p n m had x e =
       let s = scan-says p n had x e in
-      rw (all-append p n m (binSound g v), s .bounds, sum-append p n m (λ q. v q 0), s .is, ← add-assoc had (weights p n) (weights (p + n) m)) refl
+      rw (
+        all-append p n m (binSound g v),
+        s .bounds,
+        sum-append p n m (λ q. v q 0),
+        s .is,
+        ← add-assoc had (weights p n) (weights (p + n) m),
+      ) refl
 
   pub scan-stop : (p n m had : ℕ) → scanned most g v p n had ≡ Unsound → scanned most g v p (n + m) had ≡ Unsound
   unfolding scanned
@@ -85,22 +97,26 @@ module _ (most : ℕ) (g : Grid) (v : View) where
       go (allFrom p n (binSound g v)) refl
       (cond-unsound (allFrom p n (binSound g v) && leb (had + weights p n) most) (had + weights p n) e)
     where
-      go : (x : Bool) → allFrom p n (binSound g v) ≡ x → (x && leb (had + weights p n) most) ≡ false → scanned most g v p (n + m) had ≡ Unsound
+      go : (x : Bool) → allFrom p n (binSound g v) ≡ x → (x && leb (had + weights p n) most) ≡ false
+          → scanned most g v p (n + m) had ≡ Unsound
       go true r l =
           scan-over p (n + m) had (omega (arith, leb-false (had + weights p n) most l, sum-append p n m (λ q. v q 0)))
       go false r l = rw (all-append p n m (binSound g v), r) refl
 
   -- block after block of bins, each of one size: rows of a plane, planes of a table
-  pub block-more : (p size k had x : ℕ) (w : SoundTotal) → scanned most g v p (k * size) had ≡ Total x → {q : ℕ} → q ≡ p + k * size → w ≡ scanned most g v q size x → scanned most g v p ((k + 1) * size) had ≡ w
+  pub block-more : (p size k had x : ℕ) (w : SoundTotal) → scanned most g v p (k * size) had ≡ Total x → {q : ℕ}
+      → q ≡ p + k * size → w ≡ scanned most g v q size x → scanned most g v p ((k + 1) * size) had ≡ w
   block-more p size k had x w e {q} at r =
       ap (λ (n : ℕ). scanned most g v p n had) (add-mul k 1 size ∙ ap (λ (n : ℕ). k * size + n) (one-mul size))
       ∙ scan-more p (k * size) size had x e
       ∙ ap (λ (n : ℕ). scanned most g v n size x) (sym at)
       ∙ sym r
 
-  pub block-stop : (p size k count had : ℕ) → k < count → scanned most g v p ((k + 1) * size) had ≡ Unsound → scanned most g v p (count * size) had ≡ Unsound
+  pub block-stop : (p size k count had : ℕ) → k < count → scanned most g v p ((k + 1) * size) had ≡ Unsound
+      → scanned most g v p (count * size) had ≡ Unsound
   block-stop p size k count had h e =
-      ap (λ (n : ℕ). scanned most g v p n had) (ap (λ (n : ℕ). n * size) (rest k count h) ∙ add-mul (k + 1) (count - (k + 1)) size)
+      ap (λ (n : ℕ). scanned most g v p n had)
+      (ap (λ (n : ℕ). n * size) (rest k count h) ∙ add-mul (k + 1) (count - (k + 1)) size)
       ∙ scan-stop p ((k + 1) * size) ((count - (k + 1)) * size) had e
     where
       rest : (k count : ℕ) → k < count → count ≡ (k + 1) + (count - (k + 1))
@@ -115,7 +131,9 @@ module _ (most : ℕ) (g : Grid) (v : View) where
   scan-all = rw (zero-add (weights 0 (binsOf g))) refl
 
 -- ---- a row of bins
-chosen-span : (g : Grid) (r gr b d : ℕ) → spanOf (shiftAt g d) (choose d r gr b) ≡ choose d (spanOf (g .shift1) r) (spanOf (g .shift2) gr) (spanOf (g .shift3) b)
+chosen-span : (g : Grid) (r gr b d : ℕ)
+    → spanOf (shiftAt g d) (choose d r gr b)
+    ≡ choose d (spanOf (g .shift1) r) (spanOf (g .shift2) gr) (spanOf (g .shift3) b)
 unfolding shiftAt choose
 chosen-span g r gr b zero = refl
 chosen-span g r gr b (suc zero) = refl
@@ -147,7 +165,9 @@ module _ {most : ℕ} {g : Grid} {t : Table} {r gr had : ℕ} (row : Row most g 
   pub row-three : (b : ℕ) → b < g .size3 → InSize (g .shift3) b
   row-three b h = in-size (three sizes) b h
 
-  row-span : (b : ℕ) → b < g .size3 → (d : ℕ) → choose d (spanOf (g .shift1) r) (spanOf (g .shift2) gr) (spanOf (g .shift3) b) ≡ spanAt g (placeOf g r gr 0 + b) d
+  row-span : (b : ℕ) → b < g .size3 → (d : ℕ)
+      → choose d (spanOf (g .shift1) r) (spanOf (g .shift2) gr) (spanOf (g .shift3) b)
+      ≡ spanAt g (placeOf g r gr 0 + b) d
   unfolding spanAt
   row-span b h d =
       sym

@@ -1,5 +1,5 @@
--- Laws of a lent table: its size, the view that it holds, and a cell that is written into it. What stands above needs no
--- inside of them.
+-- Laws of a lent table: its size, the view that it holds, and a cell that is written into it. What stands above needs
+-- no inside of them.
 -- Assumes nothing.
 use mathlib.Core.Path.{_≡_, refl, sym, ap, subst, _∙_}
 use mathlib.Core.Bool.{true, false, cond}
@@ -15,7 +15,7 @@ use lib.Seq.{getD-set-same, getD-set-other}
 use Rattle.basics.proofs.Range.{length-list, list-at, list-is}
 use Rattle.table.specs.declared.cell.Cell.{Cell}
 use Rattle.table.specs.Cell.{View, zeros, numberOf, cellOf, plusCell, SumsFit}
-use Rattle.table.specs.Table.{Table, tableLen, Sized, isSized, viewOf, written, emptyTable, putAt, HasCell, Held}
+use Rattle.table.specs.Table.{Table, tableLen, Sized, isSized, viewOf, written, emptyOf, putAt, HasCell, Held}
 use Rattle.table.proofs.Cells.{number-cell, number-plus}
 
 -- ---- size
@@ -89,12 +89,13 @@ pub holds-itself : (n : ℕ) (t : Table) → Sized t n → Holds n t (viewOf t)
 holds-itself n t e = record { lent = e; at = λ p j h k. refl }
 
 -- a table that holds a view holds each view that agrees with it
-pub holds-same : {n : ℕ} {t : Table} {v u : View} → Holds n t v → ((p j : ℕ) → p < n → j < 5 → v p j ≡ u p j) → Holds n t u
+pub holds-same : {n : ℕ} {t : Table} {v u : View} → Holds n t v → ((p j : ℕ) → p < n → j < 5 → v p j ≡ u p j)
+    → Holds n t u
 holds-same h e = record { lent = h .lent; at = λ p j a b. h .at p j a b ∙ e p j a b }
 
 -- zeros, as a caller lends them
-pub empty-holds : (n : ℕ) → Holds n (emptyTable n) zeros
-unfolding viewOf emptyTable tableLen
+pub empty-holds : (n : ℕ) → Holds n (emptyOf n) zeros
+unfolding viewOf emptyOf tableLen
 empty-holds n =
     record {
       lent = sized-by (length-replicate (5 * n) 0);
@@ -149,7 +150,8 @@ module _ (t : Table) (p : ℕ) (c : Cell) (has : HasCell t p) where
   put-there (suc (suc (suc zero))) h =
       past t4 (5 * p + 4) (c .squares) (5 * p + 3) (λ e. omega arith)
       ∙ getD-set-same t3 (5 * p + 3) (c .sum3) 0 (simp length-set (omega (arith, has .fits)))
-  put-there (suc (suc (suc (suc zero)))) h = getD-set-same t4 (5 * p + 4) (c .squares) 0 (simp length-set (omega (arith, has .fits)))
+  put-there (suc (suc (suc (suc zero)))) h =
+      getD-set-same t4 (5 * p + 4) (c .squares) 0 (simp length-set (omega (arith, has .fits)))
   put-there (suc (suc (suc (suc (suc j))))) h = absurd (omega arith)
 
   pub put-elsewhere : (q j : ℕ) → j < 5 → (p ≡ q → ⊥) → viewOf (putAt t p c) q j ≡ viewOf t q j
@@ -162,7 +164,8 @@ module _ (t : Table) (p : ℕ) (c : Cell) (has : HasCell t p) where
       ∙ past t (5 * p) (c .weight) (5 * q + j) (λ e. n (omega arith))
 
 -- a table that holds a view, with a cell written at a place
-pub put-holds : {n : ℕ} {t : Table} {v : View} → Holds n t v → (p : ℕ) (c : Cell) → p < n → Holds n (putAt t p c) (λ q j. cond (eqb p q) (numberOf c j) (v q j))
+pub put-holds : {n : ℕ} {t : Table} {v : View} → Holds n t v → (p : ℕ) (c : Cell) → p < n
+    → Holds n (putAt t p c) (λ q j. cond (eqb p q) (numberOf c j) (v q j))
 put-holds {n} {t} {v} h p c b =
     record { lent = put-sized (h .lent) p c; at = λ q j a k. go q j a k (ℕ-discrete p q) }
   where
@@ -174,7 +177,8 @@ put-holds {n} {t} {v} h p c b =
     go q j a k (no d) = rw (ne-eqb p q d) (put-elsewhere t p c has q j k d ∙ h .at q j a k)
 
 -- and with a cell added at a place
-pub add-holds : {n : ℕ} {t : Table} {v : View} → Holds n t v → (p : ℕ) (c : Cell) → p < n → Holds n (putAt t p (plusCell (cellOf (viewOf t p)) c)) (λ q j. v q j + cond (eqb p q) (numberOf c j) 0)
+pub add-holds : {n : ℕ} {t : Table} {v : View} → Holds n t v → (p : ℕ) (c : Cell) → p < n
+    → Holds n (putAt t p (plusCell (cellOf (viewOf t p)) c)) (λ q j. v q j + cond (eqb p q) (numberOf c j) 0)
 add-holds {n} {t} {v} h p c b =
     holds-same (put-holds h p (plusCell (cellOf (viewOf t p)) c) b) (λ q j a k. go q j a k (ℕ-discrete p q))
   where
@@ -183,6 +187,8 @@ add-holds {n} {t} {v} h p c b =
         number-plus (cellOf (viewOf t p)) c j k
         ∙ ap (λ (x : ℕ). x + numberOf c j) (number-cell (viewOf t p) j k ∙ h .at p j b k)
 
-    go : (q j : ℕ) → q < n → j < 5 → Dec (p ≡ q) → cond (eqb p q) (numberOf (plusCell (cellOf (viewOf t p)) c) j) (v q j) ≡ v q j + cond (eqb p q) (numberOf c j) 0
+    go : (q j : ℕ) → q < n → j < 5 → Dec (p ≡ q)
+        → cond (eqb p q) (numberOf (plusCell (cellOf (viewOf t p)) c) j) (v q j)
+        ≡ v q j + cond (eqb p q) (numberOf c j) 0
     go q j a k (yes e) = rw (eq-eqb p q e, ← e) (there j k)
     go q j a k (no d) = rw (ne-eqb p q d) (sym (add-zero (v q j)))

@@ -28,7 +28,8 @@ pub unsound-says : (most : ℕ) (g : Grid) (v : View) → soundTotal most g v �
 unfolding soundTotal
 unsound-says most g v e = cond-unsound (sound most g v) (total g v) e
 
-pub total-says : (most : ℕ) (g : Grid) (v : View) (x : ℕ) → soundTotal most g v ≡ Total x → (sound most g v ≡ true) × (x ≡ total g v)
+pub total-says : (most : ℕ) (g : Grid) (v : View) (x : ℕ) → soundTotal most g v ≡ Total x
+    → (sound most g v ≡ true) × (x ≡ total g v)
 unfolding soundTotal
 total-says most g v x e = cond-total (sound most g v) (total g v) x e
 

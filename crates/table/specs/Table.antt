@@ -1,4 +1,5 @@
--- A lent table: its length, its view, a view written out, and a cell of it (document 01, "Grid and table"). Definitions only.
+-- A lent table: its length, its view, a view written out, and a cell of it (document 01, "Grid and table"). Definitions
+-- only.
 use mathlib.Core.Path.{_≡_}
 use mathlib.Core.Bool.{Bool}
 use mathlib.Core.List.{List}
@@ -36,8 +37,8 @@ unfoldable pub written : ℕ → View → Table
 written bins v = listFrom 0 (tableLen bins) (λ i. v (i / 5) (i % 5))
 
 -- an empty table of so many bins, as a caller lends it
-unfoldable pub emptyTable : ℕ → Table
-emptyTable bins = replicate (tableLen bins) 0
+unfoldable pub emptyOf : ℕ → Table
+emptyOf bins = replicate (tableLen bins) 0
 
 -- a table with a cell written at a place
 unfoldable pub putAt : Table → ℕ → Cell → Table

@@ -11,7 +11,7 @@ use Rattle.pixels.specs.Colour.{colourAt}
 use Rattle.pixels.proofs.EqualColours.{one-colour}
 use Rattle.table.proofs.Tables.{holds-list}
 use Rattle.table.specs.Sound.{limit}
-use Rattle.loader.specs.Inner.{withPart, CanLoad}
+use Rattle.loader.specs.Inner.{withPart, PartFits}
 use Rattle.loader.proofs.Parts.{light, has-room, at-once}
 use Rattle.loader.proofs.blocks.add_block.Statement.{statement}
 use Rattle.loader.proofs.blocks.add_block.Tie as tie
@@ -42,7 +42,11 @@ add-colour-requires : tie.Need-add-colour-requires
 add-colour-requires c κs =
     let f = c .before .before .before in
     let pre = f .before .before .before .before .before .pre in (
-      (pre .1, light (pre .0 .0) (bytes f) (same f) (c .before .before .colour .ensures) (c .before .block-weight .ensures)),
+      (
+        pre .1,
+        light (pre .0 .0) (bytes f) (same f) (c .before .before .colour .ensures)
+            (c .before .block-weight .ensures),
+      ),
       has-room (pre .0 .0) (bytes f) (same f) (c .before .before .colour .ensures) (c .before .block-weight .ensures)
           (omega arith),
     )
@@ -56,13 +60,17 @@ returns c =
     let b = c .before .before .before .before in
     let f = b .before .before in
     let pre = f .before .before .before .before .before .pre in
-    holds-list (at-once (pre .0 .0) (bytes f) (same f) (b .before .colour .ensures) (b .block-weight .ensures) (c .before .before .add-colour .ensures))
+    holds-list (at-once (pre .0 .0) (bytes f) (same f) (b .before .colour .ensures) (b .block-weight .ensures)
+    (c .before .before .add-colour .ensures))
 
 add-each-requires : tie.Need-add-each-requires
 add-each-requires c κs =
     let s = c .before .before .before .before .before .before .before in
-    let a = s .args in
-    (subst (λ (b : Bool). CanLoad limit (a .g) (now (a .table)) (now (a .colours)) b (now (a .weights)) (a .at) 64) (c .before .if2 .taken) (s .pre .0 .0), s .pre .1)
+    let a = s .args in (
+      subst (λ (b : Bool). PartFits limit (a .g) (now (a .table)) (now (a .colours)) b (now (a .weights)) (a .at) 64)
+          (c .before .if2 .taken) (s .pre .0 .0),
+      s .pre .1,
+    )
 
 same-length-2 : tie.Need-same-length-2
 same-length-2 c = search needs
@@ -73,8 +81,11 @@ returns-2 c = rw (c .before .before .before .before .if2 .taken) (c .before .bef
 add-each-requires-2 : tie.Need-add-each-requires-2
 add-each-requires-2 c κs =
     let s = c .before .before .before .before .before .before .before in
-    let a = s .args in
-    (subst (λ (b : Bool). CanLoad limit (a .g) (now (a .table)) (now (a .colours)) b (now (a .weights)) (a .at) 64) (c .before .if2 .left) (s .pre .0 .0), s .pre .1)
+    let a = s .args in (
+      subst (λ (b : Bool). PartFits limit (a .g) (now (a .table)) (now (a .colours)) b (now (a .weights)) (a .at) 64)
+          (c .before .if2 .left) (s .pre .0 .0),
+      s .pre .1,
+    )
 
 same-length-3 : tie.Need-same-length-3
 same-length-3 c = search needs

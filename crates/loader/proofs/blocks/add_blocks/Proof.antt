@@ -1,4 +1,5 @@
--- `loader::blocks::add_blocks` meets its contract: after i colours the table holds what it held with the first i loaded.
+-- `loader::blocks::add_blocks` meets its contract: after i colours the table holds what it held with the first i
+-- loaded.
 -- Assumes nothing.
 use mathlib.Core.Path.{_≡_}
 use Prim.Native.Nat.{ℕ, _≤_, _-_, _<_, _+_}
@@ -22,14 +23,18 @@ abbrev μ-loop : tie.MeasureT-loop
 μ-loop g table₀ t1 t2 t3 colours weighted weights n i₀ table i = n - i
 
 -- each colour is of bytes
-bytes : (l : tie.At-loop Inv-loop μ-loop) (k : ℕ) → getD (now (l .before .before .before .before .args .colours)) k 0 < 256
+bytes : (l : tie.At-loop Inv-loop μ-loop) (k : ℕ)
+    → getD (now (l .before .before .before .before .args .colours)) k 0 < 256
 bytes l k = omega (arith, l .before .before .shared-slice-known .given k)
 
 loop-holds : tie.Need-loop-holds Inv-loop μ-loop
 loop-holds c =
     let s = c .before .before .before in
-    let a = s .args in
-    (omega arith, held-none (a .g) (now (a .table)) (now (a .colours)) (a .weighted) (now (a .weights)) 0 (s .pre .0 .table .lent))
+    let a = s .args in (
+      omega arith,
+      held-none (a .g) (now (a .table)) (now (a .colours)) (a .weighted) (now (a .weights)) 0
+          (s .pre .0 .table .lent),
+    )
 
 sub-loop : tie.Need-sub-loop Inv-loop μ-loop
 sub-loop c = omega arith
@@ -38,7 +43,10 @@ add-block-requires : tie.Need-add-block-requires Inv-loop μ-loop
 add-block-requires c κs =
     let l = c .before .before .loop in
     let s = c .before .before .before .before .before .before in (
-      (fits-later (s .pre .0) (bytes (c .before .before)) (l .i) (l .inv .1) (l .i) 64 (omega arith) (omega arith), omega (arith, s .pre .0 .there)),
+      (
+        fits-later (s .pre .0) (bytes (c .before .before)) (l .i) (l .inv .1) (l .i) 64 (omega arith) (omega arith),
+        omega (arith, s .pre .0 .there),
+      ),
       s .pre .1,
     )
 
@@ -56,7 +64,8 @@ loop-again c =
     let a = s .args in (
       omega arith,
       held-later (s .pre .0) (bytes k) (l .i) (l .inv .1) (l .i) 64 (omega arith)
-          (part-held (a .g) (l .table) (now (a .colours)) (a .weighted) (now (a .weights)) (l .i) 64 (c .before .before .add-block .ensures)),
+          (part-held (a .g) (l .table) (now (a .colours)) (a .weighted) (now (a .weights)) (l .i) 64
+          (c .before .before .add-block .ensures)),
     )
 
 sub-add-each : tie.Need-sub-add-each Inv-loop μ-loop
@@ -65,12 +74,16 @@ sub-add-each c = omega arith
 add-each-requires : tie.Need-add-each-requires Inv-loop μ-loop
 add-each-requires c κs =
     let l = c .before .before .loop in
-    let s = c .before .before .before .before .before .before in
-    (fits-later (s .pre .0) (bytes (c .before .before)) (l .i) (l .inv .1) (l .i) (s .args .n - l .i) (omega arith) (omega arith), s .pre .1)
+    let s = c .before .before .before .before .before .before in (
+      fits-later (s .pre .0) (bytes (c .before .before)) (l .i) (l .inv .1) (l .i) (s .args .n - l .i) (omega arith)
+          (omega arith),
+      s .pre .1,
+    )
 
 all-held : (c : tie.After-slice-known3 Inv-loop μ-loop) →
     let a = c .before .before .before .before .before .before .before .before .before .args in
-    Holds (binsOf (a .g)) (c .before .before .add-each .last .1 .0) (loaded (a .g) (partOf (now (a .colours)) (a .weighted) (now (a .weights)) 0 (a .n)) (viewOf (now (a .table))))
+    Holds (binsOf (a .g)) (c .before .before .add-each .last .1 .0)
+    (loaded (a .g) (partOf (now (a .colours)) (a .weighted) (now (a .weights)) 0 (a .n)) (viewOf (now (a .table))))
 all-held c =
     let k = c .before .before .before .before .before in
     let l = k .loop in
@@ -79,7 +92,8 @@ all-held c =
     let all : l .i + (a .n - l .i) ≡ a .n = omega arith in
     rw all at
     (held-later (s .pre .0) (bytes k) (l .i) (l .inv .1) (l .i) (a .n - l .i) (omega arith)
-    (part-held (a .g) (l .table) (now (a .colours)) (a .weighted) (now (a .weights)) (l .i) (a .n - l .i) (c .before .before .add-each .ensures)))
+    (part-held (a .g) (l .table) (now (a .colours)) (a .weighted) (now (a .weights)) (l .i) (a .n - l .i)
+    (c .before .before .add-each .ensures)))
 
 same-length : tie.Need-same-length Inv-loop μ-loop
 same-length c =

@@ -10,7 +10,7 @@ use Rattle.table.specs.Table.{viewOf}
 use Rattle.table.proofs.Tables.{same-size, Holds, holds-list}
 use Rattle.table.specs.Sound.{limit}
 use Rattle.loader.specs.Load.{loaded}
-use Rattle.loader.specs.Inner.{partOf, withPart, CanLoad}
+use Rattle.loader.specs.Inner.{partOf, withPart, PartFits}
 use Rattle.loader.proofs.Parts.{held-none, fits-later, held-later, light, has-room, at-once, alone, own-weight}
 use Rattle.loader.proofs.blocks.add_each.Statement.{statement}
 use Rattle.loader.proofs.blocks.add_each.Tie as tie
@@ -23,19 +23,26 @@ abbrev μ-loop : tie.MeasureT-loop
 μ-loop g table₀ t1 t2 t3 colours weighted weights at n k₀ table k = n - k
 
 -- each colour is of bytes, and the next fits the table that there is
-bytes : (l : tie.In-loop Inv-loop μ-loop) (k : ℕ) → getD (now (l .before .before .before .before .before .args .colours)) k 0 < 256
+bytes : (l : tie.In-loop Inv-loop μ-loop) (k : ℕ)
+    → getD (now (l .before .before .before .before .before .args .colours)) k 0 < 256
 bytes l k = omega (arith, l .before .before .before .shared-slice-known .given k)
 
 next : (l : tie.In-loop Inv-loop μ-loop) →
     let a = l .before .before .before .before .before .args in
-    CanLoad limit (a .g) (l .before .loop .table) (now (a .colours)) (a .weighted) (now (a .weights)) (a .at + l .before .loop .k) 1
-next l = fits-later (l .before .before .before .before .before .pre .0) (bytes l) (l .before .loop .k) (l .before .loop .inv .1) _ 1 refl (omega arith)
+    PartFits limit (a .g) (l .before .loop .table) (now (a .colours)) (a .weighted) (now (a .weights))
+    (a .at + l .before .loop .k) 1
+next l =
+    fits-later (l .before .before .before .before .before .pre .0) (bytes l) (l .before .loop .k)
+    (l .before .loop .inv .1) _ 1 refl (omega arith)
 
 loop-holds : tie.Need-loop-holds Inv-loop μ-loop
 loop-holds c =
     let s = c .before .before .before in
-    let a = s .args in
-    (omega arith, held-none (a .g) (now (a .table)) (now (a .colours)) (a .weighted) (now (a .weights)) (a .at) (s .pre .0 .table .lent))
+    let a = s .args in (
+      omega arith,
+      held-none (a .g) (now (a .table)) (now (a .colours)) (a .weighted) (now (a .weights)) (a .at)
+          (s .pre .0 .table .lent),
+    )
 
 add-i : tie.Need-add-i Inv-loop μ-loop
 add-i c = omega (arith, next c .there)
@@ -51,8 +58,12 @@ add-colour-requires c κs =
     let l = c .before .before .before in
     let a = l .before .before .before .before .before .args in
     let same = alone (now (a .colours)) (a .at + l .before .loop .k) in
-    let w = c .before .weight-at .ensures ∙ own-weight (a .weighted) (now (a .weights)) (a .at + l .before .loop .k) in (
-      (l .before .before .before .before .before .pre .1, light (next l) (bytes l) same (c .before .before .colour .ensures) w),
+    let own = own-weight (a .weighted) (now (a .weights)) (a .at + l .before .loop .k) in
+    let w = c .before .weight-at .ensures ∙ own in (
+      (
+        l .before .before .before .before .before .pre .1,
+        light (next l) (bytes l) same (c .before .before .colour .ensures) w,
+      ),
       has-room (next l) (bytes l) same (c .before .before .colour .ensures) w (omega arith),
     )
 
@@ -68,10 +79,12 @@ loop-again c =
     let s = l .before .before .before .before .before in
     let a = s .args in
     let same = alone (now (a .colours)) (a .at + l .before .loop .k) in
-    let w = c .before .before .before .before .weight-at .ensures ∙ own-weight (a .weighted) (now (a .weights)) (a .at + l .before .loop .k) in (
+    let own = own-weight (a .weighted) (now (a .weights)) (a .at + l .before .loop .k) in
+    let w = c .before .before .before .before .weight-at .ensures ∙ own in (
       omega arith,
       held-later (s .pre .0) (bytes l) (l .before .loop .k) (l .before .loop .inv .1) _ 1 refl
-          (at-once (next l) (bytes l) same (c .before .before .before .before .before .colour .ensures) w (c .before .before .add-colour .ensures)),
+          (at-once (next l) (bytes l) same (c .before .before .before .before .before .colour .ensures) w
+          (c .before .before .add-colour .ensures)),
     )
 
 same-length : tie.Need-same-length Inv-loop μ-loop

@@ -1,4 +1,5 @@
--- `loader::merge::add_cells` meets its contract: after p places the table holds its first p cells with those of the second added.
+-- `loader::merge::add_cells` meets its contract: after p places the table holds its first p cells with those of the
+-- second added.
 -- Assumes nothing.
 use mathlib.Core.Path.{_≡_}
 use Prim.Native.Nat.{_≤_, _-_}
@@ -27,7 +28,8 @@ loop-holds c = (omega arith, none-added _ _ _ (rw (c .bins .ensures) (c .before 
 cell-at-requires : tie.Need-cell-at-requires Inv-loop μ-loop
 cell-at-requires c κs =
     let s = c .before .before .before .before .before .before in
-    has-cell (s .pre .second .lent) (c .before .before .loop .p) (omega (arith, c .before .before .before .bins .ensures))
+    has-cell (s .pre .second .lent) (c .before .before .loop .p)
+    (omega (arith, c .before .before .before .bins .ensures))
 
 add-at-requires : tie.Need-add-at-requires Inv-loop μ-loop
 add-at-requires c κs =
@@ -40,7 +42,9 @@ add-at-requires c κs =
     (omega (arith, c .before .before .before .before .bins .ensures))
 
 add-p : tie.Need-add-p Inv-loop μ-loop
-add-p c = omega (arith, c .before .before .before .before .before .before .before .bins .ensures, bins-high (c .before .before .before .before .before .before .before .before .before .before .pre .first .accepted))
+add-p c =
+    let k = c .before .before .before .before .before .before .before in
+    omega (arith, k .bins .ensures, bins-high (k .before .before .before .pre .first .accepted))
 
 loop-less : tie.Need-loop-less Inv-loop μ-loop
 loop-less c = omega arith
@@ -51,7 +55,8 @@ loop-again c =
     let l = c .before .before .before .before .before .before .loop in (
       omega arith,
       rw (c .before .before .add-at .ensures)
-          (one-added (viewOf (now (s .args .table))) (viewOf (now (s .args .second))) (l .p) (l .inv .1) (omega arith) (c .before .before .before .cell-at .ensures)),
+          (one-added (viewOf (now (s .args .table))) (viewOf (now (s .args .second))) (l .p) (l .inv .1) (omega arith)
+          (c .before .before .before .cell-at .ensures)),
     )
 
 same-length : tie.Need-same-length Inv-loop μ-loop

@@ -34,7 +34,11 @@ returns : tie.Need-returns
 unfolding withColour
 returns c =
     let s = c .before .before .before .before .before .before .before in
-    rw (c .before .before .add-at .ensures, place-below (s .pre .0 .0) (is-bytes s) (c .before .before .before .before .before .look-up .ensures), c .before .before .before .share-of .ensures) refl
+    rw (
+      c .before .before .add-at .ensures,
+      place-below (s .pre .0 .0) (is-bytes s) (c .before .before .before .before .before .look-up .ensures),
+      c .before .before .before .share-of .ensures,
+    ) refl
 
 pub add-colour-spec : {M : Type 1} → statement M
 add-colour-spec =

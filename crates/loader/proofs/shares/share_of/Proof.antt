@@ -44,7 +44,11 @@ mul-t9 c =
 mul-t10 : tie.Need-mul-t10
 mul-t10 c =
     let s = c .before .before .before in
-    omega (arith, times-high 4294967295 195075 (s .args .w) (s .args .squares) (s .pre .0) (omega (arith, s .pre .1, squares-small (is-bytes s))))
+    omega (
+      arith,
+      times-high 4294967295 195075 (s .args .w) (s .args .squares) (s .pre .0)
+          (omega (arith, s .pre .1, squares-small (is-bytes s))),
+    )
 
 returns : tie.Need-returns
 unfolding share squaresOf

@@ -65,7 +65,8 @@ returns : tie.Need-returns Inv-loop μ-loop
 unfolding withSquares
 returns c =
     let l = c .before .loop in
-    list-is 256 _ (l .out) 0 (l .inv .1) (λ k h. l .inv .2 k (omega arith)) ∙ ap withSquares (c .before .before .steps .ensures)
+    list-is 256 _ (l .out) 0 (l .inv .1) (λ k h. l .inv .2 k (omega arith))
+    ∙ ap withSquares (c .before .before .steps .ensures)
 
 pub step-table-spec : {M : Type 1} → statement M
 step-table-spec =

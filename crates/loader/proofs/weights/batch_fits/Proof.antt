@@ -15,7 +15,9 @@ sub-result : tie.Need-sub-result
 sub-result c = search needs
 
 returns-2 : tie.Need-returns-2
-returns-2 c = rw (c .if1 .left) (rest-test 4294967295 (c .before .before .args .had) (c .before .before .args .n) (c .before .before .pre))
+returns-2 c =
+    rw (c .if1 .left) (rest-test 4294967295 (c .before .before .args .had) (c .before .before .args .n)
+    (c .before .before .pre))
 
 pub batch-fits-spec : {M : Type 1} → statement M
 batch-fits-spec = tie.close (tie.spec weights-fit-requires returns sub-result returns-2)

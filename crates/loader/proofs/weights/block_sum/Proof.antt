@@ -53,7 +53,8 @@ returns : tie.Need-returns Inv-loop μ-loop
 returns c =
     let l = c .before .loop in
     let e : l .i ≡ c .before .before .args .end = omega arith in
-    l .inv .2 ∙ ap (λ (n : ℕ). sumFrom (c .before .before .args .at) (n - c .before .before .args .at) (λ k. getD (now (c .before .before .args .weights)) k 0)) e
+    l .inv .2 ∙ ap (λ (n : ℕ). sumFrom (c .before .before .args .at) (n - c .before .before .args .at)
+    (λ k. getD (now (c .before .before .args .weights)) k 0)) e
 
 pub block-sum-spec : {M : Type 1} → statement M
 block-sum-spec =

@@ -1,4 +1,5 @@
--- `loader::weights::weights_fit` meets its contract: the total so far is within the limit, so a block more still fits a u64.
+-- `loader::weights::weights_fit` meets its contract: the total so far is within the limit, so a block more still fits a
+-- u64.
 -- Assumes nothing.
 use mathlib.Core.Path.{_≡_, sym, ap}
 use Prim.Native.Nat.{ℕ, _+_, _≤_, _-_}
@@ -38,7 +39,8 @@ add-total : tie.Need-add-total Inv-loop μ-loop
 add-total c =
     let l = c .before .before .loop in
     let f : ℕ → ℕ = λ k. getD (now (c .before .before .before .before .args .weights)) k 0 in
-    let each : (k : ℕ) → f k ≤ 4294967295 = λ k. omega (arith, c .before .before .before .shared-slice-known .given k) in
+    let each : (k : ℕ) → f k ≤ 4294967295 =
+    λ k. omega (arith, c .before .before .before .shared-slice-known .given k) in
     omega (arith, c .block-sum .ensures, sum-bounded (l .i) ((l .i + 4096) - l .i) 4294967295 f each)
 
 returns : tie.Need-returns Inv-loop μ-loop
@@ -48,7 +50,12 @@ returns c =
     let n = length (now (c .before .before .before .before .before .args .weights)) in
     sym
     (lt-leb (c .before .before .before .before .before .args .had + sumFrom 0 n f) limit
-    (omega (arith, c .before .block-sum .ensures, sum-split (l .i) (l .i + 4096) f (omega arith), sum-split (l .i + 4096) n f (omega arith))))
+    (omega (
+      arith,
+      c .before .block-sum .ensures,
+      sum-split (l .i) (l .i + 4096) f (omega arith),
+      sum-split (l .i + 4096) n f (omega arith),
+    )))
 
 add-i : tie.Need-add-i Inv-loop μ-loop
 add-i c = omega arith
@@ -59,8 +66,11 @@ loop-less c = omega arith
 loop-again : tie.Need-loop-again Inv-loop μ-loop
 loop-again c =
     let l = c .before .before .before .loop in
-    let f : ℕ → ℕ = λ k. getD (now (c .before .before .before .before .before .args .weights)) k 0 in
-    (omega arith, omega (arith, c .before .block-sum .ensures, sum-split (l .i) (l .i + 4096) f (omega arith)), omega arith)
+    let f : ℕ → ℕ = λ k. getD (now (c .before .before .before .before .before .args .weights)) k 0 in (
+      omega arith,
+      omega (arith, c .before .block-sum .ensures, sum-split (l .i) (l .i + 4096) f (omega arith)),
+      omega arith,
+    )
 
 block-sum-requires-2 : tie.Need-block-sum-requires-2 Inv-loop μ-loop
 block-sum-requires-2 c κs = (omega arith, omega arith, omega arith)
@@ -70,7 +80,8 @@ add-result c =
     let l = c .before .before .loop in
     let f : ℕ → ℕ = λ k. getD (now (c .before .before .before .before .args .weights)) k 0 in
     let n = length (now (c .before .before .before .before .args .weights)) in
-    let each : (k : ℕ) → f k ≤ 4294967295 = λ k. omega (arith, c .before .before .before .shared-slice-known .given k) in
+    let each : (k : ℕ) → f k ≤ 4294967295 =
+    λ k. omega (arith, c .before .before .before .shared-slice-known .given k) in
     omega (arith, c .block-sum2 .ensures, sum-bounded (l .i) (n - l .i) 4294967295 f each)
 
 returns-2 : tie.Need-returns-2 Inv-loop μ-loop

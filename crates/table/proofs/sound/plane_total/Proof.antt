@@ -28,7 +28,8 @@ loop-holds : tie.Need-loop-holds Inv-loop μ-loop
 loop-holds c =
     let s = c .before in (
       omega arith,
-      ap (λ (n : ℕ). scanned limit (s .args .g) (viewOf (now (s .args .table))) (placeOf (s .args .g) (s .args .r) 0 0) n (s .args .had)) (zero-mul (s .args .g .size3))
+      ap (λ (n : ℕ). scanned limit (s .args .g) (viewOf (now (s .args .table)))
+          (placeOf (s .args .g) (s .args .r) 0 0) n (s .args .had)) (zero-mul (s .args .g .size3))
           ∙ scan-none limit (s .args .g) (viewOf (now (s .args .table))) _ (s .args .had) (s .pre .under),
     )
 
@@ -38,7 +39,14 @@ row-total-requires c κs =
     let l = c .before .before .loop in
     record {
       table = s .pre .table;
-      inside = record { accepted = s .pre .table .accepted; one = s .pre .inside .one; two = c .if1 .taken; three = s .pre .inside .three };
+      inside =
+          record {
+            accepted = s .pre .table .accepted;
+            one = s .pre .inside .one;
+            two = c .if1 .taken;
+            three =
+                s .pre .inside .three;
+          };
       under = scan-under limit (s .args .g) (viewOf (now (s .args .table))) _ _ _ (l .total) (l .inv .1);
     }
 
@@ -55,8 +63,10 @@ returns c =
     let g = s .args .g in
     let v = viewOf (now (s .args .table)) in
     sym
-    (block-stop limit g v (placeOf g (s .args .r) 0 0) (g .size3) (l .gr) (g .size2) (s .args .had) (c .before .before .before .if1 .taken)
-    (block-more limit g v (placeOf g (s .args .r) 0 0) (g .size3) (l .gr) (s .args .had) (l .total) Unsound (l .inv .1) (row-start g (s .args .r) (l .gr))
+    (block-stop limit g v (placeOf g (s .args .r) 0 0) (g .size3) (l .gr) (g .size2) (s .args .had)
+    (c .before .before .before .if1 .taken)
+    (block-more limit g v (placeOf g (s .args .r) 0 0) (g .size3) (l .gr) (s .args .had) (l .total) Unsound (l .inv .1)
+    (row-start g (s .args .r) (l .gr))
     (sym (c .enum-told .given .1) ∙ c .before .before .row-total .ensures)))
 
 add-gr : tie.Need-add-gr Inv-loop μ-loop
@@ -73,9 +83,11 @@ loop-again c =
     let l = c .before .before .before .before .before .before .loop in
     let g = s .args .g in
     let v = viewOf (now (s .args .table)) in
-    let good : c .before .before .before .row-total .result ≡ Total (c .before .x .given .0 .0) = c .before .x .given .1 in (
+    let good : c .before .before .before .row-total .result ≡ Total (c .before .x .given .0 .0) =
+    c .before .x .given .1 in (
       omega (arith, c .before .before .before .before .if1 .taken),
-      block-more limit g v (placeOf g (s .args .r) 0 0) (g .size3) (l .gr) (s .args .had) (l .total) (Total (c .before .x .given .0 .0)) (l .inv .1) (row-start g (s .args .r) (l .gr))
+      block-more limit g v (placeOf g (s .args .r) 0 0) (g .size3) (l .gr) (s .args .had) (l .total)
+          (Total (c .before .x .given .0 .0)) (l .inv .1) (row-start g (s .args .r) (l .gr))
           (sym good ∙ c .before .before .before .row-total .ensures),
     )
 
@@ -84,7 +96,8 @@ returns-2 c =
     let s = c .before .before .before .before in
     let l = c .before .before .loop in
     let all : l .gr ≡ s .args .g .size2 = omega arith in
-    sym (l .inv .1) ∙ ap (λ (n : ℕ). scanned limit (s .args .g) (viewOf (now (s .args .table))) (placeOf (s .args .g) (s .args .r) 0 0) (n * s .args .g .size3) (s .args .had)) all
+    sym (l .inv .1) ∙ ap (λ (n : ℕ). scanned limit (s .args .g) (viewOf (now (s .args .table)))
+    (placeOf (s .args .g) (s .args .r) 0 0) (n * s .args .g .size3) (s .args .had)) all
 
 pub plane-total-spec : {M : Type 1} → statement M
 plane-total-spec =

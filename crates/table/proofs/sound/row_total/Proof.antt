@@ -1,4 +1,5 @@
--- `table::sound::row_total` meets its contract: after b bins all of them are in bounds and the total is that of their weights.
+-- `table::sound::row_total` meets its contract: after b bins all of them are in bounds and the total is that of their
+-- weights.
 -- Assumes nothing.
 use mathlib.Core.Bool.{true, _&&_, Bool}
 use mathlib.Core.Path.{_≡_, refl, sym, ap, _∙_}
@@ -19,7 +20,8 @@ use Rattle.table.specs.Inner.{scanned}
 use Rattle.table.specs.Sound.{limit, binSound}
 use Rattle.table.specs.Table.{viewOf}
 use Rattle.table.specs.Cell.{cellOf, View}
-use Rattle.table.proofs.Scans.{row-place, row-cell, row-one, row-two, row-three, row-bin, byte-span, scan-bad, scan-over, scan-total}
+use Rattle.table.proofs.Scans.{row-place, row-cell, row-one, row-two, row-three, row-bin, byte-span, scan-bad}
+use Rattle.table.proofs.Scans.{scan-over, scan-total}
 use Rattle.table.proofs.sound.row_total.Statement.{statement}
 use Rattle.table.proofs.sound.row_total.Tie as tie
 
@@ -49,36 +51,57 @@ loop-holds c = (omega arith, sym (add-zero _), refl, c .before .before .before .
 add-cell-at : tie.Need-add-cell-at Inv-loop μ-loop
 add-cell-at c =
     let s = c .before .before .before .before .before .before .before in
-    omega (arith, row-place (s .pre) (c .before .before .loop .b) (c .if1 .taken) (c .before .before .before .place .ensures), bins-high (s .pre .table .accepted))
+    omega (
+      arith,
+      row-place (s .pre) (c .before .before .loop .b) (c .if1 .taken)
+          (c .before .before .before .place .ensures),
+      bins-high (s .pre .table .accepted),
+    )
 
 cell-at-requires : tie.Need-cell-at-requires Inv-loop μ-loop
-cell-at-requires c κs = row-cell (c .before .before .before .before .before .before .before .pre) (c .before .before .loop .b) (c .if1 .taken) (c .before .before .before .place .ensures)
+cell-at-requires c κs =
+    row-cell (c .before .before .before .before .before .before .before .pre) (c .before .before .loop .b)
+    (c .if1 .taken) (c .before .before .before .place .ensures)
 
 span-of-requires-3 : tie.Need-span-of-requires-3 Inv-loop μ-loop
-span-of-requires-3 c κs = row-three (c .before .before .before .before .before .before .before .before .pre) (c .before .before .before .loop .b) (c .before .if1 .taken)
+span-of-requires-3 c κs =
+    row-three (c .before .before .before .before .before .before .before .before .pre)
+    (c .before .before .before .loop .b) (c .before .if1 .taken)
 
 keeps-bounds-requires : tie.Need-keeps-bounds-requires Inv-loop μ-loop
 keeps-bounds-requires c κs =
-    let s = c .before .before .before .before .before .before .before .before .before in (
-      rw (c .before .before .before .before .before .before .before .span-of .ensures) (byte-span _ _ (row-one (s .pre))),
+    let s = c .before .before .before .before .before .before .before .before .before in
+    let l = c .before .before .before .before .loop in (
+      rw (c .before .before .before .before .before .before .before .span-of .ensures)
+          (byte-span _ _ (row-one (s .pre))),
       rw (c .before .before .before .before .before .before .span-of2 .ensures) (byte-span _ _ (row-two (s .pre))),
-      rw (c .span-of3 .ensures) (byte-span _ _ (row-three (s .pre) (c .before .before .before .before .loop .b) (c .before .before .if1 .taken))),
+      rw (c .span-of3 .ensures) (byte-span _ _ (row-three (s .pre) (l .b) (c .before .before .if1 .taken))),
     )
+
+-- on entry
+abbrev entry : tie.After-keeps-bounds Inv-loop μ-loop → tie.Start Inv-loop μ-loop
+entry k = k .before .before .before .before .before .before .before .before .before .before
 
 -- the bin at hand
 abbrev grid : tie.After-keeps-bounds Inv-loop μ-loop → Grid
-grid k = k .before .before .before .before .before .before .before .before .before .before .args .g
+grid k = entry k .args .g
 
 abbrev view : tie.After-keeps-bounds Inv-loop μ-loop → View
-view k = viewOf (now (k .before .before .before .before .before .before .before .before .before .before .args .table))
+view k = viewOf (now (entry k .args .table))
 
 abbrev here : tie.After-keeps-bounds Inv-loop μ-loop → ℕ
-here k = k .before .before .before .before .before .before .place .result + k .before .before .before .before .before .loop .b
+here k =
+    k .before .before .before .before .before .before .place .result
+    + k .before .before .before .before .before .loop .b
 
-tested : (k : tie.After-keeps-bounds Inv-loop μ-loop) → (leb (view k (here k) 0) limit && binSound (grid k) (view k) (here k)) ≡ k .keeps-bounds .result
+tested : (k : tie.After-keeps-bounds Inv-loop μ-loop)
+    → (leb (view k (here k) 0) limit && binSound (grid k) (view k) (here k)) ≡ k .keeps-bounds .result
 tested k =
-    row-bin (k .before .before .before .before .before .before .before .before .before .before .pre) (view k) (k .before .before .before .before .before .loop .b) (k .before .before .before .if1 .taken) (k .before .before .before .before .before .before .place .ensures)
-    (k .before .before .before .before .before .before .before .before .span-of .ensures) (k .before .before .before .before .before .before .before .span-of2 .ensures) (k .before .span-of3 .ensures) (k .before .before .cell-at .ensures) (k .keeps-bounds .ensures)
+    row-bin (entry k .pre) (view k) (k .before .before .before .before .before .loop .b)
+    (k .before .before .before .if1 .taken) (k .before .before .before .before .before .before .place .ensures)
+    (k .before .before .before .before .before .before .before .before .span-of .ensures)
+    (k .before .before .before .before .before .before .before .span-of2 .ensures) (k .before .span-of3 .ensures)
+    (k .before .before .cell-at .ensures) (k .keeps-bounds .ensures)
 
 weighs : (k : tie.After-keeps-bounds Inv-loop μ-loop) → k .before .before .cell-at .result .weight ≡ view k (here k) 0
 unfolding cellOf
@@ -97,7 +120,7 @@ passed k e =
     record {
       bounds = and-right within kept (tested k ∙ e);
       light = rw (weighs k) (leb-true (view k (here k) 0) limit (and-left within kept (tested k ∙ e)));
-      room = lt-of-lt-of-le (k .before .before .before .if1 .taken) (size-high (three (k .before .before .before .before .before .before .before .before .before .before .pre .table .accepted)));
+      room = lt-of-lt-of-le (k .before .before .before .if1 .taken) (size-high (three (entry k .pre .table .accepted)));
     }
 
 returns : tie.Need-returns Inv-loop μ-loop
@@ -105,7 +128,8 @@ returns c =
     let k = c .before in
     rw (← k .before .before .before .before .before .before .place .ensures)
     (sym
-    (scan-bad limit (grid k) (view k) (k .before .before .before .before .before .before .place .result) (grid k .size3) (k .before .before .before .before .before .before .before .before .before .before .args .had)
+    (scan-bad limit (grid k) (view k) (k .before .before .before .before .before .before .place .result) (grid k .size3)
+    (entry k .args .had)
     (here k) (omega arith) (omega (arith, k .before .before .before .if1 .taken))
     (tested k ∙ not-true _ (c .if2 .taken))))
 
@@ -128,7 +152,8 @@ loop-again c =
     let l = k .before .before .before .before .before .loop in
     let f = passed k (not-false _ (c .before .if2 .left)) in (
       omega (arith, k .before .before .before .if1 .taken),
-      (λ i. l .inv .1 i + weighs k i) ∙ add-assoc _ _ _ ∙ ap (λ (n : ℕ). k .before .before .before .before .before .before .before .before .before .before .args .had + n) (sym (sum-last _ (l .b) _)),
+      (λ i. l .inv .1 i + weighs k i) ∙ add-assoc _ _ _
+          ∙ ap (λ (n : ℕ). entry k .args .had + n) (sym (sum-last _ (l .b) _)),
       all-last _ (l .b) _ ∙ (λ i. l .inv .2 i && f .bounds i),
       omega (arith, f .light, l .inv .3),
     )

@@ -35,7 +35,8 @@ loop-holds : tie.Need-loop-holds Inv-loop μ-loop
 loop-holds c =
     let s = c .before in (
       omega arith,
-      ap (λ (n : ℕ). scanned limit (s .args .g) (viewOf (now (s .args .table))) 0 n 0) (zero-mul (s .args .g .size2 * s .args .g .size3))
+      ap (λ (n : ℕ). scanned limit (s .args .g) (viewOf (now (s .args .table))) 0 n 0)
+          (zero-mul (s .args .g .size2 * s .args .g .size3))
           ∙ scan-none limit (s .args .g) (viewOf (now (s .args .table))) 0 0 (omega arith),
     )
 
@@ -46,7 +47,14 @@ plane-total-requires c κs =
     let a = s .pre .accepted in
     record {
       table = s .pre;
-      inside = record { accepted = a; one = c .if1 .taken; two = omega (arith, size-low (two a)); three = omega (arith, size-low (three a)) };
+      inside =
+          record {
+            accepted = a;
+            one = c .if1 .taken;
+            two = omega (arith, size-low (two a));
+            three =
+                omega (arith, size-low (three a));
+          };
       under = scan-under limit (s .args .g) (viewOf (now (s .args .table))) _ _ _ (l .total) (l .inv .1);
     }
 
@@ -82,9 +90,11 @@ loop-again c =
     let l = c .before .before .before .before .before .before .loop in
     let g = s .args .g in
     let v = viewOf (now (s .args .table)) in
-    let good : c .before .before .before .plane-total .result ≡ Total (c .before .x .given .0 .0) = c .before .x .given .1 in (
+    let good : c .before .before .before .plane-total .result ≡ Total (c .before .x .given .0 .0) =
+    c .before .x .given .1 in (
       omega (arith, c .before .before .before .before .if1 .taken),
-      block-more limit g v 0 (g .size2 * g .size3) (l .r) 0 (l .total) (Total (c .before .x .given .0 .0)) (l .inv .1) (plane-start g (l .r))
+      block-more limit g v 0 (g .size2 * g .size3) (l .r) 0 (l .total) (Total (c .before .x .given .0 .0)) (l .inv .1)
+          (plane-start g (l .r))
           (sym good ∙ c .before .before .before .plane-total .ensures),
     )
 
