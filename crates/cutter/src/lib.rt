@@ -11,8 +11,8 @@ use rounds::cut_boxes;
 use sums::Stats;
 use sums::box_sum;
 use sums::moments;
-use table::Weighed;
-use table::weigh;
+use table::sound::SoundTotal;
+use table::sound::sound_total;
 ghost use mathlib.Core.Path.{_≡_};
 ghost use Prim.Native.Nat.{_+_, _*_, _≤_, _<_};
 ghost use lib.ListN.{length, set};
@@ -279,7 +279,7 @@ fn number_on(
     if !long_enough(g, k, table.len(), work, palette, counts, map) {
         return 5;
     }
-    let Weighed::Total(total) = weigh(table, g) else {
+    let SoundTotal::Total(total) = sound_total(table, g) else {
         return 6;
     };
     if total == 0 {

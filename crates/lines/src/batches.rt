@@ -1,5 +1,5 @@
 // Loading: the input batch by batch, into one table.
-use loader::load;
+use loader::load::load;
 ghost use mathlib.Core.Path.{_≡_};
 ghost use Rattle.lines.specs.Listing.{lowerOf, emptyTable, batchAnswer, batchLater, Filled};
 

@@ -16,8 +16,8 @@ use Rattle.grid.specs.declared.place.Chosen.the-variants as chosen
 use Rattle.grid.specs.Size.{choices, shiftIn, shiftOf, shiftAnswer}
 use Rattle.grid.specs.Grid.{gridWith, gridOf, gridAnswer}
 use Rattle.table.specs.Cell.{View}
-use Rattle.table.specs.Sound.{limit, total, sound, weighed, weighedAnswer}
-use Rattle.table.proofs.Scans.{total-told, unsound-told}
+use Rattle.table.specs.Sound.{limit, total, sound, soundTotal, soundAnswer}
+use Rattle.table.proofs.Total.{total-told, unsound-told}
 use Rattle.boxes.specs.declared.sides.Bounds.{Bounds}
 use Rattle.boxes.specs.Box.{Within}
 use Rattle.spread.specs.Cut.{positionAnswer, bestCut}
@@ -82,11 +82,11 @@ grid-told b1 b2 b3 =
     }
 
 -- ---- a table
-pub weighed-told : (g : Grid) (v : View) → WeighedTold (sound limit g v) (total g v) (weighedAnswer (weighed limit g v))
+pub weighed-told : (g : Grid) (v : View) → WeighedTold (sound limit g v) (total g v) (soundAnswer (soundTotal limit g v))
 weighed-told g v =
     record {
-      done = λ e. ap weighedAnswer (total-told limit g v e);
-      refused = λ e. ap weighedAnswer (unsound-told limit g v e);
+      done = λ e. ap soundAnswer (total-told limit g v e);
+      refused = λ e. ap soundAnswer (unsound-told limit g v e);
     }
 
 -- ---- the best position of a box: "either a position with its float score, or that no position exists; the second

@@ -21,13 +21,14 @@ use Rattle.grid.proofs.place.place as place
 use Rattle.pixels.proofs.colour.colour as colour
 use Rattle.grid.proofs.steps.steps as steps
 use Rattle.pixels.proofs.equal.equal_colours as equal-colours
-use Rattle.table.proofs.cell_at as cell-at
-use Rattle.table.proofs.put_at as put-at
-use Rattle.table.proofs.plus as plus
-use Rattle.table.proofs.minus as minus
-use Rattle.table.proofs.weigh as weigh
-use Rattle.loader.proofs.load as load
-use Rattle.loader.proofs.merge as merge
+use Rattle.table.proofs.layout.table_len as table-len
+use Rattle.table.proofs.layout.cell_at as cell-at
+use Rattle.table.proofs.layout.put_at as put-at
+use Rattle.table.proofs.cell.plus as plus
+use Rattle.table.proofs.cell.minus as minus
+use Rattle.table.proofs.sound.sound_total as sound-total
+use Rattle.loader.proofs.load.load as load
+use Rattle.loader.proofs.merge.merge as merge
 use Rattle.sums.proofs.moments as moments
 use Rattle.sums.proofs.stats_of as stats-of
 use Rattle.sums.proofs.box_sum as box-sum
@@ -130,6 +131,9 @@ pub unpacked-determined : Determines 0 unpacked.Kinds.ps unpacked.Kinds.r unpack
 unpacked-determined κs a r s x y p q = determined p q
 
 -- ---- table
+pub table-len-determined : Determines 0 table-len.Kinds.ps table-len.Kinds.r table-len.Reads.Learnt (λ κs r e. r)
+table-len-determined κs a r s x y p q = determined p q
+
 pub cell-at-determined : Determines 1 cell-at.Kinds.ps cell-at.Kinds.r cell-at.Reads.Learnt (λ κs r e. r)
 cell-at-determined κs a r s x y p q = determined p q
 
@@ -142,8 +146,8 @@ plus-determined κs a r s x y p q = determined p q
 pub minus-determined : Determines 0 minus.Kinds.ps minus.Kinds.r minus.Reads.Learnt (λ κs r e. r)
 minus-determined κs a r s x y p q = determined p q
 
-pub weigh-determined : Determines 1 weigh.Kinds.ps weigh.Kinds.r weigh.Reads.Learnt (λ κs r e. r)
-weigh-determined κs a r s x y p q = determined p q
+pub sound-total-determined : Determines 1 sound-total.Kinds.ps sound-total.Kinds.r sound-total.Reads.Learnt (λ κs r e. r)
+sound-total-determined κs a r s x y p q = determined p q
 
 -- ---- loader
 pub load-determined : Determines {A = ℕ × List ℕ} 3 load.Kinds.ps load.Kinds.r load.Reads.Learnt

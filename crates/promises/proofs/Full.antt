@@ -11,9 +11,9 @@ use Rattle.grid.specs.Grid.{gridOf, binsOf}
 use Rattle.grid.proofs.Places.{chose}
 use Rattle.table.specs.Table.{viewOf}
 use Rattle.loader.specs.Load.{weightOf, ColourAt}
-use Rattle.loader.specs.Plan.{Plan, Table, run, leaves, BytesIn}
+use Rattle.loader.specs.Plan.{Plan, Filled, ends, leaves, BytesIn}
 use Rattle.loader.proofs.Order.{table-holds, table-total, table-sound, leaves-bytes}
-use Rattle.loader.proofs.Ran.{ran-table}
+use Rattle.loader.proofs.Plans.{filled-table}
 use Rattle.loaded.proofs.Boxes.{occupied-colour, colour-occupies}
 use Rattle.spread.specs.Spread.{SpreadsAbove}
 use Rattle.loaded.proofs.Spreads.{table-above}
@@ -34,12 +34,12 @@ module _ (b1 b2 b3 k : ℕ) (t : List ℕ) (b : Buffers) {g : Grid} (e : gridOf 
       (full (record { holds = d .can .is-sound }) (d .accepted) (d .can .some) spreads k (d .can .least) (d .can .most)
       ∙ ap (min k) (occupied-whole g (viewOf t)))
 
-  module _ (p : Plan) (y : BytesIn p) (ran : run b1 b2 b3 p ≡ Table t) where
+  module _ (p : Plan) (y : BytesIn p) (ran : ends b1 b2 b3 p ≡ Filled t) where
     -- a cut of what was loaded is done, if anything was
     pub plan-cuts : Lends g k b → 0 < weightOf (leaves p) → cutNumber b1 b2 b3 k t b ≡ 0
     plan-cuts l some =
         let a = chose b1 b2 b3 g e .accepted in
-        let fits = ran-table b1 b2 b3 e p y ran in
+        let fits = filled-table b1 b2 b3 e p y ran in
         let bytes = leaves-bytes p y in
         cut-accepts b1 b2 b3 k t b e
         (rw (fits .1)
@@ -59,19 +59,19 @@ module _ (b1 b2 b3 k : ℕ) (t : List ℕ) (b : Buffers) {g : Grid} (e : gridOf 
     -- 200,000
     pub full-loaded : Lends g k b → 0 < weightOf (leaves p) → cutRecord b1 b2 b3 k t b .boxes ≡ min k (occupiedBins g t)
     full-loaded l some =
-        let fits = ran-table b1 b2 b3 e p y ran in
+        let fits = filled-table b1 b2 b3 e p y ran in
         full-above (plan-cuts l some)
         (rw (fits .1) (table-above (chose b1 b2 b3 g e .accepted) (leaves p) (leaves-bytes p y) (fits .0)))
 
     -- a bin is occupied exactly where a colour of weight above 0 was loaded
     pub occupied-loaded : (q : ℕ) → q < binsOf g → (viewOf t q 0 ≡ 0 → ⊥) → ColourAt g (leaves p) q
     occupied-loaded q h o =
-        let fits = ran-table b1 b2 b3 e p y ran in
+        let fits = filled-table b1 b2 b3 e p y ran in
         occupied-colour g q (leaves p)
         (λ z. o (ap (λ (s : List ℕ). viewOf s q 0) (fits .1) ∙ table-holds g (leaves p) .at q 0 h (lit< tt) ∙ z))
 
     pub loaded-occupies : (q : ℕ) → q < binsOf g → ColourAt g (leaves p) q → viewOf t q 0 ≡ 0 → ⊥
     loaded-occupies q h c z =
-        let fits = ran-table b1 b2 b3 e p y ran in
+        let fits = filled-table b1 b2 b3 e p y ran in
         colour-occupies g q (leaves p) c
         (sym (ap (λ (s : List ℕ). viewOf s q 0) (fits .1) ∙ table-holds g (leaves p) .at q 0 h (lit< tt)) ∙ z)

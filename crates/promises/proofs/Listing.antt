@@ -25,7 +25,7 @@ use Rattle.grid.proofs.Places.{chose}
 use Rattle.table.specs.Cell.{View}
 use Rattle.table.specs.Table.{viewOf}
 use Rattle.table.specs.Sound.{limit, total, sound}
-use Rattle.table.proofs.Cells.{view-at}
+use Rattle.table.proofs.Tables.{view-at}
 use Rattle.loader.specs.Load.{Weighted, weightOf, tableOf, batchOf, loadNumber, loadLater}
 use Rattle.loader.proofs.Loading.{AllBytes}
 use Rattle.loader.proofs.Parts.{batch-weight, all-bytes-of}

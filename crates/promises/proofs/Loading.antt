@@ -9,9 +9,9 @@ use lib.ListN.{length}
 use Rattle.grid.specs.declared.place.Grid.{Grid}
 use Rattle.grid.specs.declared.place.Chosen.the-variants as chosen
 use Rattle.grid.specs.Grid.{gridOf, binsOf}
-use Rattle.table.specs.Table.{viewOf}
+use Rattle.table.specs.Table.{Sized, viewOf}
 use Rattle.table.specs.Sound.{limit, sound}
-use Rattle.table.proofs.Soundness.{sound-total}
+use Rattle.table.proofs.Soundness.{total-high}
 use Rattle.loader.specs.Load.{loadNumber, loadLater}
 use Rattle.loader.proofs.Laws.{load-accepts}
 use Rattle.loader.proofs.Weightless.{weightless, empty-weight, empty-kept}
@@ -37,12 +37,12 @@ module _ (b1 b2 b3 : ℕ) (t : List ℕ) where
 
   -- "it is refused only as any other load is": not for a table of the right length that is sound, however full
   pub empty-accepted : (given : Bool) (weights : List ℕ) {g : Grid} → gridOf b1 b2 b3 ≡ chosen.Accepted g
-      → (given ≡ true → length weights ≡ 0) → length t ≡ 5 * binsOf g → sound limit g (viewOf t) ≡ true
+      → (given ≡ true → length weights ≡ 0) → Sized t (binsOf g) → sound limit g (viewOf t) ≡ true
       → loadNumber b1 b2 b3 t [] given weights ≡ 0
   empty-accepted given weights {g} e none lent is-sound =
       load-accepts b1 b2 b3 t [] given weights e (omega arith) none lent is-sound
       (omega (
         arith,
         empty-weight given weights,
-        sound-total {most = limit} {g = g} {v = viewOf t} (record { holds = is-sound }),
+        total-high {most = limit} {g = g} {v = viewOf t} (record { holds = is-sound }),
       ))

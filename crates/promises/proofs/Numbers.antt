@@ -18,7 +18,7 @@ use Rattle.basics.specs.Answer.{refuse}
 use Rattle.grid.specs.Grid.{gridOf, gridAnswer, onGrid, numberOn, binsOf}
 use Rattle.grid.proofs.Ends.{call-done}
 use Rattle.basics.proofs.Range.{and-left, and-right}
-use Rattle.table.specs.Table.{viewOf}
+use Rattle.table.specs.Table.{isSized, viewOf}
 use Rattle.table.specs.Sound.{limit, total, sound, unsoundNumber}
 use Rattle.loader.specs.Load.{loadNumber, loadLater}
 use Rattle.loader.specs.Merge.{mergeNumber, mergeLater}
@@ -131,7 +131,7 @@ module _ (b1 b2 b3 : ℕ) where
       go : (c : Chosen) → gridOf b1 b2 b3 ≡ c → mergeNumber b1 b2 b3 t s ≡ chain (mergeTests (gridOf b1 b2 b3) t s)
       go (chosen.Accepted g) e =
           merge-tests b1 b2 b3 t s e
-          ∙ pairs (eqb (length t) (5 * binsOf g)) (eqb (length s) (5 * binsOf g)) (sound limit g (viewOf t))
+          ∙ pairs (isSized t (binsOf g)) (isSized s (binsOf g)) (sound limit g (viewOf t))
           (sound limit g (viewOf s)) _
           ∙ rw e refl
       go chosen.Refused e = sym (merge-no-grid b1 b2 b3 t s e .0) ∙ rw e refl

@@ -11,9 +11,9 @@ use Rattle.grid.specs.declared.place.Chosen.the-variants as chosen
 use Rattle.grid.specs.Grid.{gridOf, colourPlace}
 use Rattle.table.specs.Sound.{limit}
 use Rattle.loader.specs.Load.{weightOf, tableOf}
-use Rattle.loader.specs.Plan.{Plan, Table, Refused, ranOf, run, leaves, firstMalformed, BytesIn}
-use Rattle.loader.proofs.Order.{table-perm, run-is, any-order, malformed-refused}
-use Rattle.loader.proofs.Ran.{ran-table}
+use Rattle.loader.specs.Plan.{Plan, Filled, Stopped, endedOf, ends, leaves, firstMalformed, BytesIn}
+use Rattle.loader.proofs.Order.{table-perm, ends-is, any-order, malformed-refused}
+use Rattle.loader.proofs.Plans.{filled-table}
 use Rattle.cutter.specs.Cut.{Buffers, cutRecord, cutLater}
 use Rattle.promises.specs.Order.{SameCut, CutAlike}
 
@@ -32,10 +32,10 @@ same-cut g b1 b2 b3 k b e =
 module _ (b1 b2 b3 : ℕ) {g : Grid} (e : gridOf b1 b2 b3 ≡ chosen.Accepted g) (p q : Plan) (y : BytesIn p)
     (z : BytesIn q) (π : Perm (leaves p) (leaves q)) where
   -- plans that ran to tables ran to the same table
-  pub ran-same : {t s : List ℕ} → run b1 b2 b3 p ≡ Table t → run b1 b2 b3 q ≡ Table s → t ≡ s
-  ran-same r u = ran-table b1 b2 b3 e p y r .1 ∙ table-perm g π ∙ sym (ran-table b1 b2 b3 e q z u .1)
+  pub ran-same : {t s : List ℕ} → ends b1 b2 b3 p ≡ Filled t → ends b1 b2 b3 q ≡ Filled s → t ≡ s
+  ran-same r u = filled-table b1 b2 b3 e p y r .1 ∙ table-perm g π ∙ sym (filled-table b1 b2 b3 e q z u .1)
 
-  pub ran-alike : {t s : List ℕ} → run b1 b2 b3 p ≡ Table t → run b1 b2 b3 q ≡ Table s → (k : ℕ) (b : Buffers)
+  pub ran-alike : {t s : List ℕ} → ends b1 b2 b3 p ≡ Filled t → ends b1 b2 b3 q ≡ Filled s → (k : ℕ) (b : Buffers)
       → SameCut g b1 b2 b3 k b t s
   ran-alike r u k b = same-cut g b1 b2 b3 k b (ran-same r u)
 
@@ -57,9 +57,9 @@ module _ (b1 b2 b3 : ℕ) {g : Grid} (e : gridOf b1 b2 b3 ≡ chosen.Accepted g)
     (h : weightOf (leaves p) ≤ limit) where
   -- how a plan whose total fits ends: refused with the number of its first malformed batch, or else with the table of
   -- its colours
-  pub plan-ends : run b1 b2 b3 p ≡ ranOf (firstMalformed p) (tableOf g (leaves p))
-  plan-ends = run-is b1 b2 b3 e p y h
+  pub plan-ends : ends b1 b2 b3 p ≡ endedOf (firstMalformed p) (tableOf g (leaves p))
+  plan-ends = ends-is b1 b2 b3 e p y h
 
   -- a plan with a malformed batch is refused with that batch's number
-  pub malformed-is-refused : {n : ℕ} → firstMalformed p ≡ suc n → run b1 b2 b3 p ≡ Refused (suc n)
+  pub malformed-is-refused : {n : ℕ} → firstMalformed p ≡ suc n → ends b1 b2 b3 p ≡ Stopped (suc n)
   malformed-is-refused m = malformed-refused b1 b2 b3 e p y h m

@@ -19,10 +19,10 @@ use Rattle.grid.proofs.Places.{Bytes, colour-place-lt}
 use Rattle.table.specs.Table.{viewOf}
 use Rattle.table.specs.Sound.{total}
 use Rattle.loader.specs.Load.{Weighted, sumOver, tableOf}
-use Rattle.loader.specs.Plan.{Plan, Table, run, leaves, BytesIn}
+use Rattle.loader.specs.Plan.{Plan, Filled, ends, leaves, BytesIn}
 use Rattle.loader.proofs.Loading.{AllBytes, share-weight, over-none, over-more}
 use Rattle.loader.proofs.Order.{table-holds, leaves-bytes}
-use Rattle.loader.proofs.Ran.{ran-table}
+use Rattle.loader.proofs.Plans.{filled-table}
 use Rattle.boxes.specs.declared.sides.Bounds.{Bounds}
 use Rattle.boxes.specs.Box.{Within}
 use Rattle.loaded.proofs.Boxes.{colour-held, loaded-box}
@@ -129,10 +129,10 @@ module _ (b1 b2 b3 k : ℕ) (t : List ℕ) (b : Buffers) {g : Grid} (e : gridOf 
   tiling = let d = cut-says b1 b2 b3 k t b e n in rw (d .hands, d .leaves) (done-tiling b (d .accepted) (d .can))
 
   -- and of every table that loads and merges gave
-  pub loaded-counts : (p : Plan) → BytesIn p → run b1 b2 b3 p ≡ Table t
+  pub loaded-counts : (p : Plan) → BytesIn p → ends b1 b2 b3 p ≡ Filled t
       → LoadedCounts g (leaves p) (cutRecord b1 b2 b3 k t b) (cutLater b1 b2 b3 k t b)
   loaded-counts p y ran =
       let d = cut-says b1 b2 b3 k t b e n in
-      let is = ran-table b1 b2 b3 e p y ran .1 in
+      let is = filled-table b1 b2 b3 e p y ran .1 in
       tiling-loaded (d .accepted) (leaves p) (leaves-bytes p y)
       (subst (λ (s : List ℕ). Tiling g s (cutRecord b1 b2 b3 k t b) (cutLater b1 b2 b3 k t b)) is tiling)

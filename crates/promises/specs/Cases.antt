@@ -42,13 +42,13 @@ pub record Case : Type 0 where
 unfoldable pub loadsOf : ℕ → ℕ → ℕ → List ℕ → List Batch → List AfterLoad
 loadsOf b1 b2 b3 t [] = []
 loadsOf b1 b2 b3 t (b ∷ bs) =
-    let number = loadNumber b1 b2 b3 t (b .colours) (b .given) (b .weights) in
-    let table = loadLater b1 b2 b3 t (b .colours) (b .given) (b .weights) in
+    let number = loadNumber b1 b2 b3 t (b .colours) (b .weighted) (b .weights) in
+    let table = loadLater b1 b2 b3 t (b .colours) (b .weighted) (b .weights) in
     record { number = number; table = table } ∷ loadsOf b1 b2 b3 table bs
 
 unfoldable pub tableAfter : ℕ → ℕ → ℕ → List ℕ → List Batch → List ℕ
 tableAfter b1 b2 b3 t [] = t
-tableAfter b1 b2 b3 t (b ∷ bs) = tableAfter b1 b2 b3 (loadLater b1 b2 b3 t (b .colours) (b .given) (b .weights)) bs
+tableAfter b1 b2 b3 t (b ∷ bs) = tableAfter b1 b2 b3 (loadLater b1 b2 b3 t (b .colours) (b .weighted) (b .weights)) bs
 
 -- no position
 unfoldable pub nowhere : Told
@@ -88,10 +88,10 @@ empties n = times n (0 ∷ 0 ∷ 0 ∷ 0 ∷ 0 ∷ [])
 
 -- colours without weights, whatever list is lent, and with weights
 unfoldable pub plain : List ℕ → Batch
-plain colours = record { colours = colours; given = false; weights = 8 ∷ [] }
+plain colours = record { colours = colours; weighted = false; weights = 8 ∷ [] }
 
 unfoldable pub weighted : List ℕ → List ℕ → Batch
-weighted colours weights = record { colours = colours; given = true; weights = weights }
+weighted colours weights = record { colours = colours; weighted = true; weights = weights }
 
 unfoldable pub loadGives : ℕ → List ℕ → AfterLoad
 loadGives number table = record { number = number; table = table }

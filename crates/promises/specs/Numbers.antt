@@ -11,7 +11,7 @@ use Rattle.grid.specs.declared.place.Grid.{Grid}
 use Rattle.grid.specs.declared.place.Chosen.{Chosen}
 use Rattle.grid.specs.declared.place.Chosen.the-variants as chosen
 use Rattle.grid.specs.Grid.{gridOf, gridAnswer, onGrid, binsOf}
-use Rattle.table.specs.Table.{viewOf}
+use Rattle.table.specs.Table.{Sized, isSized, viewOf}
 use Rattle.table.specs.Sound.{limit, total, sound}
 use Rattle.loader.specs.Load.{weightOf, batchOf}
 use Rattle.cutter.specs.Cut.{Buffers, lengthsOf, longEnough}
@@ -51,7 +51,7 @@ loadTests c t colours given weights =
     (1, noGrid c)
     ∷ (3, not (eqb (length colours % 3) 0))
     ∷ (4, given && not (eqb (length weights) (length colours / 3)))
-    ∷ (5, onBins c (λ g. not (eqb (length t) (5 * binsOf g))))
+    ∷ (5, onBins c (λ g. not (isSized t (binsOf g))))
     ∷ (6, onBins c (λ g. not (sound limit g (viewOf t))))
     ∷ (7, onBins c (λ g. ltb limit (total g (viewOf t) + weightOf (batchOf colours given weights))))
     ∷ []
@@ -63,8 +63,8 @@ loadApplies b1 b2 b3 t colours given weights = applies (loadTests (gridOf b1 b2 
 unfoldable pub mergeTests : Chosen → List ℕ → List ℕ → Tests
 mergeTests c t s =
     (1, noGrid c)
-    ∷ (5, onBins c (λ g. not (eqb (length t) (5 * binsOf g))))
-    ∷ (5, onBins c (λ g. not (eqb (length s) (5 * binsOf g))))
+    ∷ (5, onBins c (λ g. not (isSized t (binsOf g))))
+    ∷ (5, onBins c (λ g. not (isSized s (binsOf g))))
     ∷ (6, onBins c (λ g. not (sound limit g (viewOf t))))
     ∷ (6, onBins c (λ g. not (sound limit g (viewOf s))))
     ∷ (7, onBins c (λ g. ltb limit (total g (viewOf t) + total g (viewOf s))))
@@ -128,12 +128,12 @@ pub record OnGrid (b1 b2 b3 : ℕ) (Can : Grid → Type 0) : Type 0 where
 pub record CanLoad (t colours : List ℕ) (given : Bool) (weights : List ℕ) (g : Grid) : Type 0 where
   pub threes : length colours % 3 ≡ 0
   pub paired : given ≡ true → length weights ≡ length colours / 3
-  pub lent : length t ≡ 5 * binsOf g
+  pub lent : Sized t (binsOf g)
   pub is-sound : sound limit g (viewOf t) ≡ true
   pub fits : total g (viewOf t) + weightOf (batchOf colours given weights) ≤ limit
 
 -- of a merge, no 5, 6, 7
 pub record CanMerge (t s : List ℕ) (g : Grid) : Type 0 where
-  pub lent : (length t ≡ 5 * binsOf g) × (length s ≡ 5 * binsOf g)
+  pub lent : Sized t (binsOf g) × Sized s (binsOf g)
   pub are-sound : (sound limit g (viewOf t) ≡ true) × (sound limit g (viewOf s) ≡ true)
   pub fits : total g (viewOf t) + total g (viewOf s) ≤ limit

@@ -6,7 +6,7 @@ use lib.ListN.{getD}
 use Rattle.pixels.specs.declared.colour.Rgb.{Rgb}
 use Rattle.grid.specs.declared.place.Grid.{Grid}
 use Rattle.grid.specs.Grid.{colourPlace}
-use Rattle.loader.specs.Plan.{Plan, Table, run}
+use Rattle.loader.specs.Plan.{Plan, Filled, ends}
 use Rattle.cutter.specs.Cut.{Buffers, cutRecord, cutLater}
 
 -- two tables that a cut tells nothing apart by: the same boxes with their spreads, palette, counts, map and work table,
@@ -26,7 +26,7 @@ pub record SameCut (g : Grid) (b1 b2 b3 k : ℕ) (b : Buffers) (t s : List ℕ) 
 pub record CutAlike (g : Grid) (b1 b2 b3 : ℕ) (p q : Plan) : Type 0 where
   pub first : List ℕ
   pub second : List ℕ
-  pub first-ran : run b1 b2 b3 p ≡ Table first
-  pub second-ran : run b1 b2 b3 q ≡ Table second
+  pub first-ran : ends b1 b2 b3 p ≡ Filled first
+  pub second-ran : ends b1 b2 b3 q ≡ Filled second
   pub same : first ≡ second
   pub alike : (k : ℕ) (b : Buffers) → SameCut g b1 b2 b3 k b first second

@@ -9,7 +9,7 @@ use sums::Stats;
 use sums::ZEROS;
 use sums::box_sum;
 use sums::stats_of;
-use table::cell_at;
+use table::layout::cell_at;
 ghost use mathlib.Core.Path.{_≡_};
 ghost use mathlib.Core.Bool.{true};
 ghost use Prim.Native.Nat.{_-_, _≤_, _<_};

@@ -12,7 +12,7 @@ use Rattle.basics.proofs.Range.{sum-zero, sum-grow, sum-le}
 use Rattle.grid.proofs.Places.{place-lt, bin-of-place}
 use Rattle.table.specs.Cell.{View}
 use Rattle.table.specs.Sound.{limit, total}
-use Rattle.table.proofs.Soundness.{Sound, number-high, sound-total, total-is}
+use Rattle.table.proofs.Soundness.{Sound, number-high, total-high, total-is}
 use Rattle.sums.specs.Box.{sum3, binSum}
 use Rattle.sums.specs.Moments.{belowSum, momentsOf, lineSum}
 use Rattle.sums.proofs.Boxes.{sum3-first, sum3-second, sum3-le, sum3-scale, all-places}
@@ -89,4 +89,4 @@ module _ {g : Grid} {v : View} (a : Accepted g) (s : Sound limit g v) where
   -- every moment is below 2^50
   pub below-small : (r gr b j : ℕ) → r ≤ g .size1 → gr ≤ g .size2 → b ≤ g .size3 → j < 5 → belowSum g v r gr b j < 2 ^ 50
   below-small r gr b j h k l m =
-      omega (arith, below-all r gr b j h k l, all-high j m, sound-total s)
+      omega (arith, below-all r gr b j h k l, all-high j m, total-high s)

@@ -12,11 +12,12 @@ use Rattle.grid.specs.Grid.{Inside, sizeAt, binsOf, placeOf}
 use Rattle.basics.specs.Dimension.{choose}
 use Rattle.basics.proofs.Range.{sum-zero, sum-same}
 use Rattle.grid.proofs.Places.{place-lt}
-use Rattle.table.specs.declared.Cell.{Cell}
+use Rattle.table.specs.declared.cell.Cell.{Cell}
 use Rattle.table.specs.Cell.{View, cellOf, numberOf, minusCell, AtLeast}
 use Rattle.table.specs.Table.{viewOf, HasCell}
 use Rattle.table.specs.Sound.{limit}
-use Rattle.table.proofs.Cells.{Holds, list-holds, number-cell, cell-by, Fields, cell-fields, minus-least, minus-is, zero-cell}
+use Rattle.table.proofs.Tables.{has-cell, Holds, list-holds}
+use Rattle.table.proofs.Cells.{number-cell, cell-by, Fields, cell-fields, minus-least, minus-is, zero-cell}
 use Rattle.table.proofs.Soundness.{Sound}
 use Rattle.boxes.specs.declared.sides.Bounds.{Bounds}
 use Rattle.sums.specs.declared.Stats.{Stats}
@@ -110,7 +111,7 @@ module _ {g : Grid} {t w : List ℕ} {r gr b : ℕ} (c : Corner g t w r gr b) wh
     holds = rw (c .worked .moments) (list-holds (binsOf g) (momentsOf g (viewOf t)))
 
     pub corner-cell : {p : ℕ} → p ≡ placeOf g (r - 1) (gr - 1) (b - 1) → HasCell w p
-    corner-cell at = record { fits = omega (arith, place-lt corner-inside, holds .lent, at) }
+    corner-cell {p} at = has-cell (holds .lent) p (omega (arith, place-lt corner-inside, at))
 
     pub corner-number : {p : ℕ} → p ≡ placeOf g (r - 1) (gr - 1) (b - 1) → (j : ℕ) → j < 5 → viewOf w p j ≡ binSum g (viewOf t) 0 r 0 gr 0 b j
     unfolding belowSum

@@ -3,21 +3,22 @@
 use mathlib.Core.Path.{_≡_, sym, ap, subst, _∙_}
 use mathlib.Core.List.{List}
 use Prim.Native.Nat.{ℕ, suc, _+_, _-_, _*_, _^_, _≤_, _<_}
-use native.Mathlib.Nat.{zero-add, mul-le-mul-right, add-mul, one-mul, suc-mul}
+use native.Mathlib.Nat.{zero-add, mul-le-mul-right, add-mul, one-mul, suc-mul, lt-trans}
 use native.Mathlib.Decide.{decLe, ℕ-discrete}
 use native.Mathlib.Omega.{arith}
-use lib.ListN.{length}
+use lib.Dec.{lit<}
 use Rattle.grid.specs.declared.place.Grid.{Grid}
 use Rattle.grid.specs.Grid.{Accepted, Inside, binsOf, placeOf}
 use Rattle.basics.specs.Range.{sumFrom}
 use Rattle.basics.proofs.Range.{sum-last}
 use Rattle.grid.proofs.Size.{size-low}
 use Rattle.grid.proofs.Places.{two, three, place-lt, place-along}
-use Rattle.table.specs.declared.Cell.{Cell}
-use Rattle.table.specs.Cell.{View, numberOf, cellOf, plusCell, minusCell, Room, AtLeast}
-use Rattle.table.specs.Table.{viewOf, written, putAt, HasCell}
+use Rattle.table.specs.declared.cell.Cell.{Cell}
+use Rattle.table.specs.Cell.{View, numberOf, cellOf, plusCell, minusCell, SumsFit, AtLeast}
+use Rattle.table.specs.Table.{Table, Sized, viewOf, written, putAt, HasCell, Held}
 use Rattle.table.specs.Sound.{limit}
-use Rattle.table.proofs.Cells.{number-cell, number-plus, number-minus, cell-by, zero-cell, holds-list, length-put, put-there, put-elsewhere}
+use Rattle.table.proofs.Cells.{number-cell, number-plus, number-minus, cell-by, zero-cell}
+use Rattle.table.proofs.Tables.{has-cell, holds-list, put-sized, put-there, put-elsewhere}
 use Rattle.table.proofs.Soundness.{Sound}
 use Rattle.sums.specs.Moments.{belowSum, momentsOf, lineSum, momentCell, lineCell, Lent, Before, Ready}
 use Rattle.sums.proofs.Below.{moments-at, below-none, below-no-row, below-step, below-grows, below-rises, below-small}
@@ -64,7 +65,7 @@ module _ {g : Grid} {t w : List ℕ} {r gr b : ℕ} (ready : Ready g t w r gr b)
 
     module _ {p : ℕ} (at : p ≡ placeOf g r' gr' b) where
       pub near-cell : HasCell w p
-      near-cell = record { fits = omega (arith, place-lt near, ready .before .lent, at) }
+      near-cell = has-cell (ready .before .lent) p (omega (arith, place-lt near, at))
 
       pub near-number : r' + gr' < r + gr → {c : Cell} → c ≡ cellOf (viewOf w p) → (j : ℕ) → j < 5 → numberOf c j ≡ belowSum g (viewOf t) (r' + 1) (gr' + 1) (b + 1) j
       unfolding placeOf
@@ -75,6 +76,11 @@ module _ {g : Grid} {t w : List ℕ} {r gr b : ℕ} (ready : Ready g t w r gr b)
           ∙ ready .before .made (placeOf g r' gr' b) j
           (earlier (r' * g .size2 + gr') (r * g .size2 + gr) (g .size3) b (omega (arith, size-low (three sizes))) (rows-earlier r' r gr' gr (g .size2) (omega (arith, size-low (two sizes))) h k l)) m
           ∙ moments-at g (viewOf t) r' gr' b j (near .two) (near .three)
+
+  -- what is written there fits its place
+  pub moment-held : {c : Cell} → c ≡ momentCell g (viewOf t) (placeOf g r gr b) → Held c
+  moment-held e =
+      record { fits = λ j h. rw (e, goal-number j h) (lt-trans (small r gr (omega arith) (omega arith) j h) (lit< tt)) }
 
   -- the three neighbours, as the code reads them
   back : (n : ℕ) → 0 < n → (n - 1) + 1 ≡ n
@@ -136,7 +142,7 @@ module _ {g : Grid} {t w : List ℕ} {r gr b : ℕ} (ready : Ready g t w r gr b)
         (λ j m. let f = made j m in omega (arith, f .step, f .goal, no-plane h gr j, no-plane h (gr + 1) j, no-row k (r + 1) j))
 
     module _ {a : Cell} (ha : Has g (viewOf t) b a (r + 1) gr) where
-      pub above-room : Room l a
+      pub above-room : SumsFit l a
       above-room = record { fits = λ j m. let f = made j m in omega (arith, f .step, f .row, f .fits, ha .at j m) }
 
       pub with-above : r ≡ 0 → {s : Cell} → s ≡ plusCell l a → s ≡ momentCell g (viewOf t) (placeOf g r gr b)
@@ -147,7 +153,7 @@ module _ {g : Grid} {t w : List ℕ} {r gr b : ℕ} (ready : Ready g t w r gr b)
           omega (arith, ap (λ (x : Cell). numberOf x j) q, number-plus l a j m, f .step, f .goal, ha .at j m, no-plane h gr j, no-plane h (gr + 1) j))
 
     module _ {c : Cell} (hc : Has g (viewOf t) b c r (gr + 1)) where
-      pub before-room : Room l c
+      pub before-room : SumsFit l c
       before-room = record { fits = λ j m. let f = made j m in omega (arith, f .step, f .plane, f .fits, hc .at j m) }
 
       pub with-before : gr ≡ 0 → {s : Cell} → s ≡ plusCell l c → s ≡ momentCell g (viewOf t) (placeOf g r gr b)
@@ -162,7 +168,7 @@ module _ {g : Grid} {t w : List ℕ} {r gr b : ℕ} (ready : Ready g t w r gr b)
         corner-least = record { least = λ j m. let f = made j m in omega (arith, f .row, hc .at j m, hd .at j m) }
 
         module _ {a : Cell} (ha : Has g (viewOf t) b a (r + 1) gr) {s : Cell} (q : s ≡ plusCell l a) {x : Cell} (o : x ≡ minusCell c d) where
-          pub rest-room : Room s x
+          pub rest-room : SumsFit s x
           rest-room =
               record {
                 fits = λ j m.
@@ -197,7 +203,7 @@ module _ {g : Grid} {t w : List ℕ} {r gr b : ℕ} (ready : Ready g t w r gr b)
         + (ap (λ (x : Cell). numberOf x j) q ∙ number-cell (viewOf t p) j h ∙ ap (λ (n : ℕ). viewOf t n j) at) i)
         ∙ sym (line-next j)
 
-    pub line-room : Room l c
+    pub line-room : SumsFit l c
     line-room = record { fits = λ j h. omega (arith, parts j h, line-small j h) }
 
     pub line-through : {s : Cell} → s ≡ plusCell l c → s ≡ lineCell g (viewOf t) r gr (b + 1)
@@ -211,7 +217,7 @@ module _ {g : Grid} {t w : List ℕ} {r gr b : ℕ} (ready : Ready g t w r gr b)
         ∙ sym (number-cell (lineSum g (viewOf t) r gr (b + 1)) j h))
 
   pub table-cell : {p : ℕ} → p ≡ placeOf g r gr b → HasCell t p
-  table-cell at = record { fits = omega (arith, place-lt (ready .inside), ready .before .table .lent, at) }
+  table-cell {p} at = has-cell (ready .before .table .lent) p (omega (arith, place-lt (ready .inside), at))
 
   -- ---- the work table, one bin on
   pub one-on : {e : List ℕ} → e ≡ putAt w (placeOf g r gr b) (momentCell g (viewOf t) (placeOf g r gr b)) → Before g t e (placeOf g r gr b + 1)
@@ -220,12 +226,12 @@ module _ {g : Grid} {t w : List ℕ} {r gr b : ℕ} (ready : Ready g t w r gr b)
       record {
         table = ready .before .table;
         is-sound = ready .before .is-sound;
-        lent = ap length u ∙ length-put w (placeOf g r gr b) (momentCell g (viewOf t) (placeOf g r gr b)) ∙ ready .before .lent;
+        lent = subst (λ (x : Table). Sized x (binsOf g)) (sym u) (put-sized (ready .before .lent) (placeOf g r gr b) (momentCell g (viewOf t) (placeOf g r gr b)));
         made = λ q j h k. ap (λ (x : List ℕ). viewOf x q j) u ∙ go q j h k (ℕ-discrete (placeOf g r gr b) q);
       }
     where
-      has : 5 * placeOf g r gr b + 5 ≤ length w
-      has = omega (arith, place-lt (ready .inside), ready .before .lent)
+      has : HasCell w (placeOf g r gr b)
+      has = has-cell (ready .before .lent) (placeOf g r gr b) (place-lt (ready .inside))
 
       go : (q j : ℕ) → q < placeOf g r gr b + 1 → j < 5 → Dec (placeOf g r gr b ≡ q) → viewOf (putAt w (placeOf g r gr b) (momentCell g (viewOf t) (placeOf g r gr b))) q j ≡ momentsOf g (viewOf t) q j
       go q j h k (yes d) =

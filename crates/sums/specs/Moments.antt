@@ -1,15 +1,13 @@
 -- Moments (document 01, "Moments"). Definitions only.
 use mathlib.Core.Path.{_≡_}
 use mathlib.Core.Bool.{true}
-use mathlib.Core.List.{List}
 use Prim.Native.Nat.{ℕ, _+_, _*_, _≤_, _<_}
-use lib.ListN.{length}
 use Rattle.grid.specs.declared.place.Grid.{Grid}
 use Rattle.basics.specs.Range.{sumFrom}
 use Rattle.grid.specs.Grid.{binsOf, placeOf, binAt, Inside}
-use Rattle.table.specs.declared.Cell.{Cell}
+use Rattle.table.specs.declared.cell.Cell.{Cell}
 use Rattle.table.specs.Cell.{View, cellOf}
-use Rattle.table.specs.Table.{Table, viewOf, written, TableOf}
+use Rattle.table.specs.Table.{Table, Sized, viewOf, written, TableOf}
 use Rattle.table.specs.Sound.{limit, sound}
 use Rattle.sums.specs.Box.{binSum}
 
@@ -28,10 +26,10 @@ pub record CanSum (most : ℕ) (g : Grid) (t w : Table) : Type 0 where
   pub moments : w ≡ written (binsOf g) (momentsOf g (viewOf t))
 
 -- a sound table, and a work table for its moments
-pub record Lent (g : Grid) (t w : List ℕ) : Type 0 where
+pub record Lent (g : Grid) (t w : Table) : Type 0 where
   pub table : TableOf g t
   pub is-sound : sound limit g (viewOf t) ≡ true
-  pub work : length w ≡ 5 * binsOf g
+  pub work : Sized w (binsOf g)
 
 -- the sum along a row of bins, below b
 unfoldable pub lineSum : Grid → View → ℕ → ℕ → ℕ → ℕ → ℕ
@@ -46,20 +44,20 @@ unfoldable pub lineCell : Grid → View → ℕ → ℕ → ℕ → Cell
 lineCell g v r gr b = cellOf (lineSum g v r gr b)
 
 -- a sound table and a work table of its grid, whose places before p have their moments
-pub record Before (g : Grid) (t w : List ℕ) (p : ℕ) : Type 0 where
+pub record Before (g : Grid) (t w : Table) (p : ℕ) : Type 0 where
   pub table : TableOf g t
   pub is-sound : sound limit g (viewOf t) ≡ true
-  pub lent : length w ≡ 5 * binsOf g
+  pub lent : Sized w (binsOf g)
   pub made : (q j : ℕ) → q < p → j < 5 → viewOf w q j ≡ momentsOf g (viewOf t) q j
 
 -- that, before a bin of the grid
-pub record Ready (g : Grid) (t w : List ℕ) (r gr b : ℕ) : Type 0 where
+pub record Ready (g : Grid) (t w : Table) (r gr b : ℕ) : Type 0 where
   pub inside : Inside g r gr b
   pub before : Before g t w (placeOf g r gr b)
 
 -- ---- "its sum is found by inclusion and exclusion; an index below 0 counts as all zeros"
 -- a work table with the moments of a table, and the end of some bins of the grid
-pub record Corner (g : Grid) (t w : List ℕ) (r gr b : ℕ) : Type 0 where
+pub record Corner (g : Grid) (t w : Table) (r gr b : ℕ) : Type 0 where
   pub worked : CanSum limit g t w
   pub one : r ≤ g .size1
   pub two : gr ≤ g .size2

@@ -2,11 +2,11 @@
 use boxes::sides::Bounds;
 use grid::place::Grid;
 use grid::place::place;
-use table::Cell;
-use table::cell_at;
-use table::minus;
-use table::plus;
-use table::put_at;
+use table::cell::Cell;
+use table::cell::minus;
+use table::cell::plus;
+use table::layout::cell_at;
+use table::layout::put_at;
 ghost use mathlib.Core.Path.{_≡_};
 ghost use Prim.Native.Nat.{_+_, _-_, _*_, _^_, _≤_};
 ghost use Rattle.grid.specs.Grid.{binsOf, placeOf};

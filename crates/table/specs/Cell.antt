@@ -1,6 +1,6 @@
 -- The five numbers of a bin (document 01, "Grid and table"). Definitions only.
 use Prim.Native.Nat.{ℕ, zero, suc, _+_, _-_, _^_, _≤_, _<_}
-use Rattle.table.specs.declared.Cell.{Cell}
+use Rattle.table.specs.declared.cell.Cell.{Cell}
 
 -- the number at a place, by which of the five it is
 abbrev pub View : Type 0
@@ -27,7 +27,7 @@ unfoldable pub plusCell : Cell → Cell → Cell
 plusCell c d = cellOf (λ j. numberOf c j + numberOf d j)
 
 -- and each sum fits a u64
-pub record Room (c d : Cell) : Type 0 where
+pub record SumsFit (c d : Cell) : Type 0 where
   pub fits : (j : ℕ) → j < 5 → numberOf c j + numberOf d j < 2 ^ 64
 
 -- one cell less another, number by number

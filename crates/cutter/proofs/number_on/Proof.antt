@@ -11,7 +11,7 @@ use denote.Ref.{now}
 use lib.ListN.{length}
 use Rattle.table.specs.Table.{viewOf}
 use Rattle.table.specs.Sound.{limit, total, sound}
-use Rattle.table.proofs.Scans.{weighed-unsound, weighed-total}
+use Rattle.table.proofs.Total.{unsound-says, total-says}
 use Rattle.cutter.specs.Cut.{Lengths, longEnough}
 use Rattle.cutter.proofs.Refusals.{k-low, k-high, too-short, not-sound, no-total, accepts, lent-table}
 use Rattle.cutter.proofs.number_on.Statement.{statement}
@@ -41,8 +41,8 @@ returns-3 c =
 right : (k : tie.Else3) → longEnough (k .before .before .before .before .before .args .g) (k .before .before .before .before .before .args .k) (length (table (k .before .before .before .before .before))) (lengths (k .before .before .before .before .before)) ≡ true
 right k = sym (k .before .long-enough .ensures) ∙ not-false _ (k .if3 .left)
 
-weigh-requires : tie.Need-weigh-requires
-weigh-requires c κs =
+sound-total-requires : tie.Need-sound-total-requires
+sound-total-requires c κs =
     let s = c .before .before .before .before .before in
     record { accepted = s .pre; lent = lent-table (s .args .g) (s .args .k) (length (table s)) (lengths s) (right c) }
 
@@ -56,11 +56,11 @@ returns-4 : tie.Need-returns-4
 returns-4 c =
     let s = c .before .before .before .before .before .before .before .before in
     sym (not-sound (s .args .g) (s .args .k) (table s) (lengths s) (omega (arith, c .before .before .before .before .before .before .if1 .left)) (omega (arith, c .before .before .before .before .before .if2 .left)) (right (c .before .before .before))
-    (weighed-unsound limit (s .args .g) (viewOf (table s)) (sym (c .before .before .weigh .ensures) ∙ c .enum-told .given .1)))
+    (unsound-says limit (s .args .g) (viewOf (table s)) (sym (c .before .before .sound-total .ensures) ∙ c .enum-told .given .1)))
 
 -- the total of a sound table
 the-total : (k : tie.After-known-told) → (sound limit (k .before .before .before .before .before .before .before .before .before .args .g) (viewOf (table (k .before .before .before .before .before .before .before .before .before))) ≡ true) × (k .before .total .given .0 .0 ≡ total (k .before .before .before .before .before .before .before .before .before .args .g) (viewOf (table (k .before .before .before .before .before .before .before .before .before))))
-the-total k = weighed-total limit (k .before .before .before .before .before .before .before .before .before .args .g) (viewOf (table (k .before .before .before .before .before .before .before .before .before))) (k .before .total .given .0 .0) (sym (k .before .before .before .weigh .ensures) ∙ k .before .total .given .1)
+the-total k = total-says limit (k .before .before .before .before .before .before .before .before .before .args .g) (viewOf (table (k .before .before .before .before .before .before .before .before .before))) (k .before .total .given .0 .0) (sym (k .before .before .before .sound-total .ensures) ∙ k .before .total .given .1)
 
 returns-5 : tie.Need-returns-5
 returns-5 c =
@@ -82,7 +82,7 @@ number-on-spec =
     returns-2
     long-enough-requires
     returns-3
-    weigh-requires
+    sound-total-requires
     enum-known-total
     enum-told
     returns-4

@@ -5,7 +5,7 @@ use native.Mathlib.Omega.{arith}
 use borrow.Author.Needs.{needs}
 use denote.Ref.{now}
 use Rattle.table.specs.Table.{putAt}
-use Rattle.sums.proofs.Steps.{near-cell, table-cell, line-room, line-through}
+use Rattle.sums.proofs.Steps.{near-cell, moment-held, table-cell, line-room, line-through}
 use Rattle.sums.proofs.next_bin.Statement.{statement}
 use Rattle.sums.proofs.next_bin.Tie as tie
 
@@ -22,7 +22,11 @@ joined-requires : tie.Need-joined-requires
 joined-requires c κs = (c .before .before .before .before .before .before .pre .0, line-through (c .before .before .before .before .before .before .pre .0) (c .before .before .before .before .before .before .pre .1) (c .before .before .before .place .ensures) (c .before .before .cell-at .ensures) (c .before .plus .ensures))
 
 put-at-requires : tie.Need-put-at-requires
-put-at-requires c κs = let s = c .before .before .before .before .before .before .before .before in near-cell (s .pre .0) (s .args .r) (s .args .gr) (omega arith) (omega arith) (c .before .before .before .before .before .place .ensures)
+put-at-requires c κs =
+    let s = c .before .before .before .before .before .before .before .before in (
+      near-cell (s .pre .0) (s .args .r) (s .args .gr) (omega arith) (omega arith) (c .before .before .before .before .before .place .ensures),
+      moment-held (s .pre .0) (c .before .joined .ensures),
+    )
 
 same-length : tie.Need-same-length
 same-length c = search needs
