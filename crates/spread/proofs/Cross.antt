@@ -20,7 +20,8 @@ use Rattle.sums.specs.declared.Stats.{Stats}
 use Rattle.boxes.specs.Box.{minAt, maxAt, lowSide, highSide, slabTo, Within}
 use Rattle.sums.specs.Box.{binSum, boxSum, statsFrom, statsOf}
 use Rattle.table.specs.Sound.{limit}
-use Rattle.sums.specs.Moments.{CanSum, Corner, binCell}
+use Rattle.sums.specs.Moments.{CanSum}
+use Rattle.sums.specs.Inner.{Corner, binCell}
 use Rattle.sums.proofs.Corners.{first-from, second-from, third-from, no-first, no-second, no-third, zeros-are, corner-inside, corner-cell, corner-number, corner-squares, stats-by, cell-stats}
 use Rattle.spread.specs.Walk.{outerOf, innerOf, startOf, HasRecord}
 use Rattle.spread.proofs.Sides.{Exact, Less, stats-less}
@@ -130,7 +131,7 @@ module _ {g : Grid} {t w : List ℕ} (worked : CanSum limit g t w) where
   -- below r, gr and b
   at-corner : (r gr b : ℕ) → r ≤ g .size1 → gr ≤ g .size2 → b ≤ g .size3 → 0 < r → 0 < gr → 0 < b → {p : ℕ} → p ≡ placeOf g (r - 1) (gr - 1) (b - 1) → Reads w p (binSum g (viewOf t) 0 r 0 gr 0 b)
   at-corner r gr b h k l r0 gr0 b0 {p} at =
-      let c : Corner g t w r gr b = record { worked = worked; one = h; two = k; three = l } in
+      let c : Corner g t w r gr b = record { can-sum = worked; one = h; two = k; three = l } in
       let squares = corner-squares c r0 gr0 b0 in
       record {
         low = omega (arith, at, place-lt (corner-inside c r0 gr0 b0), bins-high (worked .table .accepted));

@@ -14,7 +14,8 @@ use Rattle.table.specs.Cell.{View}
 use Rattle.table.specs.Sound.{limit, total}
 use Rattle.table.proofs.Soundness.{Sound, number-high, sound-total, total-is}
 use Rattle.sums.specs.Box.{sum3, binSum}
-use Rattle.sums.specs.Moments.{belowSum, momentsOf, lineSum}
+use Rattle.sums.specs.Moments.{belowSum, momentsOf}
+use Rattle.sums.specs.Inner.{lineSum}
 use Rattle.sums.proofs.Boxes.{sum3-first, sum3-second, sum3-le, sum3-scale, all-places}
 
 module _ (g : Grid) (v : View) where

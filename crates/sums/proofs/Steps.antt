@@ -1,7 +1,7 @@
 -- One bin after the other: the work table before a bin, the cells that its moments are made of, and the work table after it.
 -- Assumes nothing.
 use mathlib.Core.Path.{_≡_, sym, ap, subst, _∙_}
-use mathlib.Core.List.{List}
+use mathlib.Core.Bool.{true}
 use Prim.Native.Nat.{ℕ, suc, _+_, _-_, _*_, _^_, _≤_, _<_}
 use native.Mathlib.Nat.{zero-add, mul-le-mul-right, add-mul, one-mul, suc-mul}
 use native.Mathlib.Decide.{decLe, ℕ-discrete}
@@ -15,11 +15,12 @@ use Rattle.grid.proofs.Size.{size-low}
 use Rattle.grid.proofs.Places.{two, three, place-lt, place-along}
 use Rattle.table.specs.declared.Cell.{Cell}
 use Rattle.table.specs.Cell.{View, numberOf, cellOf, plusCell, minusCell, Room, AtLeast}
-use Rattle.table.specs.Table.{viewOf, written, putAt, HasCell}
-use Rattle.table.specs.Sound.{limit}
-use Rattle.table.proofs.Cells.{number-cell, number-plus, number-minus, cell-by, zero-cell, holds-list, length-put, put-there, put-elsewhere}
+use Rattle.table.specs.Table.{Table, viewOf, written, putAt, HasCell, TableOf}
+use Rattle.table.specs.Sound.{limit, sound as soundFor}
+use Rattle.table.proofs.Cells.{number-cell, number-plus, number-minus, cell-by, zero-cell, list-holds, holds-list, length-put, put-there, put-elsewhere}
 use Rattle.table.proofs.Soundness.{Sound}
-use Rattle.sums.specs.Moments.{belowSum, momentsOf, lineSum, momentCell, lineCell, Lent, Before, Ready}
+use Rattle.sums.specs.Moments.{belowSum, momentsOf, HasMoments, ForMoments, CanSum}
+use Rattle.sums.specs.Inner.{lineSum, momentCell, lineCell, Before, Ready}
 use Rattle.sums.proofs.Below.{moments-at, below-none, below-no-row, below-step, below-grows, below-rises, below-small}
 
 -- ---- places before a place
@@ -37,12 +38,12 @@ rows-earlier r' r gr' gr d p h k l = go (decLe r r')
 pub record Has (g : Grid) (v : View) (b : ℕ) (c : Cell) (r gr : ℕ) : Type 0 where
   pub at : (j : ℕ) → j < 5 → numberOf c j ≡ belowSum g v r gr (b + 1) j
 
-module _ {g : Grid} {t w : List ℕ} {r gr b : ℕ} (ready : Ready g t w r gr b) where
+module _ {g : Grid} {t w : Table} {r gr b : ℕ} (ready : Ready g t w r gr b) where
   sizes : Accepted g
   sizes = ready .inside .accepted
 
   sound : Sound limit g (viewOf t)
-  sound = record { holds = ready .before .is-sound }
+  sound = record { holds = ready .before .tables .is-sound }
 
   -- the line through the bin
   pub line-number : {c : Cell} → c ≡ lineCell g (viewOf t) r gr (b + 1) → (j : ℕ) → j < 5 → numberOf c j ≡ lineSum g (viewOf t) r gr (b + 1) j
@@ -64,7 +65,7 @@ module _ {g : Grid} {t w : List ℕ} {r gr b : ℕ} (ready : Ready g t w r gr b)
 
     module _ {p : ℕ} (at : p ≡ placeOf g r' gr' b) where
       pub near-cell : HasCell w p
-      near-cell = record { fits = omega (arith, place-lt near, ready .before .lent, at) }
+      near-cell = record { fits = omega (arith, place-lt near, ready .before .tables .work, at) }
 
       pub near-number : r' + gr' < r + gr → {c : Cell} → c ≡ cellOf (viewOf w p) → (j : ℕ) → j < 5 → numberOf c j ≡ belowSum g (viewOf t) (r' + 1) (gr' + 1) (b + 1) j
       unfolding placeOf
@@ -72,7 +73,7 @@ module _ {g : Grid} {t w : List ℕ} {r gr b : ℕ} (ready : Ready g t w r gr b)
           ap (λ (x : Cell). numberOf x j) e
           ∙ number-cell (viewOf w p) j m
           ∙ ap (λ (q : ℕ). viewOf w q j) at
-          ∙ ready .before .made (placeOf g r' gr' b) j
+          ∙ ready .before .made .at (placeOf g r' gr' b) j
           (earlier (r' * g .size2 + gr') (r * g .size2 + gr) (g .size3) b (omega (arith, size-low (three sizes))) (rows-earlier r' r gr' gr (g .size2) (omega (arith, size-low (two sizes))) h k l)) m
           ∙ moments-at g (viewOf t) r' gr' b j (near .two) (near .three)
 
@@ -211,21 +212,26 @@ module _ {g : Grid} {t w : List ℕ} {r gr b : ℕ} (ready : Ready g t w r gr b)
         ∙ sym (number-cell (lineSum g (viewOf t) r gr (b + 1)) j h))
 
   pub table-cell : {p : ℕ} → p ≡ placeOf g r gr b → HasCell t p
-  table-cell at = record { fits = omega (arith, place-lt (ready .inside), ready .before .table .lent, at) }
+  table-cell at = record { fits = omega (arith, place-lt (ready .inside), ready .before .tables .table .lent, at) }
 
   -- ---- the work table, one bin on
-  pub one-on : {e : List ℕ} → e ≡ putAt w (placeOf g r gr b) (momentCell g (viewOf t) (placeOf g r gr b)) → Before g t e (placeOf g r gr b + 1)
+  pub one-on : {e : Table} → e ≡ putAt w (placeOf g r gr b) (momentCell g (viewOf t) (placeOf g r gr b)) → Before g t e (placeOf g r gr b + 1)
   unfolding momentCell
   one-on {e} u =
       record {
-        table = ready .before .table;
-        is-sound = ready .before .is-sound;
-        lent = ap length u ∙ length-put w (placeOf g r gr b) (momentCell g (viewOf t) (placeOf g r gr b)) ∙ ready .before .lent;
-        made = λ q j h k. ap (λ (x : List ℕ). viewOf x q j) u ∙ go q j h k (ℕ-discrete (placeOf g r gr b) q);
+        tables = record {
+          table = ready .before .tables .table;
+          is-sound = ready .before .tables .is-sound;
+          work = ap length u ∙ length-put w (placeOf g r gr b) cell ∙ ready .before .tables .work;
+        };
+        made = record { at = λ q j h k. ap (λ (x : Table). viewOf x q j) u ∙ go q j h k (ℕ-discrete (placeOf g r gr b) q) };
       }
     where
+      cell : Cell
+      cell = momentCell g (viewOf t) (placeOf g r gr b)
+
       has : 5 * placeOf g r gr b + 5 ≤ length w
-      has = omega (arith, place-lt (ready .inside), ready .before .lent)
+      has = omega (arith, place-lt (ready .inside), ready .before .tables .work)
 
       go : (q j : ℕ) → q < placeOf g r gr b + 1 → j < 5 → Dec (placeOf g r gr b ≡ q) → viewOf (putAt w (placeOf g r gr b) (momentCell g (viewOf t) (placeOf g r gr b))) q j ≡ momentsOf g (viewOf t) q j
       go q j h k (yes d) =
@@ -235,27 +241,40 @@ module _ {g : Grid} {t w : List ℕ} {r gr b : ℕ} (ready : Ready g t w r gr b)
           ∙ ap (λ (n : ℕ). momentsOf g (viewOf t) n j) d
       go q j h k (no d) =
           put-elsewhere w (placeOf g r gr b) (momentCell g (viewOf t) (placeOf g r gr b)) has q j k d
-          ∙ ready .before .made q j (omega arith) k
+          ∙ ready .before .made .at q j (omega arith) k
 
 -- ---- rows and planes of bins
 pub line-start : (g : Grid) (v : View) (r gr : ℕ) → _≡_ {A = Cell} (record { weight = 0; sum1 = 0; sum2 = 0; sum3 = 0; squares = 0 }) (lineCell g v r gr 0)
 unfolding lineCell lineSum sumFrom
 line-start g v r gr = zero-cell
 
-pub before-same : {g : Grid} {t w : List ℕ} {p : ℕ} → Before g t w p → {q : ℕ} → p ≡ q → Before g t w q
+pub before-same : {g : Grid} {t w : Table} {p : ℕ} → Before g t w p → {q : ℕ} → p ≡ q → Before g t w q
 before-same {g} {t} {w} h e = subst (λ (n : ℕ). Before g t w n) e h
 
 pub add-one-mul : (k n : ℕ) → (k + 1) * n ≡ k * n + n
 add-one-mul k n = add-mul k 1 n ∙ ap (λ (x : ℕ). k * n + x) (one-mul n)
 
 -- the next bin of a row
-pub row-ready : {g : Grid} {t w : List ℕ} {r gr b : ℕ} → Inside g r gr b → Before g t w (placeOf g r gr 0 + b) → Ready g t w r gr b
+pub row-ready : {g : Grid} {t w : Table} {r gr b : ℕ} → Inside g r gr b → Before g t w (placeOf g r gr 0 + b) → Ready g t w r gr b
 row-ready {g} {r = r} {gr} {b} i h = record { inside = i; before = before-same h (place-along g r gr b) }
 
 -- nothing is made yet, and all is made
-pub none-made : {g : Grid} {t w : List ℕ} → Lent g t w → Before g t w 0
-none-made l =
-    record { table = l .table; is-sound = l .is-sound; lent = l .work; made = λ q j h k. absurd (omega arith) }
+pub none-made : {g : Grid} {t w : Table} → ForMoments limit g t w → Before g t w 0
+none-made l = record { tables = l; made = record { at = λ q j h k. absurd (omega arith) } }
 
-pub all-made : {g : Grid} {t w : List ℕ} → Before g t w (binsOf g) → w ≡ written (binsOf g) (momentsOf g (viewOf t))
-all-made b = holds-list (record { lent = b .lent; at = b .made })
+pub all-made : {g : Grid} {t w : Table} → Before g t w (binsOf g) → w ≡ written (binsOf g) (momentsOf g (viewOf t))
+all-made b = holds-list (record { lent = b .tables .work; at = b .made .at })
+
+-- a work table that the moments were written into holds them, and boxes can be summed from it
+pub holds-moments : (g : Grid) (v : View) {w : Table} → w ≡ written (binsOf g) (momentsOf g v) → HasMoments g v (viewOf w)
+holds-moments g v e = record { at = rw e (list-holds (binsOf g) (momentsOf g v) .at) }
+
+pub sums-can : {most : ℕ} {g : Grid} {t w : Table} → TableOf g t → soundFor most g (viewOf t) ≡ true
+    → w ≡ written (binsOf g) (momentsOf g (viewOf t)) → CanSum most g t w
+sums-can {most} {g} {t} {w} h s e =
+    record {
+      table = h;
+      is-sound = s;
+      work = ap length e ∙ list-holds (binsOf g) (momentsOf g (viewOf t)) .lent;
+      has-moments = holds-moments g (viewOf t) e;
+    }

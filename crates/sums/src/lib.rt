@@ -15,7 +15,8 @@ ghost use Rattle.table.specs.Table.{viewOf, written, putAt};
 ghost use Rattle.table.specs.Sound.{limit};
 ghost use Rattle.sums.specs.Box.{boxCell, statsFrom, statsOf};
 ghost use Rattle.boxes.specs.Box.{Within};
-ghost use Rattle.sums.specs.Moments.{momentsOf, momentCell, lineCell, binCell, Lent, CanSum, Before, Ready, Corner};
+ghost use Rattle.sums.specs.Moments.{momentsOf, ForMoments, CanSum};
+ghost use Rattle.sums.specs.Inner.{momentCell, lineCell, binCell, Before, Ready, Corner};
 
 // The statistics of a box (`Stats`).
 pub struct Stats {
@@ -110,7 +111,7 @@ fn next_plane(table: &[u64], work: &mut [u64], g: Grid, r: usize)
 
 // Fills the work table with the moments of a table.
 pub fn moments(table: &[u64], g: Grid, work: &mut [u64])
-    requires { ⌜ Lent g (now table) (now work) ⌝ }
+    requires { ⌜ ForMoments limit g (now table) (now work) ⌝ }
     ensures { λ c. ⌜ now (work .exit) ≡ written (binsOf g) (momentsOf g (viewOf (now (table .entry)))) ⌝ }
 {
     let mut r = 0;

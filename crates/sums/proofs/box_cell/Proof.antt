@@ -6,7 +6,7 @@ use native.Mathlib.Nat.{le-trans, le-of-lt}
 use borrow.Author.Needs.{needs}
 use denote.Ref.{now}
 use Rattle.table.specs.Table.{viewOf}
-use Rattle.sums.specs.Moments.{binCell}
+use Rattle.sums.specs.Inner.{binCell}
 use Rattle.sums.specs.Box.{binSum, boxSum, boxCell}
 use Rattle.sums.proofs.Corners.{first-from, from-least, from-is, from-start}
 use Rattle.boxes.proofs.Within.{sides}
@@ -27,7 +27,7 @@ slab-requires : tie.Need-slab-requires
 slab-requires c κs =
     let s = c .before .before .before in
     let e = sides (s .pre .1) in
-    (record { worked = s .pre .0; one = e .one-fits; two = e .two-fits; three = e .three-fits }, le-of-lt (e .two), le-of-lt (e .three))
+    (record { can-sum = s .pre .0; one = e .one-fits; two = e .two-fits; three = e .three-fits }, le-of-lt (e .two), le-of-lt (e .three))
 
 returns : tie.Need-returns
 unfolding binCell boxCell boxSum
@@ -42,7 +42,7 @@ slab-requires-2 : tie.Need-slab-requires-2
 slab-requires-2 c κs =
     let s = c .before .before .before .before .before .before .before in
     let e = sides (s .pre .1) in
-    (record { worked = s .pre .0; one = le-trans (le-of-lt (e .one)) (e .one-fits); two = e .two-fits; three = e .three-fits }, le-of-lt (e .two), le-of-lt (e .three))
+    (record { can-sum = s .pre .0; one = le-trans (le-of-lt (e .one)) (e .one-fits); two = e .two-fits; three = e .three-fits }, le-of-lt (e .two), le-of-lt (e .three))
 
 minus-requires : tie.Need-minus-requires
 unfolding binCell

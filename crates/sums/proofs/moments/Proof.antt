@@ -7,7 +7,7 @@ use native.Mathlib.Omega.{arith}
 use Rattle.grid.specs.Grid.{binsOf}
 use Rattle.grid.proofs.Places.{one, two, three, plane-start}
 use Rattle.grid.proofs.Size.{size-low, size-high}
-use Rattle.sums.specs.Moments.{Before}
+use Rattle.sums.specs.Inner.{Before}
 use Rattle.sums.proofs.Steps.{before-same, add-one-mul, none-made, all-made}
 use Rattle.sums.proofs.moments.Statement.{statement}
 use Rattle.sums.proofs.moments.Tie as tie
@@ -51,7 +51,7 @@ loop-again c =
     )
 
 same-length : tie.Need-same-length Inv-loop μ-loop
-same-length c = c .before .before .loop .inv .1 .lent ∙ sym (c .before .before .before .before .before .pre .work)
+same-length c = c .before .before .loop .inv .1 .tables .work ∙ sym (c .before .before .before .before .before .pre .work)
 
 returns : tie.Need-returns Inv-loop μ-loop
 unfolding binsOf

@@ -7,7 +7,7 @@ use native.Mathlib.Omega.{arith}
 use Rattle.grid.specs.Grid.{placeOf}
 use Rattle.grid.proofs.Places.{two, row-start}
 use Rattle.grid.proofs.Size.{size-high}
-use Rattle.sums.specs.Moments.{Before}
+use Rattle.sums.specs.Inner.{Before}
 use Rattle.sums.proofs.Steps.{before-same, add-one-mul}
 use Rattle.sums.proofs.next_plane.Statement.{statement}
 use Rattle.sums.proofs.next_plane.Tie as tie
@@ -52,7 +52,7 @@ loop-again c =
     )
 
 same-length : tie.Need-same-length Inv-loop μ-loop
-same-length c = c .before .before .loop .inv .1 .lent ∙ sym (c .before .before .before .before .before .pre .before .lent)
+same-length c = c .before .before .loop .inv .1 .tables .work ∙ sym (c .before .before .before .before .before .pre .before .tables .work)
 
 returns : tie.Need-returns Inv-loop μ-loop
 returns c =

@@ -9,7 +9,7 @@ use Rattle.grid.specs.Grid.{placeOf}
 use Rattle.grid.proofs.Places.{three, place-along}
 use Rattle.grid.proofs.Size.{size-high}
 use Rattle.table.specs.Table.{viewOf}
-use Rattle.sums.specs.Moments.{lineCell, Before}
+use Rattle.sums.specs.Inner.{lineCell, Before}
 use Rattle.sums.proofs.Steps.{line-start, before-same, row-ready, one-on}
 use Rattle.sums.proofs.next_row.Statement.{statement}
 use Rattle.sums.proofs.next_row.Tie as tie
@@ -52,7 +52,7 @@ loop-again c =
     )
 
 same-length : tie.Need-same-length Inv-loop μ-loop
-same-length c = c .before .before .loop .inv .2 .lent ∙ sym (c .before .before .before .before .before .pre .before .lent)
+same-length c = c .before .before .loop .inv .2 .tables .work ∙ sym (c .before .before .before .before .before .pre .before .tables .work)
 
 returns : tie.Need-returns Inv-loop μ-loop
 returns c =

@@ -4,7 +4,7 @@ use Prim.Native.Nat.{ℕ}
 use borrow.Author.Needs.{needs}
 use denote.Ref.{now}
 use Rattle.table.specs.Table.{viewOf}
-use Rattle.sums.specs.Moments.{binCell}
+use Rattle.sums.specs.Inner.{binCell}
 use Rattle.sums.specs.Box.{binSum}
 use Rattle.sums.proofs.Corners.{third-from, from-least, from-is, from-start}
 use Rattle.sums.proofs.run.Statement.{statement}

@@ -6,7 +6,7 @@ use native.Mathlib.Nat.{le-trans}
 use borrow.Author.Needs.{needs}
 use denote.Ref.{now}
 use Rattle.table.specs.Table.{viewOf}
-use Rattle.sums.specs.Moments.{binCell}
+use Rattle.sums.specs.Inner.{binCell}
 use Rattle.sums.specs.Box.{binSum}
 use Rattle.sums.proofs.Corners.{second-from, from-least, from-is, from-start}
 use Rattle.sums.proofs.slab.Statement.{statement}
@@ -44,7 +44,7 @@ run-requires-2 : tie.Need-run-requires-2
 run-requires-2 c κs =
     let s = c .before .before .before .before .before .before .before .before .before in
     let k = s .pre .0 in
-    (record { worked = k .worked; one = k .one; two = le-trans (s .pre .1) (k .two); three = k .three }, s .pre .2)
+    (record { can-sum = k .can-sum; one = k .one; two = le-trans (s .pre .1) (k .two); three = k .three }, s .pre .2)
 
 minus-requires : tie.Need-minus-requires
 unfolding binCell
