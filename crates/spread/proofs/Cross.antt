@@ -16,14 +16,14 @@ use Rattle.table.specs.declared.Cell.{Cell}
 use Rattle.table.specs.Cell.{View, numberOf, cellOf}
 use Rattle.table.specs.Table.{viewOf}
 use Rattle.boxes.specs.declared.sides.Bounds.{Bounds}
-use Rattle.sums.specs.declared.Stats.{Stats}
+use Rattle.sums.specs.declared.box_sums.Stats.{Stats}
 use Rattle.boxes.specs.Box.{minAt, maxAt, lowSide, highSide, slabTo, Within}
 use Rattle.sums.specs.Box.{binSum, boxSum, statsFrom, statsOf}
 use Rattle.table.specs.Sound.{limit}
 use Rattle.sums.specs.Moments.{CanSum}
 use Rattle.sums.specs.Inner.{Corner, binCell}
 use Rattle.sums.proofs.Corners.{first-from, second-from, third-from, no-first, no-second, no-third, zeros-are, corner-inside, corner-cell, corner-number, corner-squares, stats-by, cell-stats}
-use Rattle.spread.specs.Walk.{outerOf, innerOf, startOf, HasRecord}
+use Rattle.spread.specs.Inner.{outerOf, innerOf, startOf, HasRecord}
 use Rattle.spread.proofs.Sides.{Exact, Less, stats-less}
 
 pub outer-rest : (d : ℕ) → (d ≡ 0 → ⊥) → outerOf d ≡ 0

@@ -11,13 +11,13 @@ use Rattle.table.specs.Cell.{View}
 use Rattle.table.specs.Sound.{limit}
 use Rattle.table.proofs.Soundness.{Sound}
 use Rattle.boxes.specs.declared.sides.Bounds.{Bounds}
-use Rattle.sums.specs.declared.Stats.{Stats}
+use Rattle.sums.specs.declared.box_sums.Stats.{Stats}
 use Rattle.boxes.specs.Box.{minAt, maxAt, lowSide, highSide, slabTo, Within}
 use Rattle.sums.specs.Box.{boxSum, statsFrom, statsOf}
 use Rattle.sums.proofs.Corners.{box-squares}
 use Rattle.sums.proofs.Laws.{cut-sum, slab-sum, slab-squares}
 use Rattle.spread.specs.Spread.{whole}
-use Rattle.spread.specs.Walk.{minusStats, Covers}
+use Rattle.spread.specs.Inner.{minusStats, Covers}
 use Rattle.spread.proofs.Rounding.{less-of, of-whole, whole-is}
 
 -- the statistics of five numbers, with squares that f64 holds

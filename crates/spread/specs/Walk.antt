@@ -7,9 +7,9 @@ use Rattle.basics.specs.Dimension.{choose}
 use Rattle.grid.specs.Grid.{placeOf, strideAt}
 use Rattle.table.specs.Table.{viewOf, HasCell}
 use Rattle.boxes.specs.declared.sides.Bounds.{Bounds}
-use Rattle.sums.specs.declared.Stats.{Stats}
+use Rattle.sums.specs.declared.box_sums.Stats.{Stats}
 use Rattle.boxes.specs.Box.{minAt, maxAt}
-use Rattle.spread.specs.declared.Walk.{Walk}
+use Rattle.spread.specs.declared.walk.Walk.{Walk}
 
 -- the two dimensions other than d, in order
 unfoldable pub outerOf : ℕ → ℕ

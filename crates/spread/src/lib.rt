@@ -5,10 +5,10 @@ use boxes::sides::first_bin;
 use boxes::sides::is_one_bin;
 use grid::place::Grid;
 use grid::place::place;
-use sums::Stats;
-use sums::ZEROS;
-use sums::box_sum;
-use sums::stats_of;
+use sums::box_sums::Stats;
+use sums::moments::ZEROS;
+use sums::box_sums::box_sum;
+use sums::box_sums::stats_of;
 use table::cell_at;
 ghost use mathlib.Core.Path.{_≡_};
 ghost use mathlib.Core.Bool.{true};
@@ -21,7 +21,7 @@ ghost use Rattle.boxes.specs.Box.{minAt, maxAt, slabTo, Within, Ordered};
 ghost use Rattle.sums.specs.Moments.{CanSum};
 ghost use Rattle.spread.specs.Spread.{whole, quotientOf, spreadOf, scoreOf, Plain};
 ghost use Rattle.spread.specs.Cut.{positionOf, positionAt, laterWins, better as betterOf, bestIn, bestCut};
-ghost use Rattle.spread.specs.Walk.{outerOf, innerOf, startOf, walkOf, minusStats, Covers, HasRecord};
+ghost use Rattle.spread.specs.Inner.{outerOf, innerOf, startOf, walkOf, minusStats, Covers, HasRecord};
 
 // ---- Spread and score
 

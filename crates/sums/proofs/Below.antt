@@ -62,10 +62,6 @@ module _ (g : Grid) (v : View) where
   unfolding belowSum binSum
   below-grows r gr b j = omega (arith, sum3-second (bin j) 0 r 0 gr 1 0 b)
 
-  -- and a plane before no more than the plane itself
-  pub below-rises : (r gr b j : ℕ) → belowSum g v r gr b j ≤ belowSum g v (r + 1) gr b j
-  below-rises r gr b j = omega (arith, below-plane r gr b j)
-
 -- number j of all bins
 pub all-bins : (g : Grid) (v : View) (j : ℕ) → belowSum g v (g .size1) (g .size2) (g .size3) j ≡ sumFrom 0 (binsOf g) (λ p. v p j)
 unfolding belowSum binSum

@@ -17,7 +17,7 @@ use Rattle.table.specs.Sound.{limit}
 use Rattle.table.proofs.Cells.{number-cell, cell-by, Fields, cell-fields, minus-least, minus-is, zero-cell}
 use Rattle.table.proofs.Soundness.{Sound}
 use Rattle.boxes.specs.declared.sides.Bounds.{Bounds}
-use Rattle.sums.specs.declared.Stats.{Stats}
+use Rattle.sums.specs.declared.box_sums.Stats.{Stats}
 use Rattle.boxes.specs.Box.{minAt, maxAt, Within}
 use Rattle.sums.specs.Box.{sum3, binSum, boxSum, statsFrom}
 use Rattle.sums.specs.Moments.{belowSum}

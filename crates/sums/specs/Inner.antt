@@ -1,12 +1,12 @@
 -- What the crate's own functions are told: sums on the way to the moments, and where the work table has them. Definitions
 -- only.
-use Prim.Native.Nat.{ℕ, _≤_}
+use Prim.Native.Nat.{ℕ, _+_, _-_, _^_, _≤_, _<_}
 use Rattle.basics.specs.Range.{sumFrom}
 use Rattle.grid.specs.declared.place.Grid.{Grid}
 use Rattle.grid.specs.Grid.{placeOf, Inside}
 use Rattle.table.specs.declared.Cell.{Cell}
-use Rattle.table.specs.Cell.{View, cellOf}
-use Rattle.table.specs.Table.{Table, viewOf}
+use Rattle.table.specs.Cell.{View, numberOf, cellOf, plusCell, minusCell, AtLeast}
+use Rattle.table.specs.Table.{Table, viewOf, putAt}
 use Rattle.table.specs.Sound.{limit}
 use Rattle.sums.specs.Box.{binSum}
 use Rattle.sums.specs.Moments.{momentsOf, MomentsBefore, ForMoments, CanSum}
@@ -22,6 +22,20 @@ lineSum g v r gr b j = sumFrom 0 b (λ z. v (placeOf g r gr z) j)
 -- the cell of the sums along a row, below b
 unfoldable pub lineCell : Grid → View → ℕ → ℕ → ℕ → Cell
 lineCell g v r gr b = cellOf (lineSum g v r gr b)
+
+-- "by inclusion and exclusion": the moments at a bin, from the sums along its row and those of the row above, of the plane
+-- before and of the row above in that plane
+unfoldable pub joinedCell : Cell → Cell → Cell → Cell → Cell
+joinedCell line above before corner = plusCell (plusCell line above) (minusCell before corner)
+
+-- nothing is taken that is not there, and each sum fits a u64
+pub record CanJoin (line above before corner : Cell) : Type 0 where
+  pub least : AtLeast before corner
+  pub fits : (j : ℕ) → j < 5 → numberOf line j + numberOf above j + (numberOf before j - numberOf corner j) < 2 ^ 64
+
+-- a work table with the moments at a place written
+unfoldable pub withMoment : Grid → View → Table → ℕ → Table
+withMoment g v w p = putAt w p (momentCell g v p)
 
 -- the two tables, and the work table holds the moments at the places before p
 pub record Before (g : Grid) (t w : Table) (p : ℕ) : Type 0 where

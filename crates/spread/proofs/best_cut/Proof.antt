@@ -3,8 +3,8 @@
 use mathlib.Core.Path.{_∙_}
 use borrow.Author.Needs.{needs}
 use Rattle.spread.specs.Cut.{better, bestCut}
-use Rattle.spread.proofs.best_cut.Statement.{statement}
-use Rattle.spread.proofs.best_cut.Tie as tie
+use Rattle.spread.proofs.search.best_cut.Statement.{statement}
+use Rattle.spread.proofs.search.best_cut.Tie as tie
 
 box-sum-requires : tie.Need-box-sum-requires
 box-sum-requires c κs = c .before .before .pre

@@ -9,11 +9,11 @@ use denote.Ref.{now}
 use Rattle.table.specs.Table.{viewOf}
 use Rattle.sums.specs.Box.{statsOf}
 use Rattle.boxes.specs.Box.{minAt, maxAt, slabTo}
-use Rattle.spread.specs.declared.Position.{Position}
+use Rattle.spread.specs.declared.position.Position.{Position}
 use Rattle.spread.specs.Cut.{positionAt, better, bestRun, bestIn}
 use Rattle.spread.proofs.Choose.{later-is-better, earlier-is-better, end-high, run-none, run-next}
-use Rattle.spread.proofs.best_in.Statement.{statement}
-use Rattle.spread.proofs.best_in.Tie as tie
+use Rattle.spread.proofs.search.best_in.Statement.{statement}
+use Rattle.spread.proofs.search.best_in.Tie as tie
 
 abbrev Inv-loop : tie.InvT-loop
 Inv-loop table work g x dimension all end first walk base₀ best₀ bin₀ base best bin =

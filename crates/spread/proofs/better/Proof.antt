@@ -3,8 +3,8 @@
 use mathlib.Core.Path.{sym, _∙_}
 use borrow.Author.Needs.{needs}
 use Rattle.spread.proofs.Choose.{later-is-better, earlier-is-better}
-use Rattle.spread.proofs.better.Statement.{statement}
-use Rattle.spread.proofs.better.Tie as tie
+use Rattle.spread.proofs.position.better.Statement.{statement}
+use Rattle.spread.proofs.position.better.Tie as tie
 
 later-wins-requires : tie.Need-later-wins-requires
 later-wins-requires c κs = search needs

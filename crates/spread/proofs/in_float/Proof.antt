@@ -10,8 +10,8 @@ use lib.Ieee.{binary64, inFloat, ofInt}
 use mir.Syntax.{w64}
 use mir.ValLaws.{toZ-pos}
 use Rattle.spread.proofs.Choose.{casts}
-use Rattle.spread.proofs.in_float.Statement.{statement}
-use Rattle.spread.proofs.in_float.Tie as tie
+use Rattle.spread.proofs.spread.in_float.Statement.{statement}
+use Rattle.spread.proofs.spread.in_float.Tie as tie
 
 -- it has no sign bit
 small : (n : ℕ) → n ≤ 9007199254740992 → n < 2 ^ 63

@@ -3,9 +3,9 @@
 use mathlib.Core.Path.{refl, sym}
 use Rattle.basics.specs.Dimension.{choose}
 use Rattle.grid.proofs.Places.{choose-third}
-use Rattle.spread.specs.Walk.{innerOf}
-use Rattle.spread.proofs.inner_of.Statement.{statement}
-use Rattle.spread.proofs.inner_of.Tie as tie
+use Rattle.spread.specs.Inner.{innerOf}
+use Rattle.spread.proofs.walk.inner_of.Statement.{statement}
+use Rattle.spread.proofs.walk.inner_of.Tie as tie
 
 returns : tie.Need-returns
 unfolding innerOf choose

@@ -3,8 +3,8 @@
 use mathlib.Core.Path.{sym, ap₂}
 use borrow.Author.Needs.{needs}
 use Rattle.spread.specs.Cut.{laterWins}
-use Rattle.spread.proofs.later_wins.Statement.{statement}
-use Rattle.spread.proofs.later_wins.Tie as tie
+use Rattle.spread.proofs.position.later_wins.Statement.{statement}
+use Rattle.spread.proofs.position.later_wins.Tie as tie
 
 enum-told : tie.Need-enum-told
 enum-told c = search needs

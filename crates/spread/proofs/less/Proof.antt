@@ -2,9 +2,9 @@
 -- Assumes nothing.
 use mathlib.Core.Path.{refl}
 use borrow.Author.Needs.{needs}
-use Rattle.spread.specs.Walk.{minusStats}
-use Rattle.spread.proofs.less.Statement.{statement}
-use Rattle.spread.proofs.less.Tie as tie
+use Rattle.spread.specs.Inner.{minusStats}
+use Rattle.spread.proofs.low_side.less.Statement.{statement}
+use Rattle.spread.proofs.low_side.less.Tie as tie
 
 sub-t3 : tie.Need-sub-t3
 sub-t3 c = search needs

@@ -2,10 +2,10 @@
 -- Assumes nothing.
 use mathlib.Core.Path.{refl, sym}
 use Rattle.basics.specs.Dimension.{choose}
-use Rattle.spread.specs.Walk.{outerOf}
+use Rattle.spread.specs.Inner.{outerOf}
 use Rattle.spread.proofs.Cross.{outer-rest}
-use Rattle.spread.proofs.outer_of.Statement.{statement}
-use Rattle.spread.proofs.outer_of.Tie as tie
+use Rattle.spread.proofs.walk.outer_of.Statement.{statement}
+use Rattle.spread.proofs.walk.outer_of.Tie as tie
 
 returns : tie.Need-returns
 unfolding outerOf choose

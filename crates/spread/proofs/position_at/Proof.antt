@@ -7,14 +7,14 @@ use Rattle.table.specs.Cell.{View}
 use Rattle.table.specs.Table.{viewOf}
 use Rattle.table.specs.Sound.{limit}
 use Rattle.table.proofs.Soundness.{Sound}
-use Rattle.sums.specs.declared.Stats.{Stats}
+use Rattle.sums.specs.declared.box_sums.Stats.{Stats}
 use Rattle.sums.specs.Box.{boxSum, statsOf}
 use Rattle.boxes.specs.Box.{lowSide, highSide}
 use Rattle.boxes.proofs.Within.{low-within, high-within}
 use Rattle.spread.proofs.Choose.{plain-stats, position-is}
 use Rattle.spread.proofs.Sides.{Less, low, high}
-use Rattle.spread.proofs.position_at.Statement.{statement}
-use Rattle.spread.proofs.position_at.Tie as tie
+use Rattle.spread.proofs.search.position_at.Statement.{statement}
+use Rattle.spread.proofs.search.position_at.Tie as tie
 
 module _ (s : tie.Start) where
   abbrev view : View

@@ -3,10 +3,10 @@
 use mathlib.Core.Path.{refl, ap}
 use borrow.Author.Tests.{eq-eqb, ne-eqb}
 use borrow.Author.Needs.{needs}
-use Rattle.spread.specs.declared.Position.the-variants.{At}
+use Rattle.spread.specs.declared.position.Position.the-variants.{At}
 use Rattle.spread.specs.Cut.{positionOf}
-use Rattle.spread.proofs.position_between.Statement.{statement}
-use Rattle.spread.proofs.position_between.Tie as tie
+use Rattle.spread.proofs.position.position_between.Statement.{statement}
+use Rattle.spread.proofs.position.position_between.Tie as tie
 
 returns : tie.Need-returns
 unfolding positionOf

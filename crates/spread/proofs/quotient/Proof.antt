@@ -3,8 +3,8 @@
 use native.Mathlib.Omega.{arith}
 use lib.Ieee.{Float, binary64, add, mul, div}
 use Rattle.spread.specs.Spread.{quotientOf}
-use Rattle.spread.proofs.quotient.Statement.{statement}
-use Rattle.spread.proofs.quotient.Tie as tie
+use Rattle.spread.proofs.spread.quotient.Statement.{statement}
+use Rattle.spread.proofs.spread.quotient.Tie as tie
 
 in-float-requires : tie.Need-in-float-requires
 in-float-requires c κs = omega (arith, c .pre .weight, c .pre .one)

@@ -3,8 +3,8 @@
 use denote.Ref.{now}
 use Rattle.table.specs.Table.{viewOf}
 use Rattle.sums.proofs.Corners.{cell-squares, cell-stats}
-use Rattle.spread.proofs.record_at.Statement.{statement}
-use Rattle.spread.proofs.record_at.Tie as tie
+use Rattle.spread.proofs.low_side.record_at.Statement.{statement}
+use Rattle.spread.proofs.low_side.record_at.Tie as tie
 
 cell-at-requires : tie.Need-cell-at-requires
 cell-at-requires c κs = c .before .pre .cell

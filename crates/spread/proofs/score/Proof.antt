@@ -4,8 +4,8 @@ use mathlib.Core.Path.{ap₂}
 use borrow.Author.Needs.{needs}
 use lib.Ieee.{Float, binary64, add, neg}
 use Rattle.spread.specs.Spread.{scoreOf}
-use Rattle.spread.proofs.score.Statement.{statement}
-use Rattle.spread.proofs.score.Tie as tie
+use Rattle.spread.proofs.spread.score.Statement.{statement}
+use Rattle.spread.proofs.spread.score.Tie as tie
 
 quotient-requires : tie.Need-quotient-requires
 quotient-requires c κs = search needs

@@ -4,8 +4,8 @@ use mathlib.Core.Path.{refl, sym, ap, _∙_}
 use borrow.Author.Needs.{needs}
 use lib.Ieee.{Float, binary64, ofBits, sub}
 use Rattle.spread.specs.Spread.{spreadOf}
-use Rattle.spread.proofs.spread.Statement.{statement}
-use Rattle.spread.proofs.spread.Tie as tie
+use Rattle.spread.proofs.spread.spread.Statement.{statement}
+use Rattle.spread.proofs.spread.spread.Tie as tie
 
 is-one-bin-requires : tie.Need-is-one-bin-requires
 is-one-bin-requires c κs = search needs

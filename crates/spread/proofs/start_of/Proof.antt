@@ -3,8 +3,8 @@
 use mathlib.Core.Path.{_∙_}
 use borrow.Author.Needs.{needs}
 use Rattle.spread.proofs.Cross.{first-start, second-start, third-start}
-use Rattle.spread.proofs.start_of.Statement.{statement}
-use Rattle.spread.proofs.start_of.Tie as tie
+use Rattle.spread.proofs.walk.start_of.Statement.{statement}
+use Rattle.spread.proofs.walk.start_of.Tie as tie
 
 last-before-requires : tie.Need-last-before-requires
 last-before-requires c κs = search needs

@@ -5,8 +5,8 @@ use native.Mathlib.Omega.{arith}
 use Rattle.basics.specs.Dimension.{choose}
 use Rattle.grid.specs.Grid.{strideAt}
 use Rattle.grid.proofs.Places.{plane-high, choose-third}
-use Rattle.spread.proofs.stride_of.Statement.{statement}
-use Rattle.spread.proofs.stride_of.Tie as tie
+use Rattle.spread.proofs.walk.stride_of.Statement.{statement}
+use Rattle.spread.proofs.walk.stride_of.Tie as tie
 
 mul-result : tie.Need-mul-result
 mul-result c = omega (arith, plane-high (c .before .before .pre))

@@ -8,15 +8,15 @@ use borrow.Author.Needs.{needs}
 use denote.Ref.{now}
 use Rattle.table.specs.Cell.{View}
 use Rattle.table.specs.Table.{viewOf}
-use Rattle.sums.specs.declared.Stats.{Stats}
+use Rattle.sums.specs.declared.box_sums.Stats.{Stats}
 use Rattle.sums.specs.Box.{boxSum, statsOf}
 use Rattle.boxes.specs.Box.{minAt, maxAt, slabTo}
-use Rattle.spread.specs.declared.Walk.{Walk}
-use Rattle.spread.specs.Walk.{outerOf, innerOf, startOf, walkOf}
+use Rattle.spread.specs.declared.walk.Walk.{Walk}
+use Rattle.spread.specs.Inner.{outerOf, innerOf, startOf, walkOf}
 use Rattle.spread.proofs.Sides.{Exact, Less}
 use Rattle.spread.proofs.Cross.{Reads, crossSum, rowTo, none-before, box-reads, row-start, row, slab-start, slab}
-use Rattle.spread.proofs.sums_before.Statement.{statement}
-use Rattle.spread.proofs.sums_before.Tie as tie
+use Rattle.spread.proofs.low_side.sums_before.Statement.{statement}
+use Rattle.spread.proofs.low_side.sums_before.Tie as tie
 
 module _ (s : tie.Start) where
   abbrev view : View

@@ -6,9 +6,9 @@ use native.Mathlib.Omega.{arith}
 use borrow.Author.Needs.{needs}
 use Rattle.grid.specs.Grid.{sizeAt}
 use Rattle.boxes.specs.Box.{minAt, maxAt}
-use Rattle.spread.specs.Walk.{outerOf, innerOf, startOf, walkOf}
-use Rattle.spread.proofs.walk_of.Statement.{statement}
-use Rattle.spread.proofs.walk_of.Tie as tie
+use Rattle.spread.specs.Inner.{outerOf, innerOf, startOf, walkOf}
+use Rattle.spread.proofs.walk.walk_of.Statement.{statement}
+use Rattle.spread.proofs.walk.walk_of.Tie as tie
 
 -- the box's ends in the other two dimensions
 module _ (k : tie.After-end-bin2) where

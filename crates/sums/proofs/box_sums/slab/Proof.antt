@@ -9,8 +9,8 @@ use Rattle.table.specs.Table.{viewOf}
 use Rattle.sums.specs.Inner.{binCell}
 use Rattle.sums.specs.Box.{binSum}
 use Rattle.sums.proofs.Corners.{second-from, from-least, from-is, from-start}
-use Rattle.sums.proofs.slab.Statement.{statement}
-use Rattle.sums.proofs.slab.Tie as tie
+use Rattle.sums.proofs.box_sums.slab.Statement.{statement}
+use Rattle.sums.proofs.box_sums.slab.Tie as tie
 
 -- number j of the bins from a start on
 abbrev rows : tie.Start → ℕ → ℕ → ℕ → ℕ
@@ -25,23 +25,23 @@ cast-b0 c = search needs
 cast-b1 : tie.Need-cast-b1
 cast-b1 c = search needs
 
-cast-run : tie.Need-cast-run
-cast-run c = search needs
+cast-bins-from : tie.Need-cast-bins-from
+cast-bins-from c = search needs
 
-run-requires : tie.Need-run-requires
-run-requires c κs = search needs
+bins-from-requires : tie.Need-bins-from-requires
+bins-from-requires c κs = search needs
 
 returns : tie.Need-returns
 unfolding binCell
 returns c =
     let s = c .before .before .before .before .before .before .before .before in
-    from-start (rows s) (split s) (s .pre .1) (c .before .before .run .ensures) (c .if1 .taken)
+    from-start (rows s) (split s) (s .pre .1) (c .before .before .bins-from .ensures) (c .if1 .taken)
 
-cast-run-2 : tie.Need-cast-run-2
-cast-run-2 c = search needs
+cast-bins-from-2 : tie.Need-cast-bins-from-2
+cast-bins-from-2 c = search needs
 
-run-requires-2 : tie.Need-run-requires-2
-run-requires-2 c κs =
+bins-from-requires-2 : tie.Need-bins-from-requires-2
+bins-from-requires-2 c κs =
     let s = c .before .before .before .before .before .before .before .before .before in
     let k = s .pre .0 in
     (record { can-sum = k .can-sum; one = k .one; two = le-trans (s .pre .1) (k .two); three = k .three }, s .pre .2)
@@ -50,13 +50,13 @@ minus-requires : tie.Need-minus-requires
 unfolding binCell
 minus-requires c κs =
     let s = c .before .before .before .before .before .before .before .before .before .before in
-    from-least (rows s) (split s) (s .pre .1) (c .before .before .before .before .run .ensures) (c .run2 .ensures)
+    from-least (rows s) (split s) (s .pre .1) (c .before .before .before .before .bins-from .ensures) (c .bins-from2 .ensures)
 
 returns-2 : tie.Need-returns-2
 unfolding binCell
 returns-2 c =
     let s = c .before .before .before .before .before .before .before .before .before .before .before in
-    from-is (rows s) (split s) (s .pre .1) (c .before .before .before .before .before .run .ensures) (c .before .run2 .ensures) (c .minus .ensures)
+    from-is (rows s) (split s) (s .pre .1) (c .before .before .before .before .before .bins-from .ensures) (c .before .bins-from2 .ensures) (c .minus .ensures)
 
 pub slab-spec : {M : Type 1} → statement M
 slab-spec =
@@ -64,10 +64,10 @@ slab-spec =
     (tie.spec
     cast-b0
     cast-b1
-    cast-run
-    run-requires
+    cast-bins-from
+    bins-from-requires
     returns
-    cast-run-2
-    run-requires-2
+    cast-bins-from-2
+    bins-from-requires-2
     minus-requires
     returns-2)

@@ -4,8 +4,8 @@ use denote.Ref.{now}
 use Rattle.table.specs.Table.{viewOf}
 use Rattle.sums.specs.Box.{boxSum, boxCell, statsOf}
 use Rattle.sums.proofs.Corners.{box-squares, cell-squares, cell-stats}
-use Rattle.sums.proofs.box_sum.Statement.{statement}
-use Rattle.sums.proofs.box_sum.Tie as tie
+use Rattle.sums.proofs.box_sums.box_sum.Statement.{statement}
+use Rattle.sums.proofs.box_sums.box_sum.Tie as tie
 
 box-cell-requires : tie.Need-box-cell-requires
 box-cell-requires c κs = c .before .before .pre

@@ -9,8 +9,8 @@ use Rattle.grid.proofs.Places.{two, row-start}
 use Rattle.grid.proofs.Size.{size-high}
 use Rattle.sums.specs.Inner.{Before}
 use Rattle.sums.proofs.Steps.{before-same, add-one-mul}
-use Rattle.sums.proofs.next_plane.Statement.{statement}
-use Rattle.sums.proofs.next_plane.Tie as tie
+use Rattle.sums.proofs.moments.next_plane.Statement.{statement}
+use Rattle.sums.proofs.moments.next_plane.Tie as tie
 
 abbrev Inv-loop : tie.InvT-loop
 Inv-loop table work₀ g r gr₀ work gr =

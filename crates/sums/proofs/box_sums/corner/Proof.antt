@@ -5,8 +5,8 @@ use borrow.Author.Needs.{needs}
 use denote.Ref.{now}
 use Rattle.table.specs.Table.{viewOf}
 use Rattle.sums.proofs.Corners.{no-first, no-second, no-third, zeros-are, corner-cell, corner-is}
-use Rattle.sums.proofs.corner.Statement.{statement}
-use Rattle.sums.proofs.corner.Tie as tie
+use Rattle.sums.proofs.box_sums.corner.Statement.{statement}
+use Rattle.sums.proofs.box_sums.corner.Tie as tie
 
 returns : tie.Need-returns
 returns c =

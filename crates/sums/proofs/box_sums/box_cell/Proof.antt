@@ -10,8 +10,8 @@ use Rattle.sums.specs.Inner.{binCell}
 use Rattle.sums.specs.Box.{binSum, boxSum, boxCell}
 use Rattle.sums.proofs.Corners.{first-from, from-least, from-is, from-start}
 use Rattle.boxes.proofs.Within.{sides}
-use Rattle.sums.proofs.box_cell.Statement.{statement}
-use Rattle.sums.proofs.box_cell.Tie as tie
+use Rattle.sums.proofs.box_sums.box_cell.Statement.{statement}
+use Rattle.sums.proofs.box_sums.box_cell.Tie as tie
 
 -- number j of the bins from a start on
 abbrev planes : tie.Start → ℕ → ℕ → ℕ → ℕ

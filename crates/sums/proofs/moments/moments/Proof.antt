@@ -9,8 +9,8 @@ use Rattle.grid.proofs.Places.{one, two, three, plane-start}
 use Rattle.grid.proofs.Size.{size-low, size-high}
 use Rattle.sums.specs.Inner.{Before}
 use Rattle.sums.proofs.Steps.{before-same, add-one-mul, none-made, all-made}
-use Rattle.sums.proofs.moments.Statement.{statement}
-use Rattle.sums.proofs.moments.Tie as tie
+use Rattle.sums.proofs.moments.moments.Statement.{statement}
+use Rattle.sums.proofs.moments.moments.Tie as tie
 
 abbrev Inv-loop : tie.InvT-loop
 Inv-loop table g work₀ r₀ work r =

@@ -1,4 +1,4 @@
--- `sums::run` meets its contract: the bins up to the end are those up to the start and those of the run.
+-- `sums::bins_from` meets its contract: the bins up to the end are those up to the start and those of the run.
 -- Assumes nothing.
 use Prim.Native.Nat.{ℕ}
 use borrow.Author.Needs.{needs}
@@ -7,8 +7,8 @@ use Rattle.table.specs.Table.{viewOf}
 use Rattle.sums.specs.Inner.{binCell}
 use Rattle.sums.specs.Box.{binSum}
 use Rattle.sums.proofs.Corners.{third-from, from-least, from-is, from-start}
-use Rattle.sums.proofs.run.Statement.{statement}
-use Rattle.sums.proofs.run.Tie as tie
+use Rattle.sums.proofs.box_sums.bins_from.Statement.{statement}
+use Rattle.sums.proofs.box_sums.bins_from.Tie as tie
 
 -- number j of the bins from a start on
 abbrev runs : tie.Start → ℕ → ℕ → ℕ → ℕ
@@ -38,5 +38,5 @@ returns-2 c =
     let s = c .before .before .before .before .before .before in
     from-is (runs s) (third-from (s .args .g) (viewOf (now (s .args .table))) 0 (s .args .r) 0 (s .args .gr)) (s .pre .1) (c .before .before .before .corner .ensures) (c .before .corner2 .ensures) (c .minus .ensures)
 
-pub run-spec : {M : Type 1} → statement M
-run-spec = tie.close (tie.spec corner-requires returns corner-requires-2 minus-requires returns-2)
+pub bins-from-spec : {M : Type 1} → statement M
+bins-from-spec = tie.close (tie.spec corner-requires returns corner-requires-2 minus-requires returns-2)

@@ -11,8 +11,8 @@ use Rattle.grid.proofs.Size.{size-high}
 use Rattle.table.specs.Table.{viewOf}
 use Rattle.sums.specs.Inner.{lineCell, Before}
 use Rattle.sums.proofs.Steps.{line-start, before-same, row-ready, one-on}
-use Rattle.sums.proofs.next_row.Statement.{statement}
-use Rattle.sums.proofs.next_row.Tie as tie
+use Rattle.sums.proofs.moments.next_row.Statement.{statement}
+use Rattle.sums.proofs.moments.next_row.Tie as tie
 
 abbrev Inv-loop : tie.InvT-loop
 Inv-loop table work₀ g r gr line₀ b₀ work line b =
