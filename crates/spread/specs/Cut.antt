@@ -15,12 +15,12 @@ use Rattle.spread.specs.declared.position.Position.the-variants.{At, Now
 use Rattle.spread.specs.Spread.{scoreOf}
 
 -- what a caller is told of each case: "either a position with its float score, or that no position exists"; neither is a refusal
-pub record Told : Type 0 where
+pub record ScoredAnswer : Type 0 where
   pub number : ℕ
   pub values : List ℕ
   pub scores : List Float
 
-unfoldable pub positionAnswer : Position → Told
+unfoldable pub positionAnswer : Position → ScoredAnswer
 positionAnswer (At d bin score) = record { number = 0; values = d ∷ bin ∷ []; scores = score ∷ [] }
 positionAnswer Nowhere = record { number = 0; values = []; scores = [] }
 

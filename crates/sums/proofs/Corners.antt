@@ -26,6 +26,10 @@ use Rattle.boxes.proofs.Within.{Sides, sides}
 use Rattle.sums.proofs.Boxes.{sum3-first, sum3-second, sum3-third}
 use Rattle.sums.proofs.Below.{moments-at, below-small}
 
+-- a cell of zeros
+abbrev pub zeroCell : Cell
+zeroCell = record { weight = 0; sum1 = 0; sum2 = 0; sum3 = 0; squares = 0 }
+
 -- no bins
 pub no-first : (g : Grid) (v : View) (a b m c k j : ℕ) → binSum g v a 0 b m c k j ≡ 0
 unfolding binSum sum3 sumFrom
@@ -83,12 +87,14 @@ module _ (F : ℕ → ℕ → ℕ → ℕ) (split : (s e j : ℕ) → s ≤ e �
       same = omega arith
 
 -- zeros where there are no bins
-pub zeros-are : (g : Grid) (v : View) (a n b m c k : ℕ) → ((j : ℕ) → binSum g v a n b m c k j ≡ 0) → _≡_ {A = Cell} (record { weight = 0; sum1 = 0; sum2 = 0; sum3 = 0; squares = 0 }) (binCell g v a n b m c k)
+pub zeros-cell : (f : ℕ → ℕ) → ((j : ℕ) → f j ≡ 0) → zeroCell ≡ cellOf f
+zeros-cell f e =
+    zero-cell ∙ cell-by (cellOf (λ j. 0)) (cellOf f) (λ j h. number-cell (λ i. 0) j h ∙ sym (number-cell f j h ∙ e j))
+
+pub zeros-are : (g : Grid) (v : View) (a n b m c k : ℕ) → ((j : ℕ) → binSum g v a n b m c k j ≡ 0)
+    → zeroCell ≡ binCell g v a n b m c k
 unfolding binCell
-zeros-are g v a n b m c k e =
-    zero-cell
-    ∙ cell-by (cellOf (λ j. 0)) (cellOf (binSum g v a n b m c k))
-    (λ j h. number-cell (λ i. 0) j h ∙ sym (number-cell (binSum g v a n b m c k) j h ∙ e j))
+zeros-are g v a n b m c k e = zeros-cell (binSum g v a n b m c k) e
 
 -- the work table at a corner
 module _ {g : Grid} {t w : Table} {r gr b : ℕ} (c : Corner g t w r gr b) where
@@ -108,7 +114,7 @@ module _ {g : Grid} {t w : Table} {r gr b : ℕ} (c : Corner g t w r gr b) where
     pub corner-cell : {p : ℕ} → p ≡ placeOf g (r - 1) (gr - 1) (b - 1) → HasCell w p
     corner-cell at = record { fits = omega (arith, place-lt corner-inside, c .can-sum .work, at) }
 
-    pub corner-number : {p : ℕ} → p ≡ placeOf g (r - 1) (gr - 1) (b - 1) → (j : ℕ) → j < 5 → viewOf w p j ≡ binSum g (viewOf t) 0 r 0 gr 0 b j
+    corner-number : {p : ℕ} → p ≡ placeOf g (r - 1) (gr - 1) (b - 1) → (j : ℕ) → j < 5 → viewOf w p j ≡ binSum g (viewOf t) 0 r 0 gr 0 b j
     unfolding belowSum
     corner-number at j m =
         ap (λ (n : ℕ). viewOf w n j) at
@@ -125,11 +131,6 @@ module _ {g : Grid} {t w : Table} {r gr b : ℕ} (c : Corner g t w r gr b) where
         ∙ number-cell (viewOf w p) j m
         ∙ corner-number at j m
         ∙ sym (number-cell (binSum g (viewOf t) 0 r 0 gr 0 b) j m))
-
-    pub corner-squares : binSum g (viewOf t) 0 r 0 gr 0 b 4 ≤ 2 ^ 53
-    unfolding belowSum
-    corner-squares =
-        omega (arith, below-small (c .can-sum .table .accepted) (record { holds = c .can-sum .is-sound }) r gr b 4 (c .one) (c .two) (c .three) (lit< tt))
 
 -- a box has no more than the bins below its ends
 pub box-below : (g : Grid) (v : View) (x : Bounds) (j : ℕ) → Sides g x → boxSum g v x j ≤ belowSum g v (x .r1) (x .g1) (x .b1) j

@@ -21,6 +21,7 @@ use Rattle.table.proofs.Cells.{number-cell, number-plus, number-minus, cell-by,
 use Rattle.table.proofs.Soundness.{Sound}
 use Rattle.sums.specs.Moments.{belowSum, momentsOf, HasMoments, ForMoments, CanSum}
 use Rattle.sums.specs.Inner.{lineSum, momentCell, lineCell, Before, Ready, joinedCell, CanJoin, withMoment}
+use Rattle.sums.proofs.Corners.{zeroCell}
 use Rattle.sums.proofs.Below.{moments-at, below-none, below-no-row, below-step, below-grows, below-small}
 
 -- ---- places before a place
@@ -35,9 +36,6 @@ rows-earlier r' r gr' gr d p h k l = go (decLe r r')
     go (no n) = omega (arith, mul-le-mul-right {m = suc r'} {n = r} d (omega arith), suc-mul r' d)
 
 -- a cell of zeros
-abbrev pub zeroCell : Cell
-zeroCell = record { weight = 0; sum1 = 0; sum2 = 0; sum3 = 0; squares = 0 }
-
 zero-number : (j : ℕ) → numberOf zeroCell j ≡ 0
 unfolding numberOf
 zero-number zero = refl
@@ -235,7 +233,7 @@ module _ {g : Grid} {t w : Table} {r gr b : ℕ} (ready : Ready g t w r gr b) wh
           ∙ ready .before .made .at q j (omega arith) k
 
 -- ---- rows and planes of bins
-pub line-start : (g : Grid) (v : View) (r gr : ℕ) → _≡_ {A = Cell} (record { weight = 0; sum1 = 0; sum2 = 0; sum3 = 0; squares = 0 }) (lineCell g v r gr 0)
+pub line-start : (g : Grid) (v : View) (r gr : ℕ) → zeroCell ≡ lineCell g v r gr 0
 unfolding lineCell lineSum sumFrom
 line-start g v r gr = zero-cell
 
