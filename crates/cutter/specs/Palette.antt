@@ -8,7 +8,7 @@ use Rattle.grid.specs.declared.place.Grid.{Grid}
 use Rattle.pixels.specs.declared.colour.Rgb.{Rgb}
 use Rattle.table.specs.Cell.{View}
 use Rattle.boxes.specs.declared.sides.Bounds.{Bounds}
-use Rattle.sums.specs.declared.Stats.{Stats}
+use Rattle.sums.specs.declared.box_sums.Stats.{Stats}
 use Rattle.sums.specs.Box.{boxSum}
 use Rattle.boxes.specs.Box.{Within}
 use Rattle.cutter.specs.Fronts.{flat, filled, putFrom}

@@ -11,7 +11,7 @@ use Rattle.table.specs.Table.{viewOf}
 use Rattle.loader.specs.Load.{loadNumber, loadLater}
 use Rattle.loader.specs.Plan.{Batch}
 use Rattle.spread.specs.Spread.{zeroOf}
-use Rattle.spread.specs.Cut.{Told, positionAnswer, bestCut}
+use Rattle.spread.specs.Cut.{ScoredAnswer, positionAnswer, bestCut}
 use Rattle.rounds.specs.declared.BoxSpread.{BoxSpread}
 use Rattle.boxes.specs.Box.{wholeOf}
 use Rattle.cutter.specs.declared.CutRecord.{CutRecord}
@@ -26,7 +26,7 @@ pub record AfterLoad : Type 0 where
 -- was lent to it
 pub record Outcome : Type 0 where
   pub loads : List AfterLoad
-  pub position : Told
+  pub position : ScoredAnswer
   pub cut : CutRecord
   pub later : Buffers
 
@@ -51,11 +51,11 @@ tableAfter b1 b2 b3 t [] = t
 tableAfter b1 b2 b3 t (b ∷ bs) = tableAfter b1 b2 b3 (loadLater b1 b2 b3 t (b .colours) (b .weighted) (b .weights)) bs
 
 -- no position
-unfoldable pub nowhere : Told
+unfoldable pub nowhere : ScoredAnswer
 nowhere = record { number = 0; values = []; scores = [] }
 
 -- the best position to cut the whole grid
-unfoldable pub positionIn : ℕ → ℕ → ℕ → List ℕ → Told
+unfoldable pub positionIn : ℕ → ℕ → ℕ → List ℕ → ScoredAnswer
 positionIn b1 b2 b3 t = onGrid (gridOf b1 b2 b3) nowhere (λ g. positionAnswer (bestCut g (viewOf t) (wholeOf g)))
 
 -- what is lent to the cut: long enough for every k here, and nowhere zero
@@ -97,7 +97,7 @@ unfoldable pub loadGives : ℕ → List ℕ → AfterLoad
 loadGives number table = record { number = number; table = table }
 
 -- dimension and bin, with the score
-unfoldable pub at : ℕ → ℕ → Float → Told
+unfoldable pub at : ℕ → ℕ → Float → ScoredAnswer
 at dimension bin score = record { number = 0; values = dimension ∷ bin ∷ []; scores = score ∷ [] }
 
 -- a box of three ranges, with its spread
@@ -123,7 +123,7 @@ pub record Done : Type 0 where
   pub counts : List ℕ
   pub map : List ℕ
 
-unfoldable pub done : List AfterLoad → Told → Done → Outcome
+unfoldable pub done : List AfterLoad → ScoredAnswer → Done → Outcome
 done loads position d =
     record {
       loads = loads;
@@ -134,7 +134,7 @@ done loads position d =
     }
 
 -- "A refusal returns its number and, from a cut, zero boxes and box places all zero, and writes nothing"
-unfoldable pub refusedWith : ℕ → List AfterLoad → Told → ℕ → Outcome
+unfoldable pub refusedWith : ℕ → List AfterLoad → ScoredAnswer → ℕ → Outcome
 refusedWith number loads position bins =
     record { loads = loads; position = position; cut = recordWith number []; later = lentTo bins }
 

@@ -16,7 +16,7 @@ use Rattle.table.proofs.Soundness.{total-is}
 use Rattle.boxes.specs.declared.sides.Bounds.{Bounds}
 use Rattle.sums.specs.Box.{boxSum}
 use Rattle.boxes.specs.Box.{lowSide, highSide, Within}
-use Rattle.spread.specs.declared.Position.the-variants.{At, Nowhere}
+use Rattle.spread.specs.declared.position.Position.the-variants.{At, Nowhere}
 use Rattle.spread.specs.Cut.{bestCut}
 use Rattle.spread.proofs.Best.{answered}
 use Rattle.heap.specs.Heap.{Item, Room, item, putIn, takeOut}

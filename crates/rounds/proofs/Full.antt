@@ -19,7 +19,7 @@ use Rattle.sums.specs.Box.{statsOf, marks, occupiedIn}
 use Rattle.boxes.specs.Box.{lowSide, highSide}
 use Rattle.sums.proofs.Laws.{cut-sum}
 use Rattle.sums.proofs.Occupied.{Two, some-occupied, one-at-most}
-use Rattle.spread.specs.declared.Position.the-variants.{Nowhere}
+use Rattle.spread.specs.declared.position.Position.the-variants.{Nowhere}
 use Rattle.spread.specs.Spread.{spreadOf, SpreadsAbove}
 use Rattle.spread.specs.Cut.{bestCut}
 use Rattle.spread.proofs.Best.{two-occupied}

@@ -11,8 +11,8 @@ use Rattle.table.specs.Cell.{View}
 use Rattle.boxes.specs.declared.sides.Bounds.{Bounds}
 use Rattle.sums.specs.Box.{statsOf}
 use Rattle.boxes.specs.Box.{noBox, wholeOf, lowSide, highSide}
-use Rattle.spread.specs.declared.Position.{Position}
-use Rattle.spread.specs.declared.Position.the-variants.{At, Nowhere}
+use Rattle.spread.specs.declared.position.Position.{Position}
+use Rattle.spread.specs.declared.position.Position.the-variants.{At, Nowhere}
 use Rattle.spread.specs.Spread.{zeroOf, spreadOf}
 use Rattle.spread.specs.Cut.{bestCut}
 use Rattle.heap.specs.Heap.{Item, Room, item, putIn, takeOut, viewRoom}

@@ -15,12 +15,12 @@ use Rattle.table.specs.Cell.{View}
 use Rattle.table.specs.Sound.{limit}
 use Rattle.table.proofs.Soundness.{Sound}
 use Rattle.boxes.specs.declared.sides.Bounds.{Bounds}
-use Rattle.sums.specs.declared.Stats.{Stats}
+use Rattle.sums.specs.declared.box_sums.Stats.{Stats}
 use Rattle.boxes.specs.Box.{maxAt, lowSide, highSide, Within}
 use Rattle.sums.specs.Box.{statsOf}
 use Rattle.sums.proofs.Laws.{box-sums-high, box-weight-high}
-use Rattle.spread.specs.declared.Position.{Position}
-use Rattle.spread.specs.declared.Position.the-variants.{Nowhere}
+use Rattle.spread.specs.declared.position.Position.{Position}
+use Rattle.spread.specs.declared.position.Position.the-variants.{Nowhere}
 use Rattle.spread.specs.Spread.{Plain}
 use Rattle.spread.specs.Cut.{positionOf, positionAt, laterWins, better, bestRun}
 

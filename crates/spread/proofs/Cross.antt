@@ -1,29 +1,27 @@
 -- Laws of the walk through the bins of one dimension: the four places that it reads hold what inclusion and exclusion
 -- need.
 -- Assumes nothing.
-use mathlib.Core.Path.{_≡_, refl, sym, ap, subst, _∙_}
-use mathlib.Core.List.{List}
+use mathlib.Core.Path.{_≡_, refl, ap, _∙_}
 use Prim.Native.Nat.{ℕ, zero, suc, _+_, _-_, _*_, _≤_, _<_}
 use native.Mathlib.Nat.{add-zero, add-mul, mul-comm, mul-assoc, zero-mul, one-mul, le-trans, le-of-lt}
 use native.Mathlib.Omega.{arith}
-use lib.Dec.{lit<}
 use Rattle.grid.specs.declared.place.Grid.{Grid}
 use Rattle.basics.specs.Dimension.{choose}
 use Rattle.grid.specs.Grid.{sizeAt, placeOf, strideAt, Accepted, Inside}
 use Rattle.grid.proofs.Size.{size-low}
 use Rattle.grid.proofs.Places.{one, two, three, place-lt, bins-high}
 use Rattle.table.specs.declared.cell.Cell.{Cell}
-use Rattle.table.specs.Cell.{View, numberOf, cellOf}
-use Rattle.table.specs.Table.{viewOf}
+use Rattle.table.specs.Cell.{View, cellOf, minusCell, AtLeast}
+use Rattle.table.specs.Table.{Table, viewOf, HasCell}
 use Rattle.boxes.specs.declared.sides.Bounds.{Bounds}
-use Rattle.sums.specs.declared.Stats.{Stats}
 use Rattle.boxes.specs.Box.{minAt, maxAt, lowSide, highSide, slabTo, Within}
-use Rattle.sums.specs.Box.{binSum, boxSum, statsFrom, statsOf}
+use Rattle.sums.specs.Box.{binSum, boxSum, boxCell}
 use Rattle.table.specs.Sound.{limit}
-use Rattle.sums.specs.Moments.{CanSum, Corner, binCell}
-use Rattle.sums.proofs.Corners.{first-from, second-from, third-from, no-first, no-second, no-third, zeros-are, corner-inside, corner-cell, corner-number, corner-squares, stats-by, cell-stats}
-use Rattle.spread.specs.Walk.{outerOf, innerOf, startOf, HasRecord}
-use Rattle.spread.proofs.Sides.{Exact, Less, stats-less}
+use Rattle.sums.specs.Moments.{CanSum}
+use Rattle.sums.specs.Inner.{Corner, binCell}
+use Rattle.sums.proofs.Corners.{first-from, second-from, third-from, no-first, no-second, no-third, zeroCell, zeros-are, zeros-cell, corner-inside, corner-cell, corner-is, from-least, from-is}
+
+use Rattle.spread.specs.Inner.{outerOf, innerOf, startOf, combinedCell, CanCombine}
 
 pub outer-rest : (d : ℕ) → (d ≡ 0 → ⊥) → outerOf d ≡ 0
 unfolding outerOf choose
@@ -61,15 +59,34 @@ module _ (g : Grid) (v : View) where
   cross-box x (suc (suc d)) n j = ap (λ (m : ℕ). binSum g v (x .r0) (x .r1 - x .r0) (x .g0) (x .g1 - x .g0) 0 m j) (from-edge n)
 
   -- and nothing before the first
-  none : (x : Bounds) (d : ℕ) → _≡_ {A = Cell} (record { weight = 0; sum1 = 0; sum2 = 0; sum3 = 0; squares = 0 }) (cellOf (boxSum g v (slabTo x d 0)))
+  none : (x : Bounds) (d : ℕ) → zeroCell ≡ (cellOf (boxSum g v (slabTo x d 0)))
   unfolding boxSum binCell lowSide highSide choose
   none x zero = zeros-are g v 0 0 (x .g0) (x .g1 - x .g0) (x .b0) (x .b1 - x .b0) (λ j. no-first g v 0 (x .g0) (x .g1 - x .g0) (x .b0) (x .b1 - x .b0) j)
   none x (suc zero) = zeros-are g v (x .r0) (x .r1 - x .r0) 0 0 (x .b0) (x .b1 - x .b0) (λ j. no-second g v (x .r0) (x .r1 - x .r0) 0 (x .b0) (x .b1 - x .b0) j)
   none x (suc (suc d)) = zeros-are g v (x .r0) (x .r1 - x .r0) (x .g0) (x .g1 - x .g0) 0 0 (λ j. no-third g v (x .r0) (x .r1 - x .r0) (x .g0) (x .g1 - x .g0) 0 j)
 
-  pub none-before : (x : Bounds) (d : ℕ) {y : Stats} → y ≡ statsFrom (numberOf (record { weight = 0; sum1 = 0; sum2 = 0; sum3 = 0; squares = 0 })) → y ≡ statsOf g v (slabTo x d 0)
-  unfolding statsOf
-  none-before x d = cell-stats (boxSum g v (slabTo x d 0)) (none x d)
+  pub none-before : (x : Bounds) (d : ℕ) → zeroCell ≡ boxCell g v (slabTo x d 0)
+  unfolding boxCell
+  none-before x d = none x d
+
+  -- nothing before the edge in the outer dimension, or in the inner
+  no-outer : (d n c k j : ℕ) → crossSum g v d n 0 0 c k j ≡ 0
+  unfolding crossSum choose
+  no-outer zero n c k j = no-second g v 0 n 0 c k j
+  no-outer (suc zero) n c k j = no-first g v 0 0 n c k j
+  no-outer (suc (suc d)) n c k j = no-first g v 0 c k 0 n j
+
+  no-inner : (d n a m j : ℕ) → crossSum g v d n a m 0 0 j ≡ 0
+  unfolding crossSum choose
+  no-inner zero n a m j = no-third g v 0 n a m 0 j
+  no-inner (suc zero) n a m j = no-third g v a m 0 n 0 j
+  no-inner (suc (suc d)) n a m j = no-second g v a m 0 0 n j
+
+  pub outer-zeros : (d n : ℕ) {i : ℕ} → i ≡ 0 → (k : ℕ) → zeroCell ≡ cellOf (crossSum g v d n 0 i 0 k)
+  outer-zeros d n {i} e k = zeros-cell (crossSum g v d n 0 i 0 k) (λ j. ap (λ (m : ℕ). crossSum g v d n 0 m 0 k j) e ∙ no-outer d n 0 k j)
+
+  pub inner-zeros : (d n : ℕ) {k : ℕ} → k ≡ 0 → (i : ℕ) → zeroCell ≡ cellOf (crossSum g v d n 0 i 0 k)
+  inner-zeros d n {k} e i = zeros-cell (crossSum g v d n 0 i 0 k) (λ j. ap (λ (m : ℕ). crossSum g v d n 0 i 0 m j) e ∙ no-inner d n 0 i j)
 
 -- ---- the place of a corner
 along-first : (g : Grid) (m a b : ℕ) → placeOf g 0 a b + g .size2 * g .size3 * m ≡ placeOf g m a b
@@ -120,22 +137,23 @@ module _ {g : Grid} (a : Accepted g) {i k p q : ℕ} (e : p ≡ i - 1) (f : q �
         λ t. placeOf g (e t) (f t) 0,
       )
 
--- what is read at a place: the statistics of five numbers
-pub record Reads (w : List ℕ) (p : ℕ) (f : ℕ → ℕ) : Type 0 where
+-- what is read at a place: the cell of five numbers
+pub record Reads (w : Table) (p : ℕ) (f : ℕ → ℕ) : Type 0 where
   pub low : p < 2097152
-  pub has : HasRecord w p
-  pub exact : {y : Stats} → y ≡ statsFrom (viewOf w p) → Exact y f
+  pub has : HasCell w p
+  pub is : {y : Cell} → y ≡ cellOf (viewOf w p) → y ≡ cellOf f
 
-module _ {g : Grid} {t w : List ℕ} (worked : CanSum limit g t w) where
+module _ {g : Grid} {t w : Table} (can-sum : CanSum limit g t w) where
   -- below r, gr and b
-  at-corner : (r gr b : ℕ) → r ≤ g .size1 → gr ≤ g .size2 → b ≤ g .size3 → 0 < r → 0 < gr → 0 < b → {p : ℕ} → p ≡ placeOf g (r - 1) (gr - 1) (b - 1) → Reads w p (binSum g (viewOf t) 0 r 0 gr 0 b)
-  at-corner r gr b h k l r0 gr0 b0 {p} at =
-      let c : Corner g t w r gr b = record { worked = worked; one = h; two = k; three = l } in
-      let squares = corner-squares c r0 gr0 b0 in
+  at-corner : (r gr b : ℕ) → r ≤ g .size1 → gr ≤ g .size2 → b ≤ g .size3 → 0 < r → 0 < gr → 0 < b
+      → {p : ℕ} → p ≡ placeOf g (r - 1) (gr - 1) (b - 1) → Reads w p (binSum g (viewOf t) 0 r 0 gr 0 b)
+  unfolding binCell
+  at-corner r gr b h k l r0 gr0 b0 at =
+      let c : Corner g t w r gr b = record { can-sum = can-sum; one = h; two = k; three = l } in
       record {
-        low = omega (arith, at, place-lt (corner-inside c r0 gr0 b0), bins-high (worked .table .accepted));
-        has = record { cell = corner-cell c r0 gr0 b0 at; squares = omega (arith, corner-number c r0 gr0 b0 at 4 (lit< tt)) };
-        exact = λ e. record { is = e ∙ stats-by (viewOf w p) (binSum g (viewOf t) 0 r 0 gr 0 b) (corner-number c r0 gr0 b0 at); squares = squares };
+        low = omega (arith, at, place-lt (corner-inside c r0 gr0 b0), bins-high (can-sum .table .accepted));
+        has = corner-cell c r0 gr0 b0 at;
+        is = corner-is c r0 gr0 b0 at;
       }
 
   -- below n in dimension d, i and k in the two others
@@ -150,38 +168,47 @@ module _ {g : Grid} {t w : List ℕ} (worked : CanSum limit g t w) where
   box-reads b d n i k N I K = reads d n i k (le-trans N (b .fits d)) (le-trans I (b .fits (outerOf d))) (le-trans K (b .fits (innerOf d)))
 
 -- ---- inclusion and exclusion: first along the inner dimension, then along the outer
--- a run of bins that starts at 0, and one that does not
-from-start : (F : ℕ → ℕ → ℕ → ℕ) {s e : ℕ} → s ≡ 0 → {y : Stats} → Exact y (F 0 e) → Exact y (F s (e - s))
-from-start F {s} {e} z {y} p = subst (λ (f : ℕ → ℕ). Exact y f) (λ i. F (sym z i) (same s e z i)) p
-  where
-    same : (s e : ℕ) → s ≡ 0 → e ≡ e - s
-    same s e z = omega arith
-
-from : (F : ℕ → ℕ → ℕ → ℕ) → ((s e j : ℕ) → s ≤ e → F 0 e j ≡ F 0 s j + F s (e - s) j) → {s e : ℕ} → s ≤ e
-    → {upper lower : Stats} → Exact upper (F 0 e) → Exact lower (F 0 s) → Less upper lower (F s (e - s))
-from F split {s} {e} h p q = stats-less (F 0 e) (F 0 s) (F s (e - s)) (λ j. split s e j h) p (q .is)
-
 module _ {g : Grid} (v : View) {x : Bounds} (b : Within g x) (d n : ℕ) where
-  -- the bins up to an end of the outer dimension
-  abbrev pub rowTo : ℕ → ℕ → ℕ
-  rowTo e = crossSum g v d n 0 e (minAt x (innerOf d)) (maxAt x (innerOf d) - minAt x (innerOf d))
-
-  pub row-start : (e : ℕ) → minAt x (innerOf d) ≡ 0 → {upper : Stats} → Exact upper (crossSum g v d n 0 e 0 (maxAt x (innerOf d))) → Exact upper (rowTo e)
-  row-start e = from-start (crossSum g v d n 0 e)
-
-  pub row : (e : ℕ) {upper lower : Stats} → Exact upper (crossSum g v d n 0 e 0 (maxAt x (innerOf d))) → Exact lower (crossSum g v d n 0 e 0 (minAt x (innerOf d))) → Less upper lower (rowTo e)
-  row e = from (crossSum g v d n 0 e) (inner-from g v d n 0 e) (le-of-lt (b .some (innerOf d)))
+  -- the bins up to an end of the outer dimension and of the inner, and those of the box in the inner
+  abbrev upTo : ℕ → ℕ → ℕ → ℕ
+  upTo i k = crossSum g v d n 0 i 0 k
 
   abbrev across : ℕ → ℕ → ℕ → ℕ
   across a m = crossSum g v d n a m (minAt x (innerOf d)) (maxAt x (innerOf d) - minAt x (innerOf d))
 
-  the-slab : across (minAt x (outerOf d)) (maxAt x (outerOf d) - minAt x (outerOf d)) ≡ boxSum g v (slabTo x d n)
-  the-slab = λ t j. cross-box g v x d n j t
+  inner-some : minAt x (innerOf d) ≤ maxAt x (innerOf d)
+  inner-some = le-of-lt (b .some (innerOf d))
 
-  pub slab-start : minAt x (outerOf d) ≡ 0 → {upper : Stats} → Exact upper (rowTo (maxAt x (outerOf d))) → Exact upper (boxSum g v (slabTo x d n))
-  slab-start z {upper} p = subst (λ (f : ℕ → ℕ). Exact upper f) the-slab (from-start across z p)
+  outer-some : minAt x (outerOf d) ≤ maxAt x (outerOf d)
+  outer-some = le-of-lt (b .some (outerOf d))
 
-  pub slab : {upper lower : Stats} → Exact upper (rowTo (maxAt x (outerOf d))) → Exact lower (rowTo (minAt x (outerOf d))) → Less upper lower (boxSum g v (slabTo x d n))
-  slab {upper} {lower} p q =
-      subst (λ (f : ℕ → ℕ). Less upper lower f) the-slab
-      (from across (outer-from g v d n (minAt x (innerOf d)) (maxAt x (innerOf d) - minAt x (innerOf d))) (le-of-lt (b .some (outerOf d))) p q)
+  -- a row of them
+  module _ (e : ℕ) {upper lower : Cell} (p : upper ≡ cellOf (upTo e (maxAt x (innerOf d)))) (q : lower ≡ cellOf (upTo e (minAt x (innerOf d)))) where
+    row-least : AtLeast upper lower
+    row-least = from-least (crossSum g v d n 0 e) (inner-from g v d n 0 e) inner-some p q
+
+    row-is : minusCell upper lower ≡ cellOf (across 0 e)
+    row-is = from-is (crossSum g v d n 0 e) (inner-from g v d n 0 e) inner-some p q refl
+
+  -- the four that are read
+  module _ {corner left above diagonal : Cell}
+      (c : corner ≡ cellOf (upTo (maxAt x (outerOf d)) (maxAt x (innerOf d))))
+      (l : left ≡ cellOf (upTo (maxAt x (outerOf d)) (minAt x (innerOf d))))
+      (a : above ≡ cellOf (upTo (minAt x (outerOf d)) (maxAt x (innerOf d))))
+      (k : diagonal ≡ cellOf (upTo (minAt x (outerOf d)) (minAt x (innerOf d)))) where
+    abbrev split : (s e j : ℕ) → s ≤ e → across 0 e j ≡ across 0 s j + across s (e - s) j
+    split = outer-from g v d n (minAt x (innerOf d)) (maxAt x (innerOf d) - minAt x (innerOf d))
+
+    pub can-combine : CanCombine corner left above diagonal
+    can-combine =
+        record {
+          row = row-least (maxAt x (outerOf d)) c l;
+          row-above = row-least (minAt x (outerOf d)) a k;
+          rest = from-least across split outer-some (row-is (maxAt x (outerOf d)) c l) (row-is (minAt x (outerOf d)) a k);
+        }
+
+    pub combined-is : {r : Cell} → r ≡ combinedCell corner left above diagonal → r ≡ boxCell g v (slabTo x d n)
+    unfolding combinedCell boxCell
+    combined-is q =
+        from-is across split outer-some (row-is (maxAt x (outerOf d)) c l) (row-is (minAt x (outerOf d)) a k) q
+        ∙ (λ t. cellOf (λ j. cross-box g v x d n j t))

@@ -16,8 +16,8 @@ use Rattle.table.specs.Sound.{limit}
 use Rattle.table.proofs.Soundness.{Sound}
 use Rattle.boxes.specs.declared.sides.Bounds.{Bounds}
 use Rattle.boxes.specs.Box.{minAt, maxAt, Within}
-use Rattle.spread.specs.declared.Position.{Position}
-use Rattle.spread.specs.declared.Position.the-variants.{At, Nowhere}
+use Rattle.spread.specs.declared.position.Position.{Position}
+use Rattle.spread.specs.declared.position.Position.the-variants.{At, Nowhere}
 use Rattle.spread.specs.Cut.{positionAnswer, positionAt, better, laterWins, bestRun, bestIn, bestCut}
 use Rattle.spread.specs.Best.{Good, Candidate, Earlier, Winner, Tells}
 use Rattle.spread.proofs.Best.{never, position-good, good-position}

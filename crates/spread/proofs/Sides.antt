@@ -11,13 +11,13 @@ use Rattle.table.specs.Cell.{View}
 use Rattle.table.specs.Sound.{limit}
 use Rattle.table.proofs.Soundness.{Sound}
 use Rattle.boxes.specs.declared.sides.Bounds.{Bounds}
-use Rattle.sums.specs.declared.Stats.{Stats}
-use Rattle.boxes.specs.Box.{minAt, maxAt, lowSide, highSide, slabTo, Within}
+use Rattle.sums.specs.declared.box_sums.Stats.{Stats}
+use Rattle.boxes.specs.Box.{minAt, maxAt, lowSide, highSide, Within}
 use Rattle.sums.specs.Box.{boxSum, statsFrom, statsOf}
 use Rattle.sums.proofs.Corners.{box-squares}
-use Rattle.sums.proofs.Laws.{cut-sum, slab-sum, slab-squares}
+use Rattle.sums.proofs.Laws.{cut-sum}
 use Rattle.spread.specs.Spread.{whole}
-use Rattle.spread.specs.Walk.{minusStats, Covers}
+use Rattle.spread.specs.Inner.{minusStats, Covers}
 use Rattle.spread.proofs.Rounding.{less-of, of-whole, whole-is}
 
 -- the statistics of five numbers, with squares that f64 holds
@@ -59,16 +59,10 @@ stats-less all part left split {a} {b} p q =
           squares = (less-whole (all 4) (part 4) (omega (arith, split 4)) (p .squares) ∙ ap whole (less 4)) i;
         }
 
--- ---- the two sides of a position
-module _ {g : Grid} {v : View} (s : Sound limit g v) {x : Bounds} (w : Within g x) (d c : ℕ) (h : minAt x d ≤ c) (l : c ≤ maxAt x d) where
-  pub low : {before base : Stats} → before ≡ statsOf g v (slabTo x d c) → base ≡ statsOf g v (slabTo x d (minAt x d)) → Less before base (boxSum g v (lowSide x d c))
-  unfolding statsOf
-  low p q =
-      stats-less (boxSum g v (slabTo x d c)) (boxSum g v (slabTo x d (minAt x d))) (boxSum g v (lowSide x d c)) (λ j. slab-sum g v x d c j h)
-      (record { is = p; squares = slab-squares s w d c l }) q
-
-  pub high : {all low : Stats} → all ≡ statsOf g v x → low ≡ statsOf g v (lowSide x d c) → Less all low (boxSum g v (highSide x d c))
-  unfolding statsOf
-  high p q =
-      stats-less (boxSum g v x) (boxSum g v (lowSide x d c)) (boxSum g v (highSide x d c)) (λ j. cut-sum g v x d c j h l)
-      (record { is = p; squares = box-squares s w }) q
+-- ---- the high side of a position
+pub high : {g : Grid} {v : View} → Sound limit g v → {x : Bounds} → Within g x → (d c : ℕ) → minAt x d ≤ c → c ≤ maxAt x d
+    → {all low : Stats} → all ≡ statsOf g v x → low ≡ statsOf g v (lowSide x d c) → Less all low (boxSum g v (highSide x d c))
+unfolding statsOf
+high {g} {v} s {x} w d c h l p q =
+    stats-less (boxSum g v x) (boxSum g v (lowSide x d c)) (boxSum g v (highSide x d c)) (λ j. cut-sum g v x d c j h l)
+    (record { is = p; squares = box-squares s w }) q

@@ -11,7 +11,7 @@ use Rattle.grid.specs.Grid.{placeOf}
 use Rattle.table.specs.Cell.{View}
 use Rattle.table.specs.Sound.{limit}
 use Rattle.boxes.specs.declared.sides.Bounds.{Bounds}
-use Rattle.sums.specs.declared.Stats.{Stats}
+use Rattle.sums.specs.declared.box_sums.Stats.{Stats}
 use Rattle.sums.specs.Box.{statsOf}
 use Rattle.boxes.specs.Box.{Within, oneBin}
 use Rattle.boxes.specs.Holds.{holds}

@@ -14,7 +14,8 @@ use Rattle.table.specs.Cell.{View}
 use Rattle.table.specs.Sound.{limit, total}
 use Rattle.table.proofs.Soundness.{Sound, number-high, total-high, total-is}
 use Rattle.sums.specs.Box.{sum3, binSum}
-use Rattle.sums.specs.Moments.{belowSum, momentsOf, lineSum}
+use Rattle.sums.specs.Moments.{belowSum, momentsOf}
+use Rattle.sums.specs.Inner.{lineSum}
 use Rattle.sums.proofs.Boxes.{sum3-first, sum3-second, sum3-le, sum3-scale, all-places}
 
 module _ (g : Grid) (v : View) where
@@ -61,24 +62,23 @@ module _ (g : Grid) (v : View) where
   unfolding belowSum binSum
   below-grows r gr b j = omega (arith, sum3-second (bin j) 0 r 0 gr 1 0 b)
 
-  -- and a plane before no more than the plane itself
-  pub below-rises : (r gr b j : ℕ) → belowSum g v r gr b j ≤ belowSum g v (r + 1) gr b j
-  below-rises r gr b j = omega (arith, below-plane r gr b j)
-
 -- number j of all bins
 pub all-bins : (g : Grid) (v : View) (j : ℕ) → belowSum g v (g .size1) (g .size2) (g .size3) j ≡ sumFrom 0 (binsOf g) (λ p. v p j)
 unfolding belowSum binSum
 all-bins g v j = sym (all-places g (λ p. v p j))
 
-module _ {g : Grid} {v : View} (a : Accepted g) (s : Sound limit g v) where
-  -- the whole grid has the most
-  pub below-all : (r gr b j : ℕ) → r ≤ g .size1 → gr ≤ g .size2 → b ≤ g .size3 → belowSum g v r gr b j ≤ belowSum g v (g .size1) (g .size2) (g .size3) j
-  unfolding belowSum binSum sum3
-  below-all r gr b j h k l =
-      le-trans (sum-grow 0 r (g .size1) _ h)
-      (sum-le 0 (g .size1) _ _
-      (λ x i t. le-trans (sum-grow 0 gr (g .size2) _ k) (sum-le 0 (g .size2) _ _ (λ y m u. sum-grow 0 b (g .size3) (λ z. v (placeOf g x y z) j) l))))
+-- the whole grid has the most
+pub below-all : (g : Grid) (v : View) (r gr b j : ℕ) → r ≤ g .size1 → gr ≤ g .size2 → b ≤ g .size3
+    → belowSum g v r gr b j ≤ belowSum g v (g .size1) (g .size2) (g .size3) j
+unfolding belowSum binSum sum3
+below-all g v r gr b j h k l =
+    le-trans (sum-grow 0 r (g .size1) _ h)
+    (sum-le 0 (g .size1) _ _
+    (λ x i t.
+    le-trans (sum-grow 0 gr (g .size2) _ k)
+    (sum-le 0 (g .size2) _ _ (λ y m u. sum-grow 0 b (g .size3) (λ z. v (placeOf g x y z) j) l))))
 
+module _ {g : Grid} {v : View} (a : Accepted g) (s : Sound limit g v) where
   all-high : (j : ℕ) → j < 5 → belowSum g v (g .size1) (g .size2) (g .size3) j ≤ 195075 * total g v
   unfolding belowSum binSum
   all-high j h =
@@ -89,4 +89,4 @@ module _ {g : Grid} {v : View} (a : Accepted g) (s : Sound limit g v) where
   -- every moment is below 2^50
   pub below-small : (r gr b j : ℕ) → r ≤ g .size1 → gr ≤ g .size2 → b ≤ g .size3 → j < 5 → belowSum g v r gr b j < 2 ^ 50
   below-small r gr b j h k l m =
-      omega (arith, below-all r gr b j h k l, all-high j m, total-high s)
+      omega (arith, below-all g v r gr b j h k l, all-high j m, total-high s)

@@ -1,32 +1,35 @@
 -- A box's sum from the moments, by inclusion and exclusion.
 -- Assumes nothing.
 use mathlib.Core.Path.{_≡_, refl, sym, ap, _∙_}
-use mathlib.Core.List.{List}
 use Prim.Native.Nat.{ℕ, _+_, _-_, _^_, _≤_, _<_}
 use native.Mathlib.Nat.{zero-add}
 use native.Mathlib.Omega.{arith}
 use lib.Dec.{lit<}
 use Rattle.grid.specs.declared.place.Grid.{Grid}
 use Rattle.basics.specs.Range.{sumFrom}
-use Rattle.grid.specs.Grid.{Inside, sizeAt, binsOf, placeOf}
-use Rattle.basics.specs.Dimension.{choose}
+use Rattle.grid.specs.Grid.{Inside, placeOf}
 use Rattle.basics.proofs.Range.{sum-zero, sum-same}
 use Rattle.grid.proofs.Places.{place-lt}
 use Rattle.table.specs.declared.cell.Cell.{Cell}
 use Rattle.table.specs.Cell.{View, cellOf, numberOf, minusCell, AtLeast}
-use Rattle.table.specs.Table.{viewOf, HasCell}
+use Rattle.table.specs.Table.{Table, viewOf, HasCell}
 use Rattle.table.specs.Sound.{limit}
-use Rattle.table.proofs.Tables.{has-cell, Holds, list-holds}
+use Rattle.table.proofs.Tables.{has-cell}
 use Rattle.table.proofs.Cells.{number-cell, cell-by, Fields, cell-fields, minus-least, minus-is, zero-cell}
 use Rattle.table.proofs.Soundness.{Sound}
 use Rattle.boxes.specs.declared.sides.Bounds.{Bounds}
-use Rattle.sums.specs.declared.Stats.{Stats}
+use Rattle.sums.specs.declared.box_sums.Stats.{Stats}
 use Rattle.boxes.specs.Box.{minAt, maxAt, Within}
 use Rattle.sums.specs.Box.{sum3, binSum, boxSum, statsFrom}
-use Rattle.sums.specs.Moments.{belowSum, momentsOf, binCell, Corner}
+use Rattle.sums.specs.Moments.{belowSum}
+use Rattle.sums.specs.Inner.{binCell, Corner}
 use Rattle.boxes.proofs.Within.{Sides, sides}
 use Rattle.sums.proofs.Boxes.{sum3-first, sum3-second, sum3-third}
 use Rattle.sums.proofs.Below.{moments-at, below-small}
+
+-- a cell of zeros
+abbrev pub zeroCell : Cell
+zeroCell = record { weight = 0; sum1 = 0; sum2 = 0; sum3 = 0; squares = 0 }
 
 -- no bins
 pub no-first : (g : Grid) (v : View) (a b m c k j : ℕ) → binSum g v a 0 b m c k j ≡ 0
@@ -85,15 +88,17 @@ module _ (F : ℕ → ℕ → ℕ → ℕ) (split : (s e j : ℕ) → s ≤ e �
       same = omega arith
 
 -- zeros where there are no bins
-pub zeros-are : (g : Grid) (v : View) (a n b m c k : ℕ) → ((j : ℕ) → binSum g v a n b m c k j ≡ 0) → _≡_ {A = Cell} (record { weight = 0; sum1 = 0; sum2 = 0; sum3 = 0; squares = 0 }) (binCell g v a n b m c k)
+pub zeros-cell : (f : ℕ → ℕ) → ((j : ℕ) → f j ≡ 0) → zeroCell ≡ cellOf f
+zeros-cell f e =
+    zero-cell ∙ cell-by (cellOf (λ j. 0)) (cellOf f) (λ j h. number-cell (λ i. 0) j h ∙ sym (number-cell f j h ∙ e j))
+
+pub zeros-are : (g : Grid) (v : View) (a n b m c k : ℕ) → ((j : ℕ) → binSum g v a n b m c k j ≡ 0)
+    → zeroCell ≡ binCell g v a n b m c k
 unfolding binCell
-zeros-are g v a n b m c k e =
-    zero-cell
-    ∙ cell-by (cellOf (λ j. 0)) (cellOf (binSum g v a n b m c k))
-    (λ j h. number-cell (λ i. 0) j h ∙ sym (number-cell (binSum g v a n b m c k) j h ∙ e j))
+zeros-are g v a n b m c k e = zeros-cell (binSum g v a n b m c k) e
 
 -- the work table at a corner
-module _ {g : Grid} {t w : List ℕ} {r gr b : ℕ} (c : Corner g t w r gr b) where
+module _ {g : Grid} {t w : Table} {r gr b : ℕ} (c : Corner g t w r gr b) where
   before : (n : ℕ) → 0 < n → (n - 1) + 1 ≡ n
   before n h = omega arith
 
@@ -101,23 +106,20 @@ module _ {g : Grid} {t w : List ℕ} {r gr b : ℕ} (c : Corner g t w r gr b) wh
     pub corner-inside : Inside g (r - 1) (gr - 1) (b - 1)
     corner-inside =
         record {
-          accepted = c .worked .table .accepted;
+          accepted = c .can-sum .table .accepted;
           one = omega (arith, c .one);
           two = omega (arith, c .two);
           three = omega (arith, c .three);
         }
 
-    holds : Holds (binsOf g) w (momentsOf g (viewOf t))
-    holds = rw (c .worked .moments) (list-holds (binsOf g) (momentsOf g (viewOf t)))
-
     pub corner-cell : {p : ℕ} → p ≡ placeOf g (r - 1) (gr - 1) (b - 1) → HasCell w p
-    corner-cell {p} at = has-cell (holds .lent) p (omega (arith, place-lt corner-inside, at))
+    corner-cell {p} at = has-cell (c .can-sum .work) p (omega (arith, place-lt corner-inside, at))
 
-    pub corner-number : {p : ℕ} → p ≡ placeOf g (r - 1) (gr - 1) (b - 1) → (j : ℕ) → j < 5 → viewOf w p j ≡ binSum g (viewOf t) 0 r 0 gr 0 b j
+    corner-number : {p : ℕ} → p ≡ placeOf g (r - 1) (gr - 1) (b - 1) → (j : ℕ) → j < 5 → viewOf w p j ≡ binSum g (viewOf t) 0 r 0 gr 0 b j
     unfolding belowSum
     corner-number at j m =
         ap (λ (n : ℕ). viewOf w n j) at
-        ∙ holds .at (placeOf g (r - 1) (gr - 1) (b - 1)) j (place-lt corner-inside) m
+        ∙ c .can-sum .has-moments .at (placeOf g (r - 1) (gr - 1) (b - 1)) j (place-lt corner-inside) m
         ∙ moments-at g (viewOf t) (r - 1) (gr - 1) (b - 1) j (corner-inside .two) (corner-inside .three)
         ∙ (λ i. binSum g (viewOf t) 0 (before r h i) 0 (before gr k i) 0 (before b l i) j)
 
@@ -130,11 +132,6 @@ module _ {g : Grid} {t w : List ℕ} {r gr b : ℕ} (c : Corner g t w r gr b) wh
         ∙ number-cell (viewOf w p) j m
         ∙ corner-number at j m
         ∙ sym (number-cell (binSum g (viewOf t) 0 r 0 gr 0 b) j m))
-
-    pub corner-squares : binSum g (viewOf t) 0 r 0 gr 0 b 4 ≤ 2 ^ 53
-    unfolding belowSum
-    corner-squares =
-        omega (arith, below-small (c .worked .table .accepted) (record { holds = c .worked .is-sound }) r gr b 4 (c .one) (c .two) (c .three) (lit< tt))
 
 -- a box has no more than the bins below its ends
 pub box-below : (g : Grid) (v : View) (x : Bounds) (j : ℕ) → Sides g x → boxSum g v x j ≤ belowSum g v (x .r1) (x .g1) (x .b1) j

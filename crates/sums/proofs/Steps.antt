@@ -1,8 +1,8 @@
 -- One bin after the other: the work table before a bin, the cells that its moments are made of, and the work table after it.
 -- Assumes nothing.
-use mathlib.Core.Path.{_≡_, sym, ap, subst, _∙_}
-use mathlib.Core.List.{List}
-use Prim.Native.Nat.{ℕ, suc, _+_, _-_, _*_, _^_, _≤_, _<_}
+use mathlib.Core.Path.{_≡_, refl, sym, ap, subst, _∙_}
+use mathlib.Core.Bool.{true}
+use Prim.Native.Nat.{ℕ, zero, suc, _+_, _-_, _*_, _^_, _≤_, _<_}
 use native.Mathlib.Nat.{zero-add, mul-le-mul-right, add-mul, one-mul, suc-mul, lt-trans}
 use native.Mathlib.Decide.{decLe, ℕ-discrete}
 use native.Mathlib.Omega.{arith}
@@ -15,13 +15,15 @@ use Rattle.grid.proofs.Size.{size-low}
 use Rattle.grid.proofs.Places.{two, three, place-lt, place-along}
 use Rattle.table.specs.declared.cell.Cell.{Cell}
 use Rattle.table.specs.Cell.{View, numberOf, cellOf, plusCell, minusCell, SumsFit, AtLeast}
-use Rattle.table.specs.Table.{Table, Sized, viewOf, written, putAt, HasCell, Held}
-use Rattle.table.specs.Sound.{limit}
+use Rattle.table.specs.Table.{Table, Sized, viewOf, written, putAt, HasCell, Held, TableOf}
+use Rattle.table.specs.Sound.{limit, sound as soundFor}
 use Rattle.table.proofs.Cells.{number-cell, number-plus, number-minus, cell-by, zero-cell}
-use Rattle.table.proofs.Tables.{has-cell, holds-list, put-sized, put-there, put-elsewhere}
+use Rattle.table.proofs.Tables.{has-cell, list-holds, holds-list, put-sized, put-there, put-elsewhere}
 use Rattle.table.proofs.Soundness.{Sound}
-use Rattle.sums.specs.Moments.{belowSum, momentsOf, lineSum, momentCell, lineCell, Lent, Before, Ready}
-use Rattle.sums.proofs.Below.{moments-at, below-none, below-no-row, below-step, below-grows, below-rises, below-small}
+use Rattle.sums.specs.Moments.{belowSum, momentsOf, HasMoments, ForMoments, CanSum}
+use Rattle.sums.specs.Inner.{lineSum, momentCell, lineCell, Before, Ready, joinedCell, CanJoin, withMoment}
+use Rattle.sums.proofs.Corners.{zeroCell}
+use Rattle.sums.proofs.Below.{moments-at, below-none, below-no-row, below-step, below-grows, below-small}
 
 -- ---- places before a place
 earlier : (q' q d b : ℕ) → 0 < d → q' < q → q' * d + b < q * d + b
@@ -34,16 +36,25 @@ rows-earlier r' r gr' gr d p h k l = go (decLe r r')
     go (yes e) = omega (arith, mul-le-mul-right {m = r'} {n = r} d h)
     go (no n) = omega (arith, mul-le-mul-right {m = suc r'} {n = r} d (omega arith), suc-mul r' d)
 
+-- a cell of zeros
+zero-number : (j : ℕ) → numberOf zeroCell j ≡ 0
+unfolding numberOf
+zero-number zero = refl
+zero-number (suc zero) = refl
+zero-number (suc (suc zero)) = refl
+zero-number (suc (suc (suc zero))) = refl
+zero-number (suc (suc (suc (suc j)))) = refl
+
 -- a cell has the sums of the bins below r, gr and b + 1
 pub record Has (g : Grid) (v : View) (b : ℕ) (c : Cell) (r gr : ℕ) : Type 0 where
   pub at : (j : ℕ) → j < 5 → numberOf c j ≡ belowSum g v r gr (b + 1) j
 
-module _ {g : Grid} {t w : List ℕ} {r gr b : ℕ} (ready : Ready g t w r gr b) where
+module _ {g : Grid} {t w : Table} {r gr b : ℕ} (ready : Ready g t w r gr b) where
   sizes : Accepted g
   sizes = ready .inside .accepted
 
   sound : Sound limit g (viewOf t)
-  sound = record { holds = ready .before .is-sound }
+  sound = record { holds = ready .before .tables .is-sound }
 
   -- the line through the bin
   pub line-number : {c : Cell} → c ≡ lineCell g (viewOf t) r gr (b + 1) → (j : ℕ) → j < 5 → numberOf c j ≡ lineSum g (viewOf t) r gr (b + 1) j
@@ -65,7 +76,7 @@ module _ {g : Grid} {t w : List ℕ} {r gr b : ℕ} (ready : Ready g t w r gr b)
 
     module _ {p : ℕ} (at : p ≡ placeOf g r' gr' b) where
       pub near-cell : HasCell w p
-      near-cell = has-cell (ready .before .lent) p (omega (arith, place-lt near, at))
+      near-cell = has-cell (ready .before .tables .work) p (omega (arith, place-lt near, at))
 
       pub near-number : r' + gr' < r + gr → {c : Cell} → c ≡ cellOf (viewOf w p) → (j : ℕ) → j < 5 → numberOf c j ≡ belowSum g (viewOf t) (r' + 1) (gr' + 1) (b + 1) j
       unfolding placeOf
@@ -73,7 +84,7 @@ module _ {g : Grid} {t w : List ℕ} {r gr b : ℕ} (ready : Ready g t w r gr b)
           ap (λ (x : Cell). numberOf x j) e
           ∙ number-cell (viewOf w p) j m
           ∙ ap (λ (q : ℕ). viewOf w q j) at
-          ∙ ready .before .made (placeOf g r' gr' b) j
+          ∙ ready .before .made .at (placeOf g r' gr' b) j
           (earlier (r' * g .size2 + gr') (r * g .size2 + gr) (g .size3) b (omega (arith, size-low (three sizes))) (rows-earlier r' r gr' gr (g .size2) (omega (arith, size-low (two sizes))) h k l)) m
           ∙ moments-at g (viewOf t) r' gr' b j (near .two) (near .three)
 
@@ -110,78 +121,57 @@ module _ {g : Grid} {t w : List ℕ} {r gr b : ℕ} (ready : Ready g t w r gr b)
             ∙ (λ i. belowSum g (viewOf t) (back r h i) (back gr l i) (b + 1) j);
       }
 
-  no-plane : r ≡ 0 → (gr' j : ℕ) → belowSum g (viewOf t) r gr' (b + 1) j ≡ 0
-  no-plane e gr' j = rw e (below-none g (viewOf t) gr' (b + 1) j)
+  -- zeros where there is no plane before, or no row above
+  pub no-plane : r ≡ 0 → (gr' : ℕ) → Has g (viewOf t) b zeroCell r gr'
+  no-plane e gr' = record { at = λ j k. zero-number j ∙ sym (rw e (below-none g (viewOf t) gr' (b + 1) j)) }
 
-  no-row : gr ≡ 0 → (r' j : ℕ) → belowSum g (viewOf t) r' gr (b + 1) j ≡ 0
-  no-row e r' j = rw e (below-no-row g (viewOf t) r' (b + 1) j)
+  pub no-row : gr ≡ 0 → (r' : ℕ) → Has g (viewOf t) b zeroCell r' gr
+  no-row e r' = record { at = λ j k. zero-number j ∙ sym (rw e (below-no-row g (viewOf t) r' (b + 1) j)) }
 
-  module _ {l : Cell} (e : l ≡ lineCell g (viewOf t) r gr (b + 1)) where
-    -- what the moments at the bin are made of, and that they fit
-    record Made (j : ℕ) : Type 0 where
-      step : belowSum g (viewOf t) (r + 1) (gr + 1) (b + 1) j + belowSum g (viewOf t) r gr (b + 1) j ≡ numberOf l j + belowSum g (viewOf t) (r + 1) gr (b + 1) j + belowSum g (viewOf t) r (gr + 1) (b + 1) j
-      row : belowSum g (viewOf t) r gr (b + 1) j ≤ belowSum g (viewOf t) r (gr + 1) (b + 1) j
-      plane : belowSum g (viewOf t) r gr (b + 1) j ≤ belowSum g (viewOf t) (r + 1) gr (b + 1) j
-      fits : belowSum g (viewOf t) (r + 1) (gr + 1) (b + 1) j < 2 ^ 50
-      goal : numberOf (momentCell g (viewOf t) (placeOf g r gr b)) j ≡ belowSum g (viewOf t) (r + 1) (gr + 1) (b + 1) j
+  -- the line and the three neighbours make the moments at the bin, and fit
+  module _ {l : Cell} (e : l ≡ lineCell g (viewOf t) r gr (b + 1))
+      {above : Cell} (ha : Has g (viewOf t) b above (r + 1) gr)
+      {before : Cell} (hb : Has g (viewOf t) b before r (gr + 1))
+      {corner : Cell} (hc : Has g (viewOf t) b corner r gr) where
+    -- the rule of inclusion and exclusion, for number j
+    record Rule (j : ℕ) : Type 0 where
+      step : numberOf l j + numberOf above j + (numberOf before j - numberOf corner j)
+          ≡ belowSum g (viewOf t) (r + 1) (gr + 1) (b + 1) j
+      least : numberOf corner j ≤ numberOf before j
 
-    made : (j : ℕ) → j < 5 → Made j
-    made j h =
+    rule : (j : ℕ) → j < 5 → Rule j
+    rule j h =
+        let row = below-grows g (viewOf t) r gr (b + 1) j in
         record {
-          step = below-step g (viewOf t) r gr (b + 1) j
-              ∙ ap (λ (x : ℕ). x + belowSum g (viewOf t) (r + 1) gr (b + 1) j + belowSum g (viewOf t) r (gr + 1) (b + 1) j) (sym (line-number e j h));
-          row = below-grows g (viewOf t) r gr (b + 1) j;
-          plane = below-rises g (viewOf t) r gr (b + 1) j;
-          fits = small r gr (omega arith) (omega arith) j h;
-          goal = goal-number j h;
+          step = omega (
+            arith,
+            below-step g (viewOf t) r gr (b + 1) j,
+            row,
+            line-number e j h,
+            ha .at j h,
+            hb .at j h,
+            hc .at j h,
+          );
+          least = omega (arith, row, hb .at j h, hc .at j h);
         }
 
-    pub only-line : r ≡ 0 → gr ≡ 0 → l ≡ momentCell g (viewOf t) (placeOf g r gr b)
-    only-line h k =
-        cell-by l (momentCell g (viewOf t) (placeOf g r gr b))
-        (λ j m. let f = made j m in omega (arith, f .step, f .goal, no-plane h gr j, no-plane h (gr + 1) j, no-row k (r + 1) j))
+    pub can-join : CanJoin l above before corner
+    can-join =
+        record {
+          least = record { least = λ j h. rule j h .least };
+          fits = λ j h. omega (arith, rule j h .step, small r gr (omega arith) (omega arith) j h);
+        }
 
-    module _ {a : Cell} (ha : Has g (viewOf t) b a (r + 1) gr) where
-      pub above-room : SumsFit l a
-      above-room = record { fits = λ j m. let f = made j m in omega (arith, f .step, f .row, f .fits, ha .at j m) }
-
-      pub with-above : r ≡ 0 → {s : Cell} → s ≡ plusCell l a → s ≡ momentCell g (viewOf t) (placeOf g r gr b)
-      with-above h {s} q =
-          cell-by s (momentCell g (viewOf t) (placeOf g r gr b))
-          (λ j m.
-          let f = made j m in
-          omega (arith, ap (λ (x : Cell). numberOf x j) q, number-plus l a j m, f .step, f .goal, ha .at j m, no-plane h gr j, no-plane h (gr + 1) j))
-
-    module _ {c : Cell} (hc : Has g (viewOf t) b c r (gr + 1)) where
-      pub before-room : SumsFit l c
-      before-room = record { fits = λ j m. let f = made j m in omega (arith, f .step, f .plane, f .fits, hc .at j m) }
-
-      pub with-before : gr ≡ 0 → {s : Cell} → s ≡ plusCell l c → s ≡ momentCell g (viewOf t) (placeOf g r gr b)
-      with-before h {s} q =
-          cell-by s (momentCell g (viewOf t) (placeOf g r gr b))
-          (λ j m.
-          let f = made j m in
-          omega (arith, ap (λ (x : Cell). numberOf x j) q, number-plus l c j m, f .step, f .goal, hc .at j m, no-row h r j, no-row h (r + 1) j))
-
-      module _ {d : Cell} (hd : Has g (viewOf t) b d r gr) where
-        pub corner-least : AtLeast c d
-        corner-least = record { least = λ j m. let f = made j m in omega (arith, f .row, hc .at j m, hd .at j m) }
-
-        module _ {a : Cell} (ha : Has g (viewOf t) b a (r + 1) gr) {s : Cell} (q : s ≡ plusCell l a) {x : Cell} (o : x ≡ minusCell c d) where
-          pub rest-room : SumsFit s x
-          rest-room =
-              record {
-                fits = λ j m.
-                    let f = made j m in
-                    omega (arith, ap (λ (y : Cell). numberOf y j) q, number-plus l a j m, ap (λ (y : Cell). numberOf y j) o, number-minus c d j m, f .step, f .row, f .fits, ha .at j m, hc .at j m, hd .at j m);
-              }
-
-          pub with-all : {y : Cell} → y ≡ plusCell s x → y ≡ momentCell g (viewOf t) (placeOf g r gr b)
-          with-all {y} u =
-              cell-by y (momentCell g (viewOf t) (placeOf g r gr b))
-              (λ j m.
-              let f = made j m in
-              omega (arith, ap (λ (z : Cell). numberOf z j) u, number-plus s x j m, ap (λ (z : Cell). numberOf z j) q, number-plus l a j m, ap (λ (z : Cell). numberOf z j) o, number-minus c d j m, f .step, f .goal, f .row, ha .at j m, hc .at j m, hd .at j m))
+    pub joined-is : {y : Cell} → y ≡ joinedCell l above before corner → y ≡ momentCell g (viewOf t) (placeOf g r gr b)
+    unfolding joinedCell
+    joined-is {y} q =
+        cell-by y (momentCell g (viewOf t) (placeOf g r gr b))
+        (λ j h.
+        ap (λ (x : Cell). numberOf x j) q
+        ∙ number-plus (plusCell l above) (minusCell before corner) j h
+        ∙ (λ i. number-plus l above j h i + number-minus before corner j h i)
+        ∙ rule j h .step
+        ∙ sym (goal-number j h))
 
   -- ---- the line, one bin on
   line-small : (j : ℕ) → j < 5 → lineSum g (viewOf t) r gr (b + 1) j < 2 ^ 50
@@ -217,21 +207,27 @@ module _ {g : Grid} {t w : List ℕ} {r gr b : ℕ} (ready : Ready g t w r gr b)
         ∙ sym (number-cell (lineSum g (viewOf t) r gr (b + 1)) j h))
 
   pub table-cell : {p : ℕ} → p ≡ placeOf g r gr b → HasCell t p
-  table-cell {p} at = has-cell (ready .before .table .lent) p (omega (arith, place-lt (ready .inside), at))
+  table-cell {p} at = has-cell (ready .before .tables .table .lent) p (omega (arith, place-lt (ready .inside), at))
 
   -- ---- the work table, one bin on
-  pub one-on : {e : List ℕ} → e ≡ putAt w (placeOf g r gr b) (momentCell g (viewOf t) (placeOf g r gr b)) → Before g t e (placeOf g r gr b + 1)
-  unfolding momentCell
+  pub one-on : {e : Table} → e ≡ withMoment g (viewOf t) w (placeOf g r gr b) → Before g t e (placeOf g r gr b + 1)
+  unfolding momentCell withMoment
   one-on {e} u =
       record {
-        table = ready .before .table;
-        is-sound = ready .before .is-sound;
-        lent = subst (λ (x : Table). Sized x (binsOf g)) (sym u) (put-sized (ready .before .lent) (placeOf g r gr b) (momentCell g (viewOf t) (placeOf g r gr b)));
-        made = λ q j h k. ap (λ (x : List ℕ). viewOf x q j) u ∙ go q j h k (ℕ-discrete (placeOf g r gr b) q);
+        tables = record {
+          table = ready .before .tables .table;
+          is-sound = ready .before .tables .is-sound;
+          work =
+              subst (λ (x : Table). Sized x (binsOf g)) (sym u) (put-sized (ready .before .tables .work) (placeOf g r gr b) cell);
+        };
+        made = record { at = λ q j h k. ap (λ (x : Table). viewOf x q j) u ∙ go q j h k (ℕ-discrete (placeOf g r gr b) q) };
       }
     where
+      cell : Cell
+      cell = momentCell g (viewOf t) (placeOf g r gr b)
+
       has : HasCell w (placeOf g r gr b)
-      has = has-cell (ready .before .lent) (placeOf g r gr b) (place-lt (ready .inside))
+      has = has-cell (ready .before .tables .work) (placeOf g r gr b) (place-lt (ready .inside))
 
       go : (q j : ℕ) → q < placeOf g r gr b + 1 → j < 5 → Dec (placeOf g r gr b ≡ q) → viewOf (putAt w (placeOf g r gr b) (momentCell g (viewOf t) (placeOf g r gr b))) q j ≡ momentsOf g (viewOf t) q j
       go q j h k (yes d) =
@@ -241,27 +237,41 @@ module _ {g : Grid} {t w : List ℕ} {r gr b : ℕ} (ready : Ready g t w r gr b)
           ∙ ap (λ (n : ℕ). momentsOf g (viewOf t) n j) d
       go q j h k (no d) =
           put-elsewhere w (placeOf g r gr b) (momentCell g (viewOf t) (placeOf g r gr b)) has q j k d
-          ∙ ready .before .made q j (omega arith) k
+          ∙ ready .before .made .at q j (omega arith) k
 
 -- ---- rows and planes of bins
-pub line-start : (g : Grid) (v : View) (r gr : ℕ) → _≡_ {A = Cell} (record { weight = 0; sum1 = 0; sum2 = 0; sum3 = 0; squares = 0 }) (lineCell g v r gr 0)
+pub line-start : (g : Grid) (v : View) (r gr : ℕ) → zeroCell ≡ lineCell g v r gr 0
 unfolding lineCell lineSum sumFrom
 line-start g v r gr = zero-cell
 
-pub before-same : {g : Grid} {t w : List ℕ} {p : ℕ} → Before g t w p → {q : ℕ} → p ≡ q → Before g t w q
+pub before-same : {g : Grid} {t w : Table} {p : ℕ} → Before g t w p → {q : ℕ} → p ≡ q → Before g t w q
 before-same {g} {t} {w} h e = subst (λ (n : ℕ). Before g t w n) e h
 
 pub add-one-mul : (k n : ℕ) → (k + 1) * n ≡ k * n + n
 add-one-mul k n = add-mul k 1 n ∙ ap (λ (x : ℕ). k * n + x) (one-mul n)
 
 -- the next bin of a row
-pub row-ready : {g : Grid} {t w : List ℕ} {r gr b : ℕ} → Inside g r gr b → Before g t w (placeOf g r gr 0 + b) → Ready g t w r gr b
+pub row-ready : {g : Grid} {t w : Table} {r gr b : ℕ} → Inside g r gr b → Before g t w (placeOf g r gr 0 + b) → Ready g t w r gr b
 row-ready {g} {r = r} {gr} {b} i h = record { inside = i; before = before-same h (place-along g r gr b) }
 
 -- nothing is made yet, and all is made
-pub none-made : {g : Grid} {t w : List ℕ} → Lent g t w → Before g t w 0
-none-made l =
-    record { table = l .table; is-sound = l .is-sound; lent = l .work; made = λ q j h k. absurd (omega arith) }
+pub none-made : {g : Grid} {t w : Table} → ForMoments limit g t w → Before g t w 0
+none-made l = record { tables = l; made = record { at = λ q j h k. absurd (omega arith) } }
 
-pub all-made : {g : Grid} {t w : List ℕ} → Before g t w (binsOf g) → w ≡ written (binsOf g) (momentsOf g (viewOf t))
-all-made b = holds-list (record { lent = b .lent; at = b .made })
+pub all-made : {g : Grid} {t w : Table} → Before g t w (binsOf g) → w ≡ written (binsOf g) (momentsOf g (viewOf t))
+all-made b = holds-list (record { lent = b .tables .work; at = b .made .at })
+
+-- a work table that the moments were written into holds them, and boxes can be summed from it
+pub holds-moments : (g : Grid) (v : View) {w : Table} → w ≡ written (binsOf g) (momentsOf g v) → HasMoments g v (viewOf w)
+holds-moments g v e = record { at = rw e (list-holds (binsOf g) (momentsOf g v) .at) }
+
+pub sums-can : {most : ℕ} {g : Grid} {t w : Table} → TableOf g t → soundFor most g (viewOf t) ≡ true
+    → w ≡ written (binsOf g) (momentsOf g (viewOf t)) → CanSum most g t w
+sums-can {most} {g} {t} {w} h s e =
+    record {
+      table = h;
+      is-sound = s;
+      work =
+          subst (λ (x : Table). Sized x (binsOf g)) (sym e) (list-holds (binsOf g) (momentsOf g (viewOf t)) .lent);
+      has-moments = holds-moments g (viewOf t) e;
+    }

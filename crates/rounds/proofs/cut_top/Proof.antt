@@ -10,7 +10,7 @@ use Rattle.table.specs.Cell.{View}
 use Rattle.table.specs.Table.{viewOf}
 use Rattle.boxes.specs.declared.sides.Bounds.{Bounds}
 use Rattle.boxes.specs.Box.{Within}
-use Rattle.spread.specs.declared.Position.the-variants.{Nowhere}
+use Rattle.spread.specs.declared.position.Position.the-variants.{Nowhere}
 use Rattle.spread.specs.Cut.{bestCut}
 use Rattle.heap.specs.Heap.{Room, putIn}
 use Rattle.rounds.specs.Loop.{noItem, itself, roomIn}
