@@ -18,7 +18,8 @@ use Rattle.sums.specs.declared.Stats.{Stats}
 use Rattle.sums.specs.Box.{statsOf}
 use Rattle.sums.proofs.Laws.{box-sums-high, box-weight-high}
 use Rattle.cutter.specs.Fronts.{filled, putFrom}
-use Rattle.cutter.specs.Palette.{meanOf, colourOf, countOf, bytesOf, itsColour, itsCount, coloursOf, paletteLater, countsLater, frontOf, statsColour, withColourAt, Coloured, Occupied}
+use Rattle.cutter.specs.Palette.{meanOf, colourOf, countOf, bytesOf, itsColour, itsCount, coloursOf, paletteLater, countsLater, frontOf}
+use Rattle.cutter.specs.Inner.{statsColour, withColourAt, Coloured, Occupied}
 use Rattle.cutter.proofs.Fronts.{length-filled, filled-at, filled-past, filled-front}
 
 -- ---- the mean

@@ -18,9 +18,10 @@ use Rattle.boxes.specs.declared.sides.Bounds.{Bounds}
 use Rattle.boxes.specs.Box.{minAt, maxAt, lowSide, highSide}
 use Rattle.boxes.proofs.Within.{sides}
 use Rattle.boxes.specs.Holds.{lies, holdsAt, slice}
-use Rattle.cutter.specs.Map.{fillWhere, Plane}
+use Rattle.cutter.specs.Inner.{fillWhere, Plane}
 use Rattle.basics.proofs.Range.{tests-same, never-true}
 use Rattle.boxes.proofs.Held.{lies-by, lies-from, lies-below, PlaceIn, place-held, held-place, cut-holds}
+use Rattle.cutter.specs.Cut.{fits}
 
 -- ---- any test
 module _ (test : ℕ → Bool) (index : ℕ) (old : List ℕ) where

@@ -16,7 +16,8 @@ use Rattle.grid.specs.Grid.{binsOf}
 use Rattle.basics.proofs.Range.{length-list, list-at, list-is}
 use Rattle.boxes.specs.declared.sides.Bounds.{Bounds}
 use Rattle.boxes.specs.Holds.{holdsAt, holding, Tiles}
-use Rattle.cutter.specs.Map.{indexFrom, mapOf, fillWhere, fillOf, fillFrom}
+use Rattle.cutter.specs.Map.{indexFrom, mapOf}
+use Rattle.cutter.specs.Inner.{fillWhere, fillOf, fillFrom}
 use Rattle.basics.proofs.Range.{tests-same}
 use Rattle.cutter.proofs.Filled.{length-fill, fill-at}
 

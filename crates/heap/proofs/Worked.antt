@@ -6,29 +6,29 @@ use mathlib.Core.List.{List, [], _∷_, map}
 use Prim.Native.Nat.{ℕ, suc, _-_}
 use lib.IntN.{pos}
 use lib.Ieee.{Float, nan, fin, lt, eq, le}
-use Rattle.heap.specs.Heap.{Item, Room, climb, putIn, sink, enter, takeOut}
-use Rattle.heap.specs.Lent.{noItem}
+use Rattle.heap.specs.Heap.{climb, putIn, sink, enter, takeOut}
+use Rattle.heap.specs.TwoArrays.{Packed, bySpread, noItem}
 
 -- a whole number as a spread
 number : ℕ → Float
 number n = fin false n (pos 0)
 
 -- a box is a number of its own, so that equal spreads can be told apart
-of : ℕ → Float → Item ℕ
+of : ℕ → Float → Packed
 of box spread = record { spread = spread; box = box }
 
 data Step : Type 0 where
-  put : Item ℕ → Step
+  put : Packed → Step
   take : Step
 
 -- the room after some steps, from n places in use
-after : Room ℕ → ℕ → List Step → Room ℕ
+after : List Packed → ℕ → List Step → List Packed
 after h n [] = h
-after h n (put x ∷ steps) = after (putIn noItem h n x) (suc n) steps
-after h n (take ∷ steps) = after (takeOut noItem h n) (n - 1) steps
+after h n (put x ∷ steps) = after (putIn bySpread noItem h n x) (suc n) steps
+after h n (take ∷ steps) = after (takeOut bySpread noItem h n) (n - 1) steps
 
 record Case : Type 0 where
-  room : Room ℕ
+  room : List Packed
   used : ℕ
   steps : List Step
   expected : List ℕ
