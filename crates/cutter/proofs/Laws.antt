@@ -1,5 +1,6 @@
--- What a caller of cut may use without seeing inside its definitions: a refusal hands back its number with no boxes and leaves all
--- as it was, and where the number is 0 the grid is accepted, the table is sound, and record and buffers are those of the boxes found.
+-- What a caller of cut may use without seeing inside its definitions: a refusal hands back its number with no boxes and
+-- leaves all as it was, and where the number is 0 the grid is accepted, the table is sound, and record and buffers are
+-- those of the boxes found.
 -- Assumes nothing.
 use mathlib.Core.Path.{_≡_, refl, sym, ap, _∙_}
 use mathlib.Core.Bool.{Bool, true}
@@ -18,7 +19,7 @@ use Rattle.table.specs.Table.{viewOf}
 use Rattle.table.specs.Sound.{limit}
 use Rattle.rounds.specs.Loop.{boxesOf}
 use Rattle.cutter.specs.declared.call.CutRecord.{CutRecord}
-use Rattle.cutter.specs.Cut.{Buffers, lengthsOf, fits, cutNumberOn, cutNumber, CanCut, LengthsFit}
+use Rattle.cutter.specs.Cut.{Buffers, lengthsOf, lengthsRight, cutNumberOn, cutNumber, CanCut, LengthsFit}
 use Rattle.cutter.specs.Cut.{refusedRecord, doneRecord, recordOn, cutRecord, laterOn, cutLater}
 use Rattle.cutter.proofs.Refusals.{accepts, lengths-fit, fit-lengths, can-cut}
 
@@ -38,23 +39,37 @@ module _ (b1 b2 b3 k : ℕ) (t : List ℕ) (b : Buffers) where
       of zero r e = e
       of (suc n) r e = refl
 
-      go : (c : Chosen) → onGrid c (refusedRecord (gridAnswer c .number)) (λ g. whenDone (cutNumberOn limit g k (fits g k t b) (viewOf t)) (doneRecord (boxesOf g (viewOf t) k)) (refusedRecord (cutNumberOn limit g k (fits g k t b) (viewOf t)))) .number
-          ≡ onGrid c (gridAnswer c .number) (λ g. cutNumberOn limit g k (fits g k t b) (viewOf t))
-      go (chosen.Accepted g) = of (cutNumberOn limit g k (fits g k t b) (viewOf t)) (doneRecord (boxesOf g (viewOf t) k)) refl
+      go : (c : Chosen)
+          → onGrid c (refusedRecord (gridAnswer c .number))
+          (λ g. whenDone (cutNumberOn limit g k (lengthsRight g k t b) (viewOf t)) (doneRecord (boxesOf g (viewOf t) k))
+          (refusedRecord (cutNumberOn limit g k (lengthsRight g k t b) (viewOf t)))) .number
+          ≡ onGrid c (gridAnswer c .number) (λ g. cutNumberOn limit g k (lengthsRight g k t b) (viewOf t))
+      go (chosen.Accepted g) =
+          of (cutNumberOn limit g k (lengthsRight g k t b) (viewOf t)) (doneRecord (boxesOf g (viewOf t) k)) refl
       go chosen.Refused = refl
 
   -- "A refusal returns its number and, from a cut, zero boxes and box places all zero, and writes nothing"
-  pub cut-refuses : {n : ℕ} → cutNumber b1 b2 b3 k t b ≡ suc n → (cutRecord b1 b2 b3 k t b ≡ refusedRecord (suc n)) × (cutLater b1 b2 b3 k t b ≡ b)
+  pub cut-refuses : {n : ℕ} → cutNumber b1 b2 b3 k t b ≡ suc n
+      → (cutRecord b1 b2 b3 k t b ≡ refusedRecord (suc n)) × (cutLater b1 b2 b3 k t b ≡ b)
   unfolding cutRecord cutLater cutNumber recordOn numberOn onGrid gridAnswer whenDone
   cut-refuses {n} = go (gridOf b1 b2 b3)
     where
       of : {A : Type 0} (m : ℕ) (x y : A) → m ≡ suc n → whenDone m x y ≡ y
       of m x y e = rw e refl
 
-      go : (c : Chosen) → onGrid c (gridAnswer c .number) (λ g. cutNumberOn limit g k (fits g k t b) (viewOf t)) ≡ suc n
-          → (onGrid c (refusedRecord (gridAnswer c .number)) (λ g. whenDone (cutNumberOn limit g k (fits g k t b) (viewOf t)) (doneRecord (boxesOf g (viewOf t) k)) (refusedRecord (cutNumberOn limit g k (fits g k t b) (viewOf t)))) ≡ refusedRecord (suc n))
-          × (onGrid c b (λ g. whenDone (cutNumberOn limit g k (fits g k t b) (viewOf t)) (laterOn g (viewOf t) k b) b) ≡ b)
-      go (chosen.Accepted g) e = (of (cutNumberOn limit g k (fits g k t b) (viewOf t)) _ _ e ∙ ap refusedRecord e, of (cutNumberOn limit g k (fits g k t b) (viewOf t)) _ _ e)
+      go : (c : Chosen) → onGrid c (gridAnswer c .number) (λ g. cutNumberOn limit g k (lengthsRight g k t b) (viewOf t))
+          ≡ suc n
+          → (onGrid c (refusedRecord (gridAnswer c .number))
+          (λ g. whenDone (cutNumberOn limit g k (lengthsRight g k t b) (viewOf t)) (doneRecord (boxesOf g (viewOf t) k))
+          (refusedRecord (cutNumberOn limit g k (lengthsRight g k t b) (viewOf t)))) ≡ refusedRecord (suc n))
+          × (onGrid c b
+          (λ g. whenDone (cutNumberOn limit g k (lengthsRight g k t b) (viewOf t)) (laterOn g (viewOf t) k b) b)
+          ≡ b)
+      go (chosen.Accepted g) e = (
+        of (cutNumberOn limit g k (lengthsRight g k t b) (viewOf t)) _ _ e
+            ∙ ap refusedRecord e,
+        of (cutNumberOn limit g k (lengthsRight g k t b) (viewOf t)) _ _ e,
+      )
       go chosen.Refused e = (ap refusedRecord e, refl)
 
   -- what a cut that is done tells
@@ -68,7 +83,7 @@ module _ (b1 b2 b3 k : ℕ) (t : List ℕ) (b : Buffers) where
   pub cut-says : {g : Grid} → gridOf b1 b2 b3 ≡ chosen.Accepted g → cutNumber b1 b2 b3 k t b ≡ 0 → CutDone g
   unfolding cutNumber cutRecord cutLater recordOn numberOn onGrid whenDone
   cut-says {g} e n =
-      let m : cutNumberOn limit g k (fits g k t b) (viewOf t) ≡ 0 = sym (rw e refl) ∙ n in
+      let m : cutNumberOn limit g k (lengthsRight g k t b) (viewOf t) ≡ 0 = sym (rw e refl) ∙ n in
       record {
         accepted = chose b1 b2 b3 g e .accepted;
         can = can-cut m .0;
@@ -78,7 +93,8 @@ module _ (b1 b2 b3 k : ℕ) (t : List ℕ) (b : Buffers) where
       }
 
   -- "none is given otherwise"
-  pub cut-accepts : {g : Grid} → gridOf b1 b2 b3 ≡ chosen.Accepted g → CanCut limit g k (viewOf t) → LengthsFit g k (length t) (lengthsOf b)
+  pub cut-accepts : {g : Grid} → gridOf b1 b2 b3 ≡ chosen.Accepted g → CanCut limit g k (viewOf t)
+      → LengthsFit g k (length t) (lengthsOf b)
       → cutNumber b1 b2 b3 k t b ≡ 0
   unfolding cutNumber numberOn onGrid
   cut-accepts e c f = rw e (nothing-refuses c (fit-lengths f))

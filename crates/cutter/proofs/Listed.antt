@@ -21,7 +21,9 @@ module _ {g : Grid} {b : Boxes} (f : Placed g b) where
 
   pub list-length : length boxes ≡ b .boxes
   unfolding listOf
-  list-length = length-map (take (b .boxes) (b .places)) (λ (x : BoxSpread). x .bounds) ∙ length-take-le (b .boxes) (b .places) (omega (arith, f .few, f .long))
+  list-length =
+      length-map (take (b .boxes) (b .places)) (λ (x : BoxSpread). x .bounds)
+      ∙ length-take-le (b .boxes) (b .places) (omega (arith, f .few, f .long))
 
   -- box i is the one at place i
   pub list-item : (i : ℕ) → i < b .boxes → {x : Bounds} → x ≡ getD (b .places) i noItem .bounds → x ≡ getD boxes i noBox

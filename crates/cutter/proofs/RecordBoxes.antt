@@ -75,6 +75,11 @@ module _ (g : Grid) (v : View) (k : ℕ) (most : k ≤ 256) where
     unfolding boxList boxesOf
     all-found some =
         record {
-          placed = record { few = few; long = places-long; within = λ i l. rw list-found (all-occupied g v k most a some i l .within) };
+          placed = record {
+            few = few;
+            long = places-long;
+            within = λ i l. rw list-found
+                (all-occupied g v k most a some i l .within);
+          };
           some = λ i l. rw list-found (all-occupied g v k most a some i l .some);
         }

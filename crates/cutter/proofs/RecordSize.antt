@@ -17,7 +17,7 @@ use Rattle.table.specs.Sound.{limit}
 use Rattle.rounds.specs.Loop.{boxesOf, placesOf}
 use Rattle.rounds.proofs.Filled.{heap-most}
 use Rattle.cutter.specs.declared.call.CutRecord.{CutRecord}
-use Rattle.cutter.specs.Cut.{Buffers, fits, cutNumberOn, refusedRecord, doneRecord, recordOn, cutRecord}
+use Rattle.cutter.specs.Cut.{Buffers, lengthsRight, cutNumberOn, refusedRecord, doneRecord, recordOn, cutRecord}
 
 module _ (k : ℕ) (least : 1 ≤ k) (most : k ≤ 256) (t : List ℕ) where
   few-on : (g : Grid) (fit : Bool) → recordOn limit g k fit (viewOf t) .boxes ≤ k
@@ -32,8 +32,10 @@ module _ (k : ℕ) (least : 1 ≤ k) (most : k ≤ 256) (t : List ℕ) where
   unfolding cutRecord onGrid refusedRecord
   few-cut b1 b2 b3 b = go (gridOf b1 b2 b3)
     where
-      go : (c : Chosen) → onGrid c (refusedRecord (gridAnswer c .number)) (λ g. recordOn limit g k (fits g k t b) (viewOf t)) .boxes ≤ k
-      go (chosen.Accepted g) = few-on g (fits g k t b)
+      go : (c : Chosen)
+          → onGrid c (refusedRecord (gridAnswer c .number))
+          (λ g. recordOn limit g k (lengthsRight g k t b) (viewOf t)) .boxes ≤ k
+      go (chosen.Accepted g) = few-on g (lengthsRight g k t b)
       go chosen.Refused = omega arith
 
   pub few : (b1 b2 b3 : ℕ) (b : Buffers) {r : CutRecord} → r ≡ cutRecord b1 b2 b3 k t b → r .boxes ≤ k
@@ -48,10 +50,15 @@ module _ (k : ℕ) (t : List ℕ) where
       go zero = length-list 0 256 _
       go (suc n) = refl
 
-  pub all-places : (b1 b2 b3 : ℕ) (b : Buffers) {r : CutRecord} → r ≡ cutRecord b1 b2 b3 k t b → length (r .places) ≡ 256
+  pub all-places : (b1 b2 b3 : ℕ) (b : Buffers) {r : CutRecord} → r ≡ cutRecord b1 b2 b3 k t b
+      → length (r .places) ≡ 256
   unfolding cutRecord onGrid refusedRecord
   all-places b1 b2 b3 b e = rw e (go (gridOf b1 b2 b3))
     where
-      go : (c : Chosen) → length (onGrid c (refusedRecord (gridAnswer c .number)) (λ g. recordOn limit g k (fits g k t b) (viewOf t)) .places) ≡ 256
-      go (chosen.Accepted g) = places-on g (fits g k t b)
+      go : (c : Chosen)
+          → length
+          (onGrid c (refusedRecord (gridAnswer c .number))
+          (λ g. recordOn limit g k (lengthsRight g k t b) (viewOf t)) .places)
+          ≡ 256
+      go (chosen.Accepted g) = places-on g (lengthsRight g k t b)
       go chosen.Refused = refl

@@ -18,7 +18,7 @@ use Rattle.table.specs.Table.{tableLen, viewOf}
 use Rattle.table.specs.Sound.{limit, total, sound}
 use Rattle.rounds.specs.Loop.{boxesOf}
 use Rattle.cutter.specs.declared.call.CutRecord.{CutRecord}
-use Rattle.cutter.specs.Cut.{Buffers, Lengths, fits, longEnough, cutNumberOn, CanCut, LengthsFit}
+use Rattle.cutter.specs.Cut.{Buffers, Lengths, lengthsRight, longEnough, cutNumberOn, CanCut, LengthsFit}
 use Rattle.cutter.specs.Cut.{refusedRecord, doneRecord, recordOn, cutRecord, laterOn, cutLater}
 
 -- ---- the lengths
@@ -129,10 +129,14 @@ module _ (b1 b2 b3 k : ℕ) (t : List ℕ) (b : Buffers) where
   cut-no-grid e q = (q ∙ rw e refl, rw e refl)
 
   module _ {g : Grid} (e : gridOf b1 b2 b3 ≡ chosen.Accepted g) where
-    pub cut-refused : {n : ℕ} → n ≡ cutNumberOn limit g k (fits g k t b) (viewOf t) → (n ≡ 0 → ⊥) → {r : CutRecord} → r ≡ refusedRecord n → Ends r b
+    pub cut-refused : {n : ℕ} → n ≡ cutNumberOn limit g k (lengthsRight g k t b) (viewOf t) → (n ≡ 0 → ⊥)
+        → {r : CutRecord}
+        → r ≡ refusedRecord n → Ends r b
     unfolding cutRecord cutLater recordOn onGrid
-    cut-refused {n} p h {r} q = (q ∙ rw (e, ← p) (refused-keeps n h (refusedRecord n) _), rw (e, ← p) (refused-keeps n h b _))
+    cut-refused {n} p h {r} q =
+        (q ∙ rw (e, ← p) (refused-keeps n h (refusedRecord n) _), rw (e, ← p) (refused-keeps n h b _))
 
-    pub cut-done : cutNumberOn limit g k (fits g k t b) (viewOf t) ≡ 0 → {r : CutRecord} → r ≡ doneRecord (boxesOf g (viewOf t) k) → {l : Buffers} → l ≡ laterOn g (viewOf t) k b → Ends r l
+    pub cut-done : cutNumberOn limit g k (lengthsRight g k t b) (viewOf t) ≡ 0 → {r : CutRecord}
+        → r ≡ doneRecord (boxesOf g (viewOf t) k) → {l : Buffers} → l ≡ laterOn g (viewOf t) k b → Ends r l
     unfolding cutRecord cutLater recordOn onGrid whenDone
     cut-done p q s = (q ∙ rw (e, p) refl, s ∙ rw (e, p) refl)

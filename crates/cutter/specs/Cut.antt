@@ -1,5 +1,5 @@
--- The call cut (document 01, "Results" and "Numbers a caller gets back"): its number, its record and its results over a view
--- and for any limit, and the call on lent lists. Definitions only.
+-- The call cut (document 01, "Results" and "Numbers a caller gets back"): its number, its record and its results over a
+-- view and for any limit, and the call on lent lists. Definitions only.
 use mathlib.Core.Path.{_≡_}
 use mathlib.Core.Bool.{Bool, true, not, _&&_}
 use mathlib.Core.List.{List, map}
@@ -38,8 +38,8 @@ pub record CanCut (limit : ℕ) (g : Grid) (k : ℕ) (v : View) : Type 0 where
   pub is-sound : sound limit g v ≡ true
   pub some : 0 < total g v
 
--- ---- the record: "its number, the number of boxes, and the boxes with their spreads in order; places past the last box
--- are all zeros"
+-- ---- the record: "its number, the number of boxes, and the boxes with their spreads in order; places past the last
+-- box are all zeros"
 -- "A refusal returns its number and, from a cut, zero boxes and box places all zero"
 unfoldable pub refusedRecord : ℕ → CutRecord
 refusedRecord n = record { number = n; boxes = 0; places = replicate 256 (withZero noBox) }
@@ -94,7 +94,13 @@ pub record Lengths : Type 0 where
 abbrev pub lengthsOf : Buffers → Lengths
 lengthsOf b =
     let r = b .results in
-    record { work = length (b .work); palette = length (r .palette); counts = length (r .counts); map = length (r .map) }
+    record {
+      work = length (b .work);
+      palette = length (r .palette);
+      counts = length (r .counts);
+      map = length
+          (r .map);
+    }
 
 -- "table and work table exactly 5·bins; map exactly bins; palette at least 3·k bytes and counts (u32) at least k"
 pub record LengthsFit (g : Grid) (k numbers : ℕ) (l : Lengths) : Type 0 where
@@ -107,19 +113,20 @@ pub record LengthsFit (g : Grid) (k numbers : ℕ) (l : Lengths) : Type 0 where
 unfoldable pub longEnough : Grid → ℕ → ℕ → Lengths → Bool
 longEnough g k table l =
     eqb table (tableLen (binsOf g))
-    && (eqb (l .work) (tableLen (binsOf g)) && (leb (3 * k) (l .palette) && (leb k (l .counts) && eqb (l .map) (binsOf g))))
+    && (eqb (l .work) (tableLen (binsOf g)) &&
+    (leb (3 * k) (l .palette) && (leb k (l .counts) && eqb (l .map) (binsOf g))))
 
 -- whether what is lent has the right lengths
-abbrev pub fits : Grid → ℕ → Table → Buffers → Bool
-fits g k t b = longEnough g k (length t) (lengthsOf b)
+abbrev pub lengthsRight : Grid → ℕ → Table → Buffers → Bool
+lengthsRight g k t b = longEnough g k (length t) (lengthsOf b)
 
 unfoldable pub cutNumber : ℕ → ℕ → ℕ → ℕ → Table → Buffers → ℕ
-cutNumber b1 b2 b3 k t b = numberOn (gridOf b1 b2 b3) (λ g. cutNumberOn limit g k (fits g k t b) (viewOf t))
+cutNumber b1 b2 b3 k t b = numberOn (gridOf b1 b2 b3) (λ g. cutNumberOn limit g k (lengthsRight g k t b) (viewOf t))
 
 unfoldable pub cutRecord : ℕ → ℕ → ℕ → ℕ → Table → Buffers → CutRecord
 cutRecord b1 b2 b3 k t b =
     let c = gridOf b1 b2 b3 in
-    onGrid c (refusedRecord (gridAnswer c .number)) (λ g. recordOn limit g k (fits g k t b) (viewOf t))
+    onGrid c (refusedRecord (gridAnswer c .number)) (λ g. recordOn limit g k (lengthsRight g k t b) (viewOf t))
 
 -- "the work table holds the moments of the whole table", and the results are those of the boxes
 unfoldable pub laterOn : Grid → View → ℕ → Buffers → Buffers
@@ -129,4 +136,4 @@ laterOn g v k b = record { work = written (binsOf g) (momentsOf g v); results = 
 unfoldable pub cutLater : ℕ → ℕ → ℕ → ℕ → Table → Buffers → Buffers
 cutLater b1 b2 b3 k t b =
     onGrid (gridOf b1 b2 b3) b
-    (λ g. whenDone (cutNumberOn limit g k (fits g k t b) (viewOf t)) (laterOn g (viewOf t) k b) b)
+    (λ g. whenDone (cutNumberOn limit g k (lengthsRight g k t b) (viewOf t)) (laterOn g (viewOf t) k b) b)

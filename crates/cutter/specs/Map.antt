@@ -8,7 +8,8 @@ use Rattle.grid.specs.Grid.{binsOf}
 use Rattle.boxes.specs.declared.sides.Bounds.{Bounds}
 use Rattle.boxes.specs.Holds.{holdsAt}
 
--- the index of the box that holds the bin at a place, where boxes are numbered from i on: of several the first, of none 0
+-- the index of the box that holds the bin at a place, where boxes are numbered from i on: of several the first, of
+-- none 0
 unfoldable pub indexFrom : Grid → ℕ → List Bounds → ℕ → ℕ
 indexFrom g i [] p = 0
 indexFrom g i (x ∷ xs) p = let later = indexFrom g (suc i) xs p in cond (holdsAt g x p) i later

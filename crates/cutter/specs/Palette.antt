@@ -50,6 +50,7 @@ paletteLater g v xs old = filled 3 (itsColour g v) xs old
 unfoldable pub countsLater : Grid → View → List Bounds → List ℕ → List ℕ
 countsLater g v xs old = filled 1 (itsCount g v) xs old
 
--- "the filled front of the lent palette as a part of it; if the palette is too short for that number, the part is empty"
+-- "the filled front of the lent palette as a part of it; if the palette is too short for that number, the part is
+-- empty"
 unfoldable pub frontOf : List ℕ → ℕ → List ℕ
 frontOf palette boxes = cond (ltb (length palette) (3 * boxes)) [] (take (3 * boxes) palette)

@@ -84,7 +84,9 @@ fn long_enough(
     map: usize,
 ) -> bool
     requires { ⌜ Accepted g × (k ≤ 256) ⌝ }
-    ensures { λ r. ⌜ r ≡ longEnough g k table (record { work = work; palette = palette; counts = counts; map = map }) ⌝ }
+    ensures { λ r. ⌜ r
+        ≡ longEnough g k table
+        (record { work = work; palette = palette; counts = counts; map = map }) ⌝ }
 {
     let n = bins(g);
     let numbers = table_len(n);

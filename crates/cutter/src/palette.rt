@@ -53,7 +53,8 @@ pub(crate) fn put_result(
     requires { ⌜ (3 * i + 2 < length (now palette)) × (i < length (now counts)) ⌝ }
     ensures palette { λ r. ⌜ now (palette .exit)
         ≡ withColourAt (now (palette .entry)) i (colourOf g (viewOf (now (table .entry))) x) ⌝ }
-    ensures counts { λ r. ⌜ now (counts .exit) ≡ set (now (counts .entry)) i (countOf g (viewOf (now (table .entry))) x) ⌝ }
+    ensures counts { λ r. ⌜ now (counts .exit)
+        ≡ set (now (counts .entry)) i (countOf g (viewOf (now (table .entry))) x) ⌝ }
 {
     let s = box_sum(table, work, g, x);
     put_colour(palette, i, s);

@@ -23,7 +23,8 @@ module _ {X : Type 0} (key : X → Float) (none : X) where
       → P (cond (climbs key none h p) k h)
   by-climbs P h k p on stays = go (ltb 0 p) (lt (key (item none h (parent p))) (key (item none h p))) refl refl
     where
-      go : (a b : Bool) → ltb 0 p ≡ a → lt (key (item none h (parent p))) (key (item none h p)) ≡ b → P (cond (a && b) k h)
+      go : (a b : Bool) → ltb 0 p ≡ a → lt (key (item none h (parent p))) (key (item none h p)) ≡ b
+          → P (cond (a && b) k h)
       go true true d e = on (ltb-true 0 p d) e
       go true false d e = stays (λ l. e)
       go false b d e = let z = ltb-false 0 p d in stays (λ l. absurd (omega arith))
@@ -34,7 +35,8 @@ module _ {X : Type 0} (key : X → Float) (none : X) where
   climb-more zero h p l = rw (le-ltb 0 p l)
   climb-more (suc t) h zero l = refl
   climb-more (suc t) h (suc p) l =
-      ap (λ (r : List X). cond (climbs key none h (suc p)) r h) (climb-more t (swap none h (suc p) (parent (suc p))) (parent (suc p)) (omega arith))
+      ap (λ (r : List X). cond (climbs key none h (suc p)) r h)
+      (climb-more t (swap none h (suc p) (parent (suc p))) (parent (suc p)) (omega arith))
 
   climb-enough : (d : ℕ) (h : List X) (p : ℕ) → climb key none (p + d) h p ≡ climb key none p h p
   climb-enough zero h p = rw (add-zero p)
@@ -50,9 +52,11 @@ module _ {X : Type 0} (key : X → Float) (none : X) where
       → climb key none p h p ≡ climb key none (parent p) (swap none h p (parent p)) (parent p)
   unfolding climb
   climb-on h zero l e = absurd (omega arith)
-  climb-on h (suc p) l e = rw (lt-ltb 0 (suc p) l, e) (climb-times p (swap none h (suc p) (parent (suc p))) (parent (suc p)) (omega arith))
+  climb-on h (suc p) l e =
+      rw (lt-ltb 0 (suc p) l, e) (climb-times p (swap none h (suc p) (parent (suc p))) (parent (suc p)) (omega arith))
 
-  pub climb-stays : (h : List X) (p : ℕ) → lt (key (item none h (parent p))) (key (item none h p)) ≡ false → climb key none p h p ≡ h
+  pub climb-stays : (h : List X) (p : ℕ) → lt (key (item none h (parent p))) (key (item none h p)) ≡ false
+      → climb key none p h p ≡ h
   unfolding climb
   climb-stays h zero e = refl
   climb-stays h (suc p) e = rw (lt-ltb 0 (suc p) (omega arith), e)
@@ -60,7 +64,8 @@ module _ {X : Type 0} (key : X → Float) (none : X) where
   -- the same with a hole in the element's place, as the code has it
   module _ (h : List X) (p : ℕ) (x : X) (within : p < length h) where
     pub enter-on : 0 < p → lt (key (item none h (parent p))) (key x) ≡ true
-        → enter key none (record { room = h; hole = p }) x ≡ enter key none (record { room = set h p (item none h (parent p)); hole = parent p }) x
+        → enter key none (record { room = h; hole = p }) x
+        ≡ enter key none (record { room = set h p (item none h (parent p)); hole = parent p }) x
     unfolding enter
     enter-on l e =
         climb-on (set h p x) p l (rw (other, same) e)
@@ -72,10 +77,12 @@ module _ {X : Type 0} (key : X → Float) (none : X) where
         same : getD (set h p x) p none ≡ x
         same = getD-set-same h p x none within
 
-    pub enter-stays : 0 < p → lt (key (item none h (parent p))) (key x) ≡ false → enter key none (record { room = h; hole = p }) x ≡ set h p x
+    pub enter-stays : 0 < p → lt (key (item none h (parent p))) (key x) ≡ false
+        → enter key none (record { room = h; hole = p }) x ≡ set h p x
     unfolding enter
     enter-stays l e =
-        climb-stays (set h p x) p (rw (getD-set-other h p (parent p) x none (omega arith), getD-set-same h p x none within) e)
+        climb-stays (set h p x) p
+        (rw (getD-set-other h p (parent p) x none (omega arith), getD-set-same h p x none within) e)
 
     pub enter-ends : p ≤ 0 → enter key none (record { room = h; hole = p }) x ≡ set h p x
     unfolding enter climb
@@ -83,7 +90,8 @@ module _ {X : Type 0} (key : X → Float) (none : X) where
 
   -- the child that moves up is one of the two
   pub child-is : (h : List X) (p : ℕ) (P : ℕ → Type 0) → P (2 * p + 2) → P (2 * p + 1) → P (child key none h p)
-  child-is h p P r l = by-cond P (le (key (item none h (2 * p + 1))) (key (item none h (2 * p + 2)))) (2 * p + 2) (2 * p + 1) r l
+  child-is h p P r l =
+      by-cond P (le (key (item none h (2 * p + 1))) (key (item none h (2 * p + 2)))) (2 * p + 2) (2 * p + 1) r l
 
   -- both children exist, only a left one, or none
   pub by-children : (P : Holed X → Type 0) (n p : ℕ) {both left here : Holed X}
@@ -100,17 +108,23 @@ module _ {X : Type 0} (key : X → Float) (none : X) where
   unfolding sink
   sink-more zero h n p l = rw (le-ltb (2 * p + 2) n (omega arith), le-ltb (2 * p + 1) n (omega arith))
   sink-more (suc t) h n p l =
-      ap (λ (s : Holed X). cond (ltb (2 * p + 2) n) s (cond (ltb (2 * p + 1) n) (record { room = set h p (item none h (2 * p + 1)); hole = 2 * p + 1 }) (record { room = h; hole = p })))
-      (sink-more t (set h p (item none h (child key none h p))) n (child key none h p) (child-is h p (λ (c : ℕ). n ≤ c + t) (omega arith) (omega arith)))
+      ap (λ (s : Holed X). cond (ltb (2 * p + 2) n) s
+      (cond (ltb (2 * p + 1) n) (record { room = set h p (item none h (2 * p + 1)); hole = 2 * p + 1 })
+      (record { room = h; hole = p })))
+      (sink-more t (set h p (item none h (child key none h p))) n (child key none h p)
+      (child-is h p (λ (c : ℕ). n ≤ c + t) (omega arith) (omega arith)))
 
-  pub sink-on : (h : List X) (n p : ℕ) → 2 * p + 2 < n → sink key none n h n p ≡ sink key none n (set h p (item none h (child key none h p))) n (child key none h p)
+  pub sink-on : (h : List X) (n p : ℕ) → 2 * p + 2 < n
+      → sink key none n h n p ≡ sink key none n (set h p (item none h (child key none h p))) n (child key none h p)
   unfolding sink
   sink-on h zero p l = absurd (omega arith)
   sink-on h (suc m) p l =
       rw (lt-ltb (2 * p + 2) (suc m) l)
-      (sym (sink-more m (set h p (item none h (child key none h p))) (suc m) (child key none h p) (child-is h p (λ (c : ℕ). suc m ≤ c + m) (omega arith) (omega arith))))
+      (sym (sink-more m (set h p (item none h (child key none h p))) (suc m) (child key none h p)
+      (child-is h p (λ (c : ℕ). suc m ≤ c + m) (omega arith) (omega arith))))
 
-  pub sink-left : (h : List X) (n p : ℕ) → n ≤ 2 * p + 2 → 2 * p + 1 < n → sink key none n h n p ≡ record { room = set h p (item none h (2 * p + 1)); hole = 2 * p + 1 }
+  pub sink-left : (h : List X) (n p : ℕ) → n ≤ 2 * p + 2 → 2 * p + 1 < n
+      → sink key none n h n p ≡ record { room = set h p (item none h (2 * p + 1)); hole = 2 * p + 1 }
   unfolding sink
   sink-left h zero p l m = absurd (omega arith)
   sink-left h (suc n) p l m = rw (le-ltb (2 * p + 2) (suc n) l, lt-ltb (2 * p + 1) (suc n) m)
@@ -122,15 +136,18 @@ module _ {X : Type 0} (key : X → Float) (none : X) where
 
   -- "if others remain" or not
   pub by-rest : (P : List X → Type 0) (h : List X) (n : ℕ)
-      → (n - 1 ≡ 0 → P h) → (n - 1 ≢ 0 → P (enter key none (sink key none (n - 1) h (n - 1) 0) (item none h (n - 1)))) → P (takeOut key none h n)
+      → (n - 1 ≡ 0 → P h) → (n - 1 ≢ 0 → P (enter key none (sink key none (n - 1) h (n - 1) 0) (item none h (n - 1))))
+      → P (takeOut key none h n)
   unfolding takeOut
   by-rest P h n alone others = go (eqb (n - 1) 0) refl
     where
-      go : (b : Bool) → eqb (n - 1) 0 ≡ b → P (cond b h (enter key none (sink key none (n - 1) h (n - 1) 0) (item none h (n - 1))))
+      go : (b : Bool) → eqb (n - 1) 0 ≡ b
+          → P (cond b h (enter key none (sink key none (n - 1) h (n - 1) 0) (item none h (n - 1))))
       go true e = alone (eqb-true (n - 1) 0 e)
       go false e = others (eqb-false (n - 1) 0 e)
 
-  pub others-remain : (h : List X) (n : ℕ) {s : Holed X} {x : X} → n - 1 ≢ 0 → s ≡ sink key none (n - 1) h (n - 1) 0 → x ≡ item none h (n - 1)
+  pub others-remain : (h : List X) (n : ℕ) {s : Holed X} {x : X} → n - 1 ≢ 0 → s ≡ sink key none (n - 1) h (n - 1) 0
+      → x ≡ item none h (n - 1)
       → enter key none s x ≡ takeOut key none h n
   unfolding takeOut
   others-remain h n d e f = rw (ne-eqb (n - 1) 0 d) (λ i. enter key none (e i) (f i))

@@ -1,4 +1,5 @@
--- A view of the elements that keeps their spreads changes nothing: under it the heap climbs, sinks, puts in and takes out the same.
+-- A view of the elements that keeps their spreads changes nothing: under it the heap climbs, sinks, puts in and takes
+-- out the same.
 -- Assumes nothing.
 use mathlib.Core.Path.{_≡_, refl, ap, _∙_}
 use mathlib.Core.Bool.{Bool, true, false, cond, _&&_}
@@ -19,7 +20,8 @@ map-set f [] p x = refl
 map-set f (y ∷ l) zero x = refl
 map-set {B = B} f (y ∷ l) (suc p) x = ap (λ (k : List B). f y ∷ k) (map-set f l p x)
 
-module _ {X Y : Type 0} (f : X → Y) (key : X → Float) (key' : Y → Float) (same : (x : X) → key' (f x) ≡ key x) (none : X) where
+module _ {X Y : Type 0} (f : X → Y) (key : X → Float) (key' : Y → Float) (same : (x : X) → key' (f x) ≡ key x)
+    (none : X) where
   abbrev viewHoled : Holed X → Holed Y
   viewHoled s = record { room = map f (s .room); hole = s .hole }
 
@@ -37,14 +39,16 @@ module _ {X Y : Type 0} (f : X → Y) (key : X → Float) (key' : Y → Float) (
       (λ i. set (set-view h p (item none h q) (item-view h q) i) q (item-view h p i))
       ∙ map-set f (set h p (item none h q)) q (item none h p)
 
-  climb-view : (times : ℕ) (h : List X) (p : ℕ) → climb key' (f none) times (map f h) p ≡ map f (climb key none times h p)
+  climb-view : (times : ℕ) (h : List X) (p : ℕ)
+      → climb key' (f none) times (map f h) p ≡ map f (climb key none times h p)
   unfolding climb
   climb-view zero h p = refl
   climb-view (suc times) h p =
       (λ i. cond (ltb 0 p && lt (key-view h (parent p) i) (key-view h p i))
       (climb key' (f none) times (swap-view h p (parent p) i) (parent p))
       (map f h))
-      ∙ ap (λ (k : List Y). cond (climbs key none h p) k (map f h)) (climb-view times (swap none h p (parent p)) (parent p))
+      ∙ ap (λ (k : List Y). cond (climbs key none h p) k (map f h))
+      (climb-view times (swap none h p (parent p)) (parent p))
       ∙ map-cond (map f) (climbs key none h p) _ _
 
   child-view : (h : List X) (p : ℕ) → child key' (f none) (map f h) p ≡ child key none h p

@@ -1,4 +1,5 @@
--- The heap (document 01, "The heap"): a list of elements of any type with their spreads; how many places are in use stands beside it.
+-- The heap (document 01, "The heap"): a list of elements of any type with their spreads; how many places are in use
+-- stands beside it.
 -- Definitions only.
 use mathlib.Core.Path.{_≡_}
 use mathlib.Core.Bool.{Bool, false, _&&_, cond}
@@ -34,7 +35,8 @@ module _ {X : Type 0} (spread : X → Float) (none : X) where
   abbrev pub climbs : List X → ℕ → Bool
   climbs h p = ltb 0 p && lt (spread (item none h (parent p))) (spread (item none h p))
 
-  -- the element at p is to "climb while strictly greater than the parent"; it climbs at most as often as it is told, and p times are enough
+  -- the element at p is to "climb while strictly greater than the parent"; it climbs at most as often as it is told,
+  -- and p times are enough
   unfoldable pub climb : ℕ → List X → ℕ → List X
   climb zero h p = h
   climb (suc times) h p =

@@ -11,26 +11,26 @@ pub record TwoArrays (spreads : List Float) (boxes : List ℕ) : Type 0 where
   pub boxes-long : length boxes ≡ 256
 
 -- a packed box with its spread
-pub record Packed : Type 0 where
+pub record PackedBox : Type 0 where
   pub spread : Float
   pub box : ℕ
 
-abbrev pub bySpread : Packed → Float
+abbrev pub bySpread : PackedBox → Float
 bySpread x = x .spread
 
 -- what the arrays read past their ends
-abbrev pub noItem : Packed
+abbrev pub noItem : PackedBox
 noItem = record { spread = nan; box = 0 }
 
 -- what stands at each place
-unfoldable pub itemsOf : List Float → List ℕ → List Packed
+unfoldable pub itemsOf : List Float → List ℕ → List PackedBox
 itemsOf [] boxes = []
 itemsOf (s ∷ spreads) [] = []
 itemsOf (s ∷ spreads) (b ∷ boxes) = record { spread = s; box = b } ∷ itemsOf spreads boxes
 
 -- and the two arrays of that
-unfoldable pub spreadsOf : List Packed → List Float
+unfoldable pub spreadsOf : List PackedBox → List Float
 spreadsOf h = map (λ x. x .spread) h
 
-unfoldable pub boxesOf : List Packed → List ℕ
+unfoldable pub boxesOf : List PackedBox → List ℕ
 boxesOf h = map (λ x. x .box) h

@@ -27,7 +27,8 @@ fn write_at(
 fn copy_to(spreads: &mut [f64; 256], boxes: &mut [u64; 256], from: usize, to: usize)
     requires { ⌜ from < 256 ⌝ }
     requires { ⌜ to < 256 ⌝ }
-    ensures spreads { λ r. ⌜ now (spreads .exit) ≡ set (now (spreads .entry)) to (getD (now (spreads .entry)) from nan) ⌝ }
+    ensures spreads { λ r. ⌜ now (spreads .exit)
+        ≡ set (now (spreads .entry)) to (getD (now (spreads .entry)) from nan) ⌝ }
     ensures boxes { λ r. ⌜ now (boxes .exit) ≡ set (now (boxes .entry)) to (getD (now (boxes .entry)) from 0) ⌝ }
 {
     spreads[to] = spreads[from];
@@ -64,8 +65,11 @@ fn climb(spreads: &mut [f64; 256], boxes: &mut [u64; 256], at: usize, spread: f6
 // Which of two children moves up.
 fn child(spreads: &[f64; 256], p: usize) -> usize
     requires { ⌜ 2 * p + 2 < 256 ⌝ }
-    ensures { λ r. ⌜ r ≡ cond (le (getD (now (spreads .entry)) (2 * p + 1) nan) (getD (now (spreads .entry)) (2 * p + 2) nan))
-        (2 * p + 2) (2 * p + 1) ⌝ }
+    ensures { λ r. ⌜ r
+        ≡ cond
+        (le (getD (now (spreads .entry)) (2 * p + 1) nan) (getD (now (spreads .entry)) (2 * p + 2) nan))
+        (2 * p + 2)
+        (2 * p + 1) ⌝ }
 {
     let left = 2 * p + 1;
     let right = 2 * p + 2;
@@ -79,7 +83,8 @@ fn child(spreads: &[f64; 256], p: usize) -> usize
 fn sink(spreads: &mut [f64; 256], boxes: &mut [u64; 256], len: usize) -> usize
     requires { ⌜ TwoArrays (now spreads) (now boxes) ⌝ }
     requires { ⌜ len ≤ 256 ⌝ }
-    ensures hole { λ r. ⌜ r ≡ sinkIn bySpread noItem len (itemsOf (now (spreads .entry)) (now (boxes .entry))) len 0 .hole ⌝ }
+    ensures hole { λ r. ⌜ r
+        ≡ sinkIn bySpread noItem len (itemsOf (now (spreads .entry)) (now (boxes .entry))) len 0 .hole ⌝ }
     ensures spreads { λ r. ⌜ now (spreads .exit)
         ≡ spreadsOf (sinkIn bySpread noItem len (itemsOf (now (spreads .entry)) (now (boxes .entry))) len 0 .room) ⌝ }
     ensures boxes { λ r. ⌜ now (boxes .exit)

@@ -22,7 +22,8 @@ use Rattle.spread.proofs.Best.{answered}
 use Rattle.heap.specs.Heap.{item, putIn, takeOut}
 use Rattle.heap.proofs.Keeps.{put-in-long, put-in-all, take-out-long, take-out-all}
 use Rattle.rounds.specs.declared.gather.BoxSpread.{BoxSpread}
-use Rattle.rounds.specs.Loop.{bySpread, Heap, noItem, withSpread, withZero, startRoom, aboveZero, roundRoom, roundBoxes, round, rounds, start, heapOf}
+use Rattle.rounds.specs.Loop.{bySpread, Heap, noItem, withSpread, withZero, startRoom, aboveZero, roundRoom}
+use Rattle.rounds.specs.Loop.{roundBoxes, round, rounds, start, heapOf}
 use Rattle.boxes.specs.Box.{noBox, wholeOf}
 use Rattle.boxes.proofs.Whole.{whole-within}
 use Rattle.rounds.proofs.Grids.{whole-sum}
@@ -58,24 +59,34 @@ pub record Kept (g : Grid) (v : View) (P : BoxSpread → Type 0) : Type 0 where
 
 module _ (P : BoxSpread → Type 0) (h : List BoxSpread) where
   -- a box put in
-  pub each-put : {n : ℕ} → length h ≡ 256 → n < 256 → ((p : ℕ) → p < n → P (item noItem h p)) → {x : BoxSpread} → P x → Each P (putIn bySpread noItem h n x) (n + 1)
+  pub each-put : {n : ℕ} → length h ≡ 256 → n < 256 → ((p : ℕ) → p < n → P (item noItem h p)) → {x : BoxSpread} → P x
+      → Each P (putIn bySpread noItem h n x) (n + 1)
   each-put {n} long room all {x} has =
       record {
-        in-use = record { long = put-in-long bySpread noItem h n x (omega arith) ∙ long; some = omega arith; most = omega arith };
+        in-use = record {
+          long = put-in-long bySpread noItem h n x (omega arith)
+              ∙ long;
+          some = omega arith;
+          most = omega arith;
+        };
         each = λ p l. put-in-all bySpread noItem h n x (omega arith) P has all p (omega arith);
       }
 
   -- the others, once the top has left
   pub others : {n : ℕ} → Each P h n → (p : ℕ) → p < n - 1 → P (item noItem (takeOut bySpread noItem h n) p)
-  others {n} e = take-out-all bySpread noItem h n (e .in-use .some) (omega (arith, e .in-use .long, e .in-use .most)) P (e .each)
+  others {n} e =
+      take-out-all bySpread noItem h n (e .in-use .some) (omega (arith, e .in-use .long, e .in-use .most)) P (e .each)
 
 -- one round
-pub each-round : {g : Grid} {v : View} {P : BoxSpread → Type 0} → Kept g v P → {h : List BoxSpread} {n : ℕ} → Each P h n → n < 256 → Each P (roundRoom g v h n) (roundBoxes g v h n)
+pub each-round : {g : Grid} {v : View} {P : BoxSpread → Type 0} → Kept g v P → {h : List BoxSpread} {n : ℕ} → Each P h n
+    → n < 256 → Each P (roundRoom g v h n) (roundBoxes g v h n)
 each-round {g} {v} {P} k {h} {n} e l =
     let top : P (item noItem h 0) = e .each 0 (e .in-use .some) in
     round-cases g v h n (Each P)
-    (λ off. subst (Each P _) (put-back (e .in-use)) (each-put P _ (left-long (e .in-use)) (omega arith) (others P h e) top))
-    (λ on none. each-put P _ (left-long (e .in-use)) (omega arith) (others P h e) (k .zero-too (item noItem h 0) top none))
+    (λ off. subst (Each P _) (put-back (e .in-use))
+    (each-put P _ (left-long (e .in-use)) (omega arith) (others P h e) top))
+    (λ on none. each-put P _ (left-long (e .in-use)) (omega arith) (others P h e)
+    (k .zero-too (item noItem h 0) top none))
     (λ d i s on q.
     let both = k .sides-too (item noItem h 0) top q in
     let low = each-put P _ (left-long (e .in-use)) (omega arith) (others P h e) (both .0) in
@@ -85,22 +96,28 @@ each-round {g} {v} {P} k {h} {n} e l =
 any-kept : (g : Grid) (v : View) → Kept g v (λ x. Unit {0})
 any-kept g v = record { zero-too = λ x p q. tt; sides-too = λ x p q. (tt, tt) }
 
-pub in-use-round : (g : Grid) (v : View) {h : List BoxSpread} {n : ℕ} → InUse h n → n < 256 → InUse (roundRoom g v h n) (roundBoxes g v h n)
-in-use-round g v {h} {n} u l = each-round (any-kept g v) {h = h} {n = n} (record { in-use = u; each = λ p m. tt }) l .in-use
+pub in-use-round : (g : Grid) (v : View) {h : List BoxSpread} {n : ℕ} → InUse h n → n < 256
+    → InUse (roundRoom g v h n) (roundBoxes g v h n)
+in-use-round g v {h} {n} u l =
+    each-round (any-kept g v) {h = h} {n = n} (record { in-use = u; each = λ p m. tt }) l .in-use
 
 -- all rounds
-pub each-rounds : {g : Grid} {v : View} {P : BoxSpread → Type 0} → Kept g v P → (k f : ℕ) → k ≤ 256 → (h : Heap) → Each P (h .room) (h .boxes) → Each P (rounds f g v k h .room) (rounds f g v k h .boxes)
+pub each-rounds : {g : Grid} {v : View} {P : BoxSpread → Type 0} → Kept g v P → (k f : ℕ) → k ≤ 256 → (h : Heap)
+    → Each P (h .room) (h .boxes) → Each P (rounds f g v k h .room) (rounds f g v k h .boxes)
 unfolding rounds round
 each-rounds kept k zero most h e = e
 each-rounds {g} {v} {P} kept k (suc f) most h e =
-    go (ltb (h .boxes) k) refl (aboveZero (item noItem (h .room) 0 .spread)) (λ r. each-rounds kept k f most (round g v h) r)
+    go (ltb (h .boxes) k) refl (aboveZero (item noItem (h .room) 0 .spread))
+    (λ r. each-rounds kept k f most (round g v h) r)
   where
     next : h .boxes < k → Each P (roundRoom g v (h .room) (h .boxes)) (roundBoxes g v (h .room) (h .boxes))
     next l = each-round kept e (omega arith)
 
     go : (a : Bool) → ltb (h .boxes) k ≡ a → (b : Bool)
-        → (Each P (round g v h .room) (round g v h .boxes) → Each P (rounds f g v k (round g v h) .room) (rounds f g v k (round g v h) .boxes))
-        → Each P (cond a (cond b (rounds f g v k (round g v h)) (round g v h)) h .room) (cond a (cond b (rounds f g v k (round g v h)) (round g v h)) h .boxes)
+        → (Each P (round g v h .room) (round g v h .boxes)
+        → Each P (rounds f g v k (round g v h) .room) (rounds f g v k (round g v h) .boxes))
+        → Each P (cond a (cond b (rounds f g v k (round g v h)) (round g v h)) h .room)
+        (cond a (cond b (rounds f g v k (round g v h)) (round g v h)) h .boxes)
     go false q b after = e
     go true q false after = next (ltb-true (h .boxes) k q)
     go true q true after = after (next (ltb-true (h .boxes) k q))
@@ -157,7 +174,8 @@ pub start-fit : {g : Grid} {v : View} → Accepted g → 0 < total g v → Fit g
 start-fit {g} {v} a l = record { within = whole-within a; some = λ e. omega (arith, total-is g v, whole-sum g v 0) }
 
 -- ---- the heap at the end
-pub heap-fit : {g : Grid} {v : View} → Accepted g → 0 < total g v → (k : ℕ) → k ≤ 256 → Each (Fit g v) (heapOf g v k .room) (heapOf g v k .boxes)
+pub heap-fit : {g : Grid} {v : View} → Accepted g → 0 < total g v → (k : ℕ) → k ≤ 256
+    → Each (Fit g v) (heapOf g v k .room) (heapOf g v k .boxes)
 unfolding heapOf start
 heap-fit {g} {v} a l k most = each-rounds (fit-kept g v) k (2 * k) most (start g) (start-each g (start-fit a l))
 
@@ -170,7 +188,8 @@ round-most : (g : Grid) (v : View) (h : List BoxSpread) (n : ℕ) → 0 < n → 
 round-most g v h n l =
     round-cases g v h n (λ r m. m ≤ n + 1) (λ off. omega arith) (λ on none. omega arith) (λ d i s on q. omega arith)
 
-pub rounds-most : (g : Grid) (v : View) (k : ℕ) → k ≤ 256 → (f : ℕ) (h : Heap) → InUse (h .room) (h .boxes) → h .boxes ≤ k → rounds f g v k h .boxes ≤ k
+pub rounds-most : (g : Grid) (v : View) (k : ℕ) → k ≤ 256 → (f : ℕ) (h : Heap) → InUse (h .room) (h .boxes)
+    → h .boxes ≤ k → rounds f g v k h .boxes ≤ k
 unfolding rounds round
 rounds-most g v k most zero h u l = l
 rounds-most g v k most (suc f) h u l =

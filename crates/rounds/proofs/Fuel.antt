@@ -18,7 +18,8 @@ use Rattle.boxes.specs.Box.{lowSide, highSide}
 use Rattle.heap.specs.Heap.{item, putIn, takeOut, sumItems}
 use Rattle.heap.proofs.Keeps.{put-in-long, put-in-sum, take-out-sum}
 use Rattle.rounds.specs.declared.gather.BoxSpread.{BoxSpread}
-use Rattle.rounds.specs.Loop.{bySpread, Heap, noItem, withSpread, withZero, startRoom, start, aboveZero, roundRoom, roundBoxes, round, rounds, heapOf}
+use Rattle.rounds.specs.Loop.{bySpread, Heap, noItem, withSpread, withZero, startRoom, start, aboveZero}
+use Rattle.rounds.specs.Loop.{roundRoom, roundBoxes, round, rounds, heapOf}
 use Rattle.rounds.proofs.OneRound.{round-cases}
 use Rattle.rounds.proofs.Filled.{InUse, left-long, two-more, start-in-use, in-use-round}
 
@@ -30,7 +31,8 @@ module _ (g : Grid) (v : View) (k : ℕ) (h : Heap) where
   rounds-full (suc f) l = rw (le-ltb (h .boxes) k l) refl
 
   module _ (f : ℕ) (l : h .boxes < k) where
-    pub rounds-on : aboveZero (item noItem (h .room) 0 .spread) ≡ true → rounds (suc f) g v k h ≡ rounds f g v k (round g v h)
+    pub rounds-on : aboveZero (item noItem (h .room) 0 .spread) ≡ true
+        → rounds (suc f) g v k h ≡ rounds f g v k (round g v h)
     unfolding rounds
     rounds-on e = rw (lt-ltb (h .boxes) k l, e) refl
 
@@ -77,8 +79,11 @@ module _ (k : ℕ) (h : List BoxSpread) (n : ℕ) where
   need-none p = elim (decLe k n) [ yes l ↦ l | no l ↦ absurd (omega (arith, need-is (lt-of-not-le l))) ]
 
 -- a box put in
-hot-put : (h : List BoxSpread) (n : ℕ) (x : BoxSpread) → length h ≡ 256 → n < 256 → sumItems hot (take (n + 1) (putIn bySpread noItem h n x)) ≡ hot x + sumItems hot (take n h)
-hot-put h n x long l = ap (λ (m : ℕ). sumItems hot (take m (putIn bySpread noItem h n x))) (next n) ∙ put-in-sum bySpread noItem h n x (omega arith) hot
+hot-put : (h : List BoxSpread) (n : ℕ) (x : BoxSpread) → length h ≡ 256 → n < 256
+    → sumItems hot (take (n + 1) (putIn bySpread noItem h n x)) ≡ hot x + sumItems hot (take n h)
+hot-put h n x long l =
+    ap (λ (m : ℕ). sumItems hot (take m (putIn bySpread noItem h n x))) (next n)
+    ∙ put-in-sum bySpread noItem h n x (omega arith) hot
   where
     next : (n : ℕ) → n + 1 ≡ suc n
     next n = omega arith
@@ -90,15 +95,28 @@ unfolding hot
 need-less g v k most h n u l on =
     round-cases g v h n (λ r m. suc (need k r m) ≤ need k h n)
     (λ off. absurd (clash on off))
-    (λ yes none. above (need-high k (putIn bySpread noItem rest (n - 1) (withZero (top .bounds))) (n - 1 + 1) _ (λ m. omega (arith, before, hot-put rest (n - 1) (withZero (top .bounds)) (left-long u) (omega arith), hot-zero (top .bounds)))))
+    (λ yes none.
+    above (need-high k (putIn bySpread noItem rest (n - 1) (withZero (top .bounds))) (n - 1 + 1) _
+    (λ m. omega (
+      arith,
+      before,
+      hot-put rest (n - 1) (withZero (top .bounds)) (left-long u) (omega arith),
+      hot-zero
+          (top .bounds),
+    ))))
     (λ d i s yes q.
     let low = withSpread g v (lowSide (top .bounds) d i) in
     let high = withSpread g v (highSide (top .bounds) d i) in
     let put = putIn bySpread noItem rest (n - 1) low in
-    let put-long : length put ≡ 256 = put-in-long bySpread noItem rest (n - 1) low (omega (arith, left-long u)) ∙ left-long u in
-    let last : sumItems hot (take (n - 1 + 2) (putIn bySpread noItem put (n - 1 + 1) high)) ≡ hot high + sumItems hot (take (n - 1 + 1) put) =
-    ap (λ (m : ℕ). sumItems hot (take m (putIn bySpread noItem put (n - 1 + 1) high))) (sym (two-more (n - 1))) ∙ hot-put put (n - 1 + 1) high put-long (omega arith) in
-    above (need-high k (putIn bySpread noItem put (n - 1 + 1) high) (n - 1 + 2) _ (λ m. omega (arith, before, last, hot-put rest (n - 1) low (left-long u) (omega arith), hot-high low, hot-high high))))
+    let put-long : length put ≡ 256 = put-in-long bySpread noItem rest (n - 1) low (omega (arith, left-long u))
+    ∙ left-long u in
+    let last : sumItems hot (take (n - 1 + 2) (putIn bySpread noItem put (n - 1 + 1) high))
+    ≡ hot high + sumItems hot (take (n - 1 + 1) put) =
+    ap (λ (m : ℕ). sumItems hot (take m (putIn bySpread noItem put (n - 1 + 1) high))) (sym (two-more (n - 1)))
+    ∙ hot-put put (n - 1 + 1) high put-long (omega arith) in
+    above (need-high k (putIn bySpread noItem put (n - 1 + 1) high) (n - 1 + 2) _
+    (λ m. omega
+    (arith, before, last, hot-put rest (n - 1) low (left-long u) (omega arith), hot-high low, hot-high high))))
   where
     top : BoxSpread
     top = item noItem h 0
@@ -113,28 +131,41 @@ need-less g v k most h n u l on =
     top-hot = ap (λ (b : Bool). cond b 1 0) on
 
     before : 1 + sumItems hot (take (n - 1) rest) ≡ sumItems hot (take n h)
-    before = ap (λ (m : ℕ). m + sumItems hot (take (n - 1) rest)) (sym top-hot) ∙ take-out-sum bySpread noItem h n (u .some) (omega (arith, u .long, u .most)) hot
+    before =
+        ap (λ (m : ℕ). m + sumItems hot (take (n - 1) rest)) (sym top-hot)
+        ∙ take-out-sum bySpread noItem h n (u .some) (omega (arith, u .long, u .most)) hot
 
     above : {m : ℕ} → m ≤ 2 * (k - 1 - n) + sumItems hot (take n h) → suc m ≤ need k h n
     above {m} p = omega (arith, need-is k h n l)
 
 -- ---- more rounds than are needed change nothing
 module _ (g : Grid) (v : View) (k : ℕ) (most : k ≤ 256) where
-  pub stable : (f e : ℕ) (h : Heap) → InUse (h .room) (h .boxes) → need k (h .room) (h .boxes) ≤ f → need k (h .room) (h .boxes) ≤ e → rounds f g v k h ≡ rounds e g v k h
+  pub stable : (f e : ℕ) (h : Heap) → InUse (h .room) (h .boxes) → need k (h .room) (h .boxes) ≤ f
+      → need k (h .room) (h .boxes) ≤ e → rounds f g v k h ≡ rounds e g v k h
   unfolding round
   stable zero zero h u p q = refl
-  stable zero (suc e) h u p q = rounds-full g v k h zero (need-none k (h .room) (h .boxes) p) ∙ sym (rounds-full g v k h (suc e) (need-none k (h .room) (h .boxes) p))
-  stable (suc f) zero h u p q = rounds-full g v k h (suc f) (need-none k (h .room) (h .boxes) q) ∙ sym (rounds-full g v k h zero (need-none k (h .room) (h .boxes) q))
+  stable zero (suc e) h u p q =
+      rounds-full g v k h zero (need-none k (h .room) (h .boxes) p)
+      ∙ sym (rounds-full g v k h (suc e) (need-none k (h .room) (h .boxes) p))
+  stable (suc f) zero h u p q =
+      rounds-full g v k h (suc f) (need-none k (h .room) (h .boxes) q)
+      ∙ sym (rounds-full g v k h zero (need-none k (h .room) (h .boxes) q))
   stable (suc f) (suc e) h u p q =
       go (decLe k (h .boxes)) (aboveZero (item noItem (h .room) 0 .spread)) refl
-      (λ l on. stable f e (round g v h) (in-use-round g v u (omega arith)) (omega (arith, need-less g v k most (h .room) (h .boxes) u l on)) (omega (arith, need-less g v k most (h .room) (h .boxes) u l on)))
+      (λ l on. stable f e (round g v h) (in-use-round g v u (omega arith))
+      (omega (arith, need-less g v k most (h .room) (h .boxes) u l on))
+      (omega (arith, need-less g v k most (h .room) (h .boxes) u l on)))
     where
       go : Dec (k ≤ h .boxes) → (b : Bool) → aboveZero (item noItem (h .room) 0 .spread) ≡ b
-          → (h .boxes < k → aboveZero (item noItem (h .room) 0 .spread) ≡ true → rounds f g v k (round g v h) ≡ rounds e g v k (round g v h))
+          → (h .boxes < k → aboveZero (item noItem (h .room) 0 .spread) ≡ true
+          → rounds f g v k (round g v h) ≡ rounds e g v k (round g v h))
           → rounds (suc f) g v k h ≡ rounds (suc e) g v k h
       go (yes l) b t after = rounds-full g v k h (suc f) l ∙ sym (rounds-full g v k h (suc e) l)
-      go (no l) true t after = rounds-on g v k h f (lt-of-not-le l) t ∙ after (lt-of-not-le l) t ∙ sym (rounds-on g v k h e (lt-of-not-le l) t)
-      go (no l) false t after = rounds-stop g v k h f (lt-of-not-le l) t ∙ sym (rounds-stop g v k h e (lt-of-not-le l) t)
+      go (no l) true t after =
+          rounds-on g v k h f (lt-of-not-le l) t ∙ after (lt-of-not-le l) t
+          ∙ sym (rounds-on g v k h e (lt-of-not-le l) t)
+      go (no l) false t after =
+          rounds-stop g v k h f (lt-of-not-le l) t ∙ sym (rounds-stop g v k h e (lt-of-not-le l) t)
 
 -- ---- the start
 start-hot : (g : Grid) → sumItems hot (take 1 (startRoom g)) ≡ 1
@@ -147,7 +178,8 @@ start-need g k = need-high k (startRoom g) 1 (2 * k - 2) (λ m. omega (arith, st
 -- 2·k − 2 rounds are enough
 pub enough : (g : Grid) (v : View) (k f : ℕ) → k ≤ 256 → 2 * k - 2 ≤ f → rounds f g v k (start g) ≡ heapOf g v k
 unfolding start heapOf
-enough g v k f m h = stable g v k m f (2 * k) (start g) (start-in-use g) (le-trans (start-need g k) h) (omega (arith, start-need g k))
+enough g v k f m h =
+    stable g v k m f (2 * k) (start g) (start-in-use g) (le-trans (start-need g k) h) (omega (arith, start-need g k))
 
 -- ---- what is still to come, from a room with n places in use: it gives the heap at the end
 pub record ToCome (g : Grid) (v : View) (k : ℕ) (h : List BoxSpread) (n : ℕ) : Type 0 where
@@ -195,11 +227,13 @@ module _ {g : Grid} {v : View} {k : ℕ} where
           go (suc f) m e = sym (rounds-stop g v k here f l off) ∙ e
 
       -- one of others
-      pub come-round : k ≤ 256 → InUse h n → aboveZero (item noItem h 0 .spread) ≡ true → ToCome g v k (roundRoom g v h n) (roundBoxes g v h n)
+      pub come-round : k ≤ 256 → InUse h n → aboveZero (item noItem h 0 .spread) ≡ true
+          → ToCome g v k (roundRoom g v h n) (roundBoxes g v h n)
       unfolding here round
       come-round most u on = go (c .left) (c .covers) (c .gives)
         where
-          go : (f : ℕ) → need k h n ≤ f → rounds f g v k here ≡ heapOf g v k → ToCome g v k (roundRoom g v h n) (roundBoxes g v h n)
+          go : (f : ℕ) → need k h n ≤ f → rounds f g v k here ≡ heapOf g v k
+              → ToCome g v k (roundRoom g v h n) (roundBoxes g v h n)
           go zero m e = absurd (omega (arith, need-is k h n l))
           go (suc f) m e =
               record {

@@ -1,4 +1,5 @@
--- How many boxes a loop ends with: as many as the smaller of k and the occupied bins, where boxes with two occupied bins have a spread above 0.
+-- How many boxes a loop ends with: as many as the smaller of k and the occupied bins, where boxes with two occupied
+-- bins have a spread above 0.
 -- Assumes nothing.
 use mathlib.Core.Path.{_≡_}
 use mathlib.Core.Bool.{true≢false}
@@ -30,15 +31,18 @@ use Rattle.boxes.specs.Box.{wholeOf}
 use Rattle.rounds.proofs.Grids.{whole-sum}
 use Rattle.rounds.proofs.Filled.{Each, Kept, Fit, atStart, each-rounds, start-each, heap-fit, heap-most}
 use Rattle.rounds.proofs.Cover.{Additive, over, over-heap}
-use Rattle.rounds.proofs.Ends.{Sane, sane-kept, of-cold, start-sane, Cold, Ended, full as reached, cold, heap-end}
+use Rattle.rounds.proofs.Ends.{Sane, sane-kept, of-cold, start-sane, Cold, Ended, full as reached, cold}
+use Rattle.rounds.proofs.Ends.{heap-end}
 
 -- ---- sums over the boxes in use, whose terms are 1 at least, or at most
 module _ (f : Bounds → ℕ) where
-  over-least : (h : List BoxSpread) (n : ℕ) → n ≤ length h → ((p : ℕ) → p < n → 1 ≤ f (item noItem h p .bounds)) → n ≤ over f h n
+  over-least : (h : List BoxSpread) (n : ℕ) → n ≤ length h → ((p : ℕ) → p < n → 1 ≤ f (item noItem h p .bounds))
+      → n ≤ over f h n
   unfolding over sumItems
   over-least h zero l all = omega arith
   over-least [] (suc n) l all = absurd (omega arith)
-  over-least (x ∷ h) (suc n) l all = omega (arith, all 0 (omega arith), over-least h n (omega arith) (λ p m. all (suc p) (omega arith)))
+  over-least (x ∷ h) (suc n) l all =
+      omega (arith, all 0 (omega arith), over-least h n (omega arith) (λ p m. all (suc p) (omega arith)))
 
   over-most : (h : List BoxSpread) (n : ℕ) → ((p : ℕ) → p < n → f (item noItem h p .bounds) ≤ 1) → over f h n ≤ n
   unfolding over sumItems
@@ -54,7 +58,8 @@ pub record Honest (g : Grid) (v : View) (x : BoxSpread) : Type 0 where
 module _ {g : Grid} {v : View} (s : Sound limit g v) (spreads : SpreadsAbove g v) where
   -- one without a position
   zero-single : (x : Bounds) → bestCut g v x ≡ Nowhere → Two g v x → ⊥
-  zero-single x q t = two-occupied g v x (t .one .in-box) (t .other .in-box) (t .one .some) (t .other .some) (t .apart) q
+  zero-single x q t =
+      two-occupied g v x (t .one .in-box) (t .other .in-box) (t .one .some) (t .other .some) (t .apart) q
 
   -- one with its own spread
   spread-honest : (x : Bounds) → Sane g v (withSpread g v x) → Honest g v (withSpread g v x)
@@ -65,14 +70,16 @@ module _ {g : Grid} {v : View} (s : Sound limit g v) (spreads : SpreadsAbove g v
         single = λ c t.
             let a = t .one in
             let b = t .other in
-            let above = spreads .above x (h .fit .within) (a .one) (a .two) (a .three) (b .one) (b .two) (b .three) (in-holds (a .in-box)) (in-holds (b .in-box)) (a .some) (b .some) (t .apart) in
+            let above = spreads .above x (h .fit .within) (a .one) (a .two) (a .three) (b .one) (b .two) (b .three)
+            (in-holds (a .in-box)) (in-holds (b .in-box)) (a .some) (b .some) (t .apart) in
             rw (of-cold (spreadOf x (statsOf g v x)) (h .number) c) at above;
       }
 
   honest-kept : Kept g v (Honest g v)
   honest-kept =
       record {
-        zero-too = λ x h q. record { sane = sane-kept s .zero-too x (h .sane) q; single = λ c t. zero-single (x .bounds) q t };
+        zero-too = λ x h q.
+            record { sane = sane-kept s .zero-too x (h .sane) q; single = λ c t. zero-single (x .bounds) q t };
         sides-too = λ x h {d} {i} q.
             let both = sane-kept s .sides-too x (h .sane) q in
             (spread-honest (lowSide (x .bounds) d i) (both .0), spread-honest (highSide (x .bounds) d i) (both .1));
@@ -98,7 +105,8 @@ unfolding occupiedIn
 occupied-whole g v = whole-sum g (marks v) 0
 
 -- ---- as many boxes as the smaller of k and the occupied bins
-pub full : {g : Grid} {v : View} → Sound limit g v → Accepted g → 0 < total g v → SpreadsAbove g v → (k : ℕ) → 1 ≤ k → k ≤ 256
+pub full : {g : Grid} {v : View} → Sound limit g v → Accepted g → 0 < total g v → SpreadsAbove g v → (k : ℕ) → 1 ≤ k
+    → k ≤ 256
     → heapOf g v k .boxes ≡ min k (occupiedIn g v (wholeOf g))
 full {g} {v} s a l spreads k least most =
     go (heap-end s a l k most)
@@ -111,7 +119,8 @@ full {g} {v} s a l spreads k least most =
 
     each-some : heapOf g v k .boxes ≤ over (occupiedIn g v) (heapOf g v k .room) (heapOf g v k .boxes)
     each-some =
-        over-least (occupiedIn g v) (heapOf g v k .room) (heapOf g v k .boxes) (omega (arith, fit .in-use .long, fit .in-use .most))
+        over-least (occupiedIn g v) (heapOf g v k .room) (heapOf g v k .boxes)
+        (omega (arith, fit .in-use .long, fit .in-use .most))
         (λ p m. some-occupied g v (item noItem (heapOf g v k .room) p .bounds) (fit .each p m .some))
 
     go : Ended k (heapOf g v k .room) (heapOf g v k .boxes) → heapOf g v k .boxes ≡ min k (occupiedIn g v (wholeOf g))

@@ -35,7 +35,8 @@ gathered-none h {x} e =
       rest = λ p l m. getD-replicate 256 p x noPlace m ∙ e;
     }
 
-pub gathered-more : {h : List BoxSpread} {n : ℕ} {places : List BoxSpread} → Gathered h n places → n < 256 → {x : BoxSpread} → x ≡ item noItem h n → Gathered h (n + 1) (set places n x)
+pub gathered-more : {h : List BoxSpread} {n : ℕ} {places : List BoxSpread} → Gathered h n places → n < 256
+    → {x : BoxSpread} → x ≡ item noItem h n → Gathered h (n + 1) (set places n x)
 gathered-more {h} {n} {places} g l {x} e =
     record {
       long = length-set places n x ∙ g .long;
@@ -49,7 +50,13 @@ gathered-more {h} {n} {places} g l {x} e =
 
 pub gathered-is : {h : List BoxSpread} {n : ℕ} {places : List BoxSpread} → Gathered h n places → places ≡ placesOf h n
 unfolding placesOf
-gathered-is {h} {n} {places} g = list-is 256 (λ i. cond (ltb i n) (item noItem h i) (withZero noBox)) places noPlace (g .long) at
+gathered-is {h} {n} {places} g =
+    list-is 256 (λ i. cond (ltb i n) (item noItem h i) (withZero noBox)) places noPlace (g .long) at
   where
     at : (p : ℕ) → p < 256 → getD places p noPlace ≡ cond (ltb p n) (item noItem h p) (withZero noBox)
-    at p l = elim (decLe n p) [ yes m ↦ rw (le-ltb p n m) (g .rest p m l) | no m ↦ rw (lt-ltb p n (lt-of-not-le m)) (g .front p (lt-of-not-le m)) ]
+    at p l =
+        elim (decLe n p) [
+          | yes m ↦ rw (le-ltb p n m) (g .rest p m l)
+          | no m ↦ rw (lt-ltb p n (lt-of-not-le m))
+              (g .front p (lt-of-not-le m))
+        ]

@@ -17,7 +17,8 @@ use Rattle.spread.specs.Cut.{bestCut}
 use Rattle.spread.proofs.Best.{answered}
 use Rattle.heap.specs.Heap.{item, putIn, takeOut}
 use Rattle.rounds.specs.declared.gather.BoxSpread.{BoxSpread}
-use Rattle.rounds.specs.Loop.{bySpread, noItem, withSpread, withZero, roomAfter, boxesAfter, aboveZero, roundRoom, roundBoxes}
+use Rattle.rounds.specs.Loop.{bySpread, noItem, withSpread, withZero, roomAfter, boxesAfter, aboveZero, roundRoom}
+use Rattle.rounds.specs.Loop.{roundBoxes}
 
 module _ (g : Grid) (v : View) (h : List BoxSpread) (n : ℕ) (x : Bounds) {p : Position} where
   pub boxes-none : p ≡ Nowhere → boxesAfter n p ≡ n + 1
@@ -33,7 +34,8 @@ module _ (g : Grid) (v : View) (h : List BoxSpread) (n : ℕ) (x : Bounds) {p : 
   boxes-cut q = ap (boxesAfter n) q
 
   pub room-cut : {d i : ℕ} {s : Float} → p ≡ At d i s
-      → roomAfter g v h n x p ≡ putIn bySpread noItem (putIn bySpread noItem h n (withSpread g v (lowSide x d i))) (n + 1) (withSpread g v (highSide x d i))
+      → roomAfter g v h n x p ≡ putIn bySpread noItem (putIn bySpread noItem h n (withSpread g v (lowSide x d i)))
+      (n + 1) (withSpread g v (highSide x d i))
   unfolding roomAfter
   room-cut q = ap (roomAfter g v h n x) q
 
@@ -60,7 +62,8 @@ module _ (g : Grid) (v : View) (h : List BoxSpread) (n : ℕ) where
   top = item noItem h 0
 
   module _ (e : aboveZero (top .spread) ≡ true) where
-    pub room-on : roundRoom g v h n ≡ roomAfter g v (takeOut bySpread noItem h n) (n - 1) (top .bounds) (bestCut g v (top .bounds))
+    pub room-on : roundRoom g v h n ≡ roomAfter g v (takeOut bySpread noItem h n) (n - 1) (top .bounds)
+        (bestCut g v (top .bounds))
     unfolding roundRoom
     room-on = rw e refl
 
@@ -80,15 +83,31 @@ module _ (g : Grid) (v : View) (h : List BoxSpread) (n : ℕ) where
   -- whatever holds of each of the three ends of a round holds after it
   pub round-cases : (Q : List BoxSpread → ℕ → Type 0)
       → (aboveZero (top .spread) ≡ false → Q (putIn bySpread noItem (takeOut bySpread noItem h n) (n - 1) top) n)
-      → (aboveZero (top .spread) ≡ true → bestCut g v (top .bounds) ≡ Nowhere → Q (putIn bySpread noItem (takeOut bySpread noItem h n) (n - 1) (withZero (top .bounds))) (n - 1 + 1))
+      → (aboveZero (top .spread) ≡ true → bestCut g v (top .bounds) ≡ Nowhere
+      → Q (putIn bySpread noItem (takeOut bySpread noItem h n) (n - 1) (withZero (top .bounds))) (n - 1 + 1))
       → ((d i : ℕ) (s : Float) → aboveZero (top .spread) ≡ true → bestCut g v (top .bounds) ≡ At d i s
-      → Q (putIn bySpread noItem (putIn bySpread noItem (takeOut bySpread noItem h n) (n - 1) (withSpread g v (lowSide (top .bounds) d i))) (n - 1 + 1) (withSpread g v (highSide (top .bounds) d i))) (n - 1 + 2))
+      → Q (putIn bySpread noItem
+      (putIn bySpread noItem (takeOut bySpread noItem h n) (n - 1) (withSpread g v (lowSide (top .bounds) d i)))
+      (n - 1 + 1) (withSpread g v (highSide (top .bounds) d i))) (n - 1 + 2))
       → Q (roundRoom g v h n) (roundBoxes g v h n)
   round-cases Q back none cut = go (aboveZero (top .spread)) refl (bestCut g v (top .bounds)) refl
     where
-      go : (b : Bool) → aboveZero (top .spread) ≡ b → (p : Position) → bestCut g v (top .bounds) ≡ p → Q (roundRoom g v h n) (roundBoxes g v h n)
+      go : (b : Bool) → aboveZero (top .spread) ≡ b → (p : Position) → bestCut g v (top .bounds) ≡ p
+          → Q (roundRoom g v h n) (roundBoxes g v h n)
       go false e p q = rw (room-stops e, boxes-stops e) (back e)
       go true e Nowhere q =
-          rw (room-on e, boxes-on e, room-none g v (takeOut bySpread noItem h n) (n - 1) (top .bounds) q, boxes-none g v (takeOut bySpread noItem h n) (n - 1) (top .bounds) q) (none e q)
+          rw (
+            room-on e,
+            boxes-on e,
+            room-none g v (takeOut bySpread noItem h n) (n - 1) (top .bounds) q,
+            boxes-none g v
+                (takeOut bySpread noItem h n) (n - 1) (top .bounds) q,
+          ) (none e q)
       go true e (At d i s) q =
-          rw (room-on e, boxes-on e, room-cut g v (takeOut bySpread noItem h n) (n - 1) (top .bounds) q, boxes-cut g v (takeOut bySpread noItem h n) (n - 1) (top .bounds) q) (cut d i s e q)
+          rw (
+            room-on e,
+            boxes-on e,
+            room-cut g v (takeOut bySpread noItem h n) (n - 1) (top .bounds) q,
+            boxes-cut g v
+                (takeOut bySpread noItem h n) (n - 1) (top .bounds) q,
+          ) (cut d i s e q)

@@ -14,7 +14,8 @@ use Rattle.boxes.specs.Bytes.{packOf, boxOf, Bytes}
 use Rattle.boxes.proofs.Packing.{box-pack}
 use Rattle.spread.specs.Spread.{zeroOf}
 use Rattle.heap.specs.Heap.{item, putIn, takeOut}
-use Rattle.heap.specs.TwoArrays.{TwoArrays, Packed, itemsOf, spreadsOf, boxesOf, bySpread as byPacked, noItem as noPacked}
+use Rattle.heap.specs.TwoArrays.{TwoArrays, itemsOf, spreadsOf, boxesOf, bySpread as byPacked}
+use Rattle.heap.specs.TwoArrays.{noItem as noPacked}
 use Rattle.heap.proofs.TwoArrays.{alike, items-item, items-are, items-long, lent-of}
 use Rattle.heap.proofs.Keeps.{put-in-long, take-out-long}
 use Rattle.heap.proofs.View.{item-view, put-in-view, take-out-view}
@@ -27,7 +28,8 @@ unfolding boxOf
 nothing-there = refl
 
 module _ {spreads : List Float} {boxes : List ℕ} (lent : TwoArrays spreads boxes) where
-  pub room-in-item : (p : ℕ) → item noItem (roomIn spreads boxes) p ≡ record { spread = getD spreads p nan; bounds = boxOf (getD boxes p 0) }
+  pub room-in-item : (p : ℕ)
+      → item noItem (roomIn spreads boxes) p ≡ record { spread = getD spreads p nan; bounds = boxOf (getD boxes p 0) }
   unfolding roomIn
   room-in-item p =
       (λ i. item (sym nothing-there i) (map unpack (itemsOf spreads boxes)) p)
@@ -39,18 +41,24 @@ module _ {spreads : List Float} {boxes : List ℕ} (lent : TwoArrays spreads box
     pub after-put : (s : Float) (x : Bounds) → Bytes x → (m : ℕ) → m ≡ packOf x → n < 256
         → spreads' ≡ spreadsOf (putIn byPacked noPacked (itemsOf spreads boxes) n (record { spread = s; box = m }))
         → boxes' ≡ boxesOf (putIn byPacked noPacked (itemsOf spreads boxes) n (record { spread = s; box = m }))
-        → (roomIn spreads' boxes' ≡ putIn bySpread noItem (roomIn spreads boxes) n (record { spread = s; bounds = x })) × TwoArrays spreads' boxes'
+        → (roomIn spreads' boxes' ≡ putIn bySpread noItem (roomIn spreads boxes) n (record { spread = s; bounds = x }))
+        × TwoArrays spreads' boxes'
     unfolding roomIn
     after-put s x b m q l e f =
         let long = items-long lent in (
           ap (map unpack) (items-are _ e f)
-              ∙ sym (put-in-view unpack byPacked bySpread (λ x. refl) noPacked (itemsOf spreads boxes) n (record { spread = s; box = m }))
-              ∙ (λ i. putIn bySpread (nothing-there i) (map unpack (itemsOf spreads boxes)) n (record { spread = s; bounds = (ap boxOf q ∙ box-pack x b) i })),
-          lent-of _ e f (put-in-long byPacked noPacked (itemsOf spreads boxes) n (record { spread = s; box = m }) (omega arith) ∙ long),
+              ∙ sym (put-in-view unpack byPacked bySpread (λ x. refl) noPacked (itemsOf spreads boxes) n
+              (record { spread = s; box = m }))
+              ∙ (λ i. putIn bySpread (nothing-there i) (map unpack (itemsOf spreads boxes)) n
+              (record { spread = s; bounds = (ap boxOf q ∙ box-pack x b) i })),
+          lent-of _ e f
+              (put-in-long byPacked noPacked (itemsOf spreads boxes) n (record { spread = s; box = m }) (omega arith)
+              ∙ long),
         )
 
     pub after-take : 0 < n → n ≤ 256
-        → spreads' ≡ spreadsOf (takeOut byPacked noPacked (itemsOf spreads boxes) n) → boxes' ≡ boxesOf (takeOut byPacked noPacked (itemsOf spreads boxes) n)
+        → spreads' ≡ spreadsOf (takeOut byPacked noPacked (itemsOf spreads boxes) n)
+        → boxes' ≡ boxesOf (takeOut byPacked noPacked (itemsOf spreads boxes) n)
         → (roomIn spreads' boxes' ≡ takeOut bySpread noItem (roomIn spreads boxes) n) × TwoArrays spreads' boxes'
     unfolding roomIn
     after-take some most e f =
@@ -62,7 +70,10 @@ module _ {spreads : List Float} {boxes : List ℕ} (lent : TwoArrays spreads box
         )
 
 -- ---- the arrays at the start
-pub room-start : (g : Grid) {spread : Float} {packed : ℕ} → spread ≡ inf false → packed ≡ packOf (wholeOf g) → Bytes (wholeOf g)
+pub room-start : (g : Grid) {spread : Float} {packed : ℕ} → spread ≡ inf false → packed ≡ packOf (wholeOf g)
+    → Bytes (wholeOf g)
     → roomIn (set (replicate 256 zeroOf) 0 spread) (set (replicate 256 0) 0 packed) ≡ startRoom g
 unfolding roomIn startRoom itemsOf boxOf
-room-start g e f b = λ i. set (replicate 256 (withZero noBox)) 0 (record { spread = e i; bounds = (ap boxOf f ∙ box-pack (wholeOf g) b) i })
+room-start g e f b =
+    λ i. set (replicate 256 (withZero noBox)) 0
+    (record { spread = e i; bounds = (ap boxOf f ∙ box-pack (wholeOf g) b) i })

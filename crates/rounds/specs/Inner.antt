@@ -3,11 +3,11 @@ use mathlib.Core.List.{List, map}
 use Prim.Native.Nat.{ℕ}
 use lib.Ieee.{Float}
 use Rattle.boxes.specs.Bytes.{boxOf}
-use Rattle.heap.specs.TwoArrays.{Packed, itemsOf}
+use Rattle.heap.specs.TwoArrays.{PackedBox, itemsOf}
 use Rattle.rounds.specs.declared.gather.BoxSpread.{BoxSpread}
 
 -- a packed box, unpacked
-abbrev pub unpack : Packed → BoxSpread
+abbrev pub unpack : PackedBox → BoxSpread
 unpack x = record { bounds = boxOf (x .box); spread = x .spread }
 
 -- the boxes of two arrays

@@ -78,7 +78,8 @@ fn round(
     requires { ⌜ CanSum limit g (now table) (now work) ⌝ }
     requires { ⌜ TwoArrays (now spreads) (now boxes) × (0 < len) × (len < 256)
         × Within g (item noItem (roomIn (now spreads) (now boxes)) 0 .bounds) ⌝ }
-    ensures number { λ r. ⌜ r ≡ roundBoxes g (viewOf (now (table .entry))) (roomIn (now (spreads .entry)) (now (boxes .entry))) len ⌝ }
+    ensures number { λ r. ⌜ r
+        ≡ roundBoxes g (viewOf (now (table .entry))) (roomIn (now (spreads .entry)) (now (boxes .entry))) len ⌝ }
     ensures room { λ r. ⌜ roomIn (now (spreads .exit)) (now (boxes .exit))
         ≡ roundRoom g (viewOf (now (table .entry))) (roomIn (now (spreads .entry)) (now (boxes .entry))) len ⌝ }
     ensures arrays { λ r. ⌜ TwoArrays (now (spreads .exit)) (now (boxes .exit)) ⌝ }
@@ -106,7 +107,8 @@ pub(crate) fn all_rounds(
     requires { ⌜ CanSum limit g (now table) (now work) × (k ≤ 256) ⌝ }
     requires { ⌜ TwoArrays (now spreads) (now boxes) × (roomIn (now spreads) (now boxes) ≡ startRoom g) ⌝ }
     ensures number { λ r. ⌜ r ≡ heapOf g (viewOf (now (table .entry))) k .boxes ⌝ }
-    ensures room { λ r. ⌜ roomIn (now (spreads .exit)) (now (boxes .exit)) ≡ heapOf g (viewOf (now (table .entry))) k .room ⌝ }
+    ensures room { λ r. ⌜ roomIn (now (spreads .exit)) (now (boxes .exit))
+        ≡ heapOf g (viewOf (now (table .entry))) k .room ⌝ }
     ensures arrays { λ r. ⌜ TwoArrays (now (spreads .exit)) (now (boxes .exit)) ⌝ }
 {
     let mut len = 1;

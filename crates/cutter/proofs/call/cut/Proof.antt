@@ -16,7 +16,10 @@ use Rattle.cutter.proofs.call.cut.Tie as tie
 abbrev grid : tie.After-known-told → Grid
 grid k = k .before .g .given .0 .0
 
-on-grid : (k : tie.After-known-told) → gridOf (k .before .before .before .before .before .before .before .before .before .args .b1) (k .before .before .before .before .before .before .before .before .before .args .b2) (k .before .before .before .before .before .before .before .before .before .args .b3) ≡ chosen.Accepted (grid k)
+on-grid : (k : tie.After-known-told)
+    → gridOf (k .before .before .before .before .before .before .before .before .before .args .b1)
+    (k .before .before .before .before .before .before .before .before .before .args .b2)
+    (k .before .before .before .before .before .before .before .before .before .args .b3) ≡ chosen.Accepted (grid k)
 on-grid k = sym (k .before .before .before .grid-of .ensures) ∙ k .before .g .given .1
 
 accepted : (k : tie.After-known-told) → Accepted (grid k)
@@ -40,7 +43,8 @@ refused-requires c κs = search needs
 returns : tie.Need-returns
 returns c =
     let s = c .before .before .before .before .before .before .before .before .before in
-    cut-no-grid (s .args .b1) (s .args .b2) (s .args .b3) (s .args .k) (now (s .args .table)) (lent s) (sym (c .before .before .before .grid-of .ensures) ∙ c .before .enum-told .given .1) (c .refused .ensures)
+    cut-no-grid (s .args .b1) (s .args .b2) (s .args .b3) (s .args .k) (now (s .args .table)) (lent s)
+    (sym (c .before .before .before .grid-of .ensures) ∙ c .before .enum-told .given .1) (c .refused .ensures)
 
 number-on-requires : tie.Need-number-on-requires
 number-on-requires c κs = accepted c
@@ -51,11 +55,14 @@ refused-requires-2 c κs = search needs
 returns-2 : tie.Need-returns-2
 returns-2 c =
     let s = c .before .before .before .before .before .before .before .before .before .before .before .before in
-    cut-refused (s .args .b1) (s .args .b2) (s .args .b3) (s .args .k) (now (s .args .table)) (lent s) (on-grid (c .before .before .before)) (c .before .before .number-on .ensures) (c .before .if1 .taken) (c .refused2 .ensures)
+    cut-refused (s .args .b1) (s .args .b2) (s .args .b3) (s .args .k) (now (s .args .table)) (lent s)
+    (on-grid (c .before .before .before)) (c .before .before .number-on .ensures) (c .before .if1 .taken)
+    (c .refused2 .ensures)
 
 cut-on-requires : tie.Need-cut-on-requires
 cut-on-requires c κs =
-    let can = can-cut (sym (c .before .before .before .before .before .number-on .ensures) ∙ c .before .before .before .before .if1 .left) in
+    let can = can-cut (sym (c .before .before .before .before .before .number-on .ensures)
+    ∙ c .before .before .before .before .if1 .left) in
     ((accepted (c .before .before .before .before .before .before), can .0), lengths-fit (can .1))
 
 same-length : tie.Need-same-length
@@ -72,8 +79,17 @@ same-length-4 c = search needs
 
 returns-3 : tie.Need-returns-3
 returns-3 c =
-    let s = c .before .before .before .before .before .before .before .before .before .before .before .before .before .before .before .before .before .before .before .before .before .before .before .before in
-    cut-done (s .args .b1) (s .args .b2) (s .args .b3) (s .args .k) (now (s .args .table)) (lent s) (on-grid (c .before .before .before .before .before .before .before .before .before .before .before .before .before .before .before)) (sym (c .before .before .before .before .before .before .before .before .before .before .before .before .before .before .number-on .ensures) ∙ c .before .before .before .before .before .before .before .before .before .before .before .before .before .if1 .left) (c .before .before .before .before .before .before .before .before .cut-on .ensures .0) (c .before .before .before .before .before .before .before .before .cut-on .ensures .1)
+    let s = c .before .before .before .before .before .before .before .before .before .before .before .before .before
+    .before .before .before .before .before .before .before .before .before .before .before in
+    cut-done (s .args .b1) (s .args .b2) (s .args .b3) (s .args .k) (now (s .args .table)) (lent s)
+    (on-grid
+    (c .before .before .before .before .before .before .before .before .before .before .before .before .before .before
+    .before))
+    (sym (c .before .before .before .before .before .before .before .before .before .before .before .before .before
+    .before .number-on .ensures)
+    ∙ c .before .before .before .before .before .before .before .before .before .before .before .before
+    .before .if1 .left) (c .before .before .before .before .before .before .before .before .cut-on .ensures .0)
+    (c .before .before .before .before .before .before .before .before .cut-on .ensures .1)
 
 pub cut-spec : {M : Type 1} → statement M
 cut-spec =

@@ -24,7 +24,9 @@ view s = viewOf (now (s .args .table))
 
 -- the boxes of the loop
 the-boxes : (s : tie.Start) {b : Boxes} → b ≡ boxesOf (s .args .g) (view s) (s .args .k) → Found (s .args .g) (view s) b
-the-boxes s e = subst (Found (s .args .g) (view s)) (sym e) (all-found (s .args .g) (view s) (s .args .k) (s .pre .0 .1 .most) (s .pre .0 .0) (s .pre .0 .1 .some))
+the-boxes s e =
+    subst (Found (s .args .g) (view s)) (sym e)
+    (all-found (s .args .g) (view s) (s .args .k) (s .pre .0 .1 .most) (s .pre .0 .0) (s .pre .0 .1 .some))
 
 few : (s : tie.Start) {b : Boxes} → b ≡ boxesOf (s .args .g) (view s) (s .args .k) → b .boxes ≤ s .args .k
 unfolding boxesOf
@@ -38,14 +40,28 @@ cut-boxes-requires c κs = search needs
 
 put-results-requires : tie.Need-put-results-requires
 put-results-requires c κs =
-    let s = c .before .before .before .before .before .before .before .before .before .before .before .before .before .before in
+    let s = c .before .before .before .before .before .before .before .before .before .before .before .before .before
+    .before in
     let e = c .before .before .before .cut-boxes .ensures in (
-      (record { table = record { accepted = s .pre .0 .0; lent = s .pre .1 .table }; is-sound = s .pre .0 .1 .is-sound; moments = c .before .before .before .before .before .before .before .moments .ensures }, the-boxes s e),
+      (
+        record {
+          table = record { accepted = s .pre .0 .0; lent = s .pre .1 .table };
+          is-sound = s .pre .0 .1 .is-sound;
+          moments = c .before .before .before .before .before .before .before .moments .ensures;
+        },
+        the-boxes s e,
+      ),
       (omega (arith, few s e, s .pre .1 .palette), le-trans (few s e) (s .pre .1 .counts)),
     )
 
 fill-boxes-requires : tie.Need-fill-boxes-requires
-fill-boxes-requires c κs = let s = c .before .before .before .before .before .before .before .before .before .before .before .before .before .before .before .before .before .before .before .before in (the-boxes s (c .before .before .before .before .before .before .before .before .before .cut-boxes .ensures) .placed, s .pre .1 .map)
+fill-boxes-requires c κs =
+    let s = c .before .before .before .before .before .before .before .before .before .before .before .before .before
+    .before .before .before .before .before .before .before in (
+      the-boxes s
+          (c .before .before .before .before .before .before .before .before .before .cut-boxes .ensures) .placed,
+      s .pre .1 .map,
+    )
 
 done-requires : tie.Need-done-requires
 done-requires c κs = search needs
@@ -65,16 +81,25 @@ same-length-4 c = search needs
 returns : tie.Need-returns
 unfolding laterOn resultsOn boxList
 returns c =
-    let s = c .before .before .before .before .before .before .before .before .before .before .before .before .before .before .before .before .before .before .before .before .before .before .before .before in
-    let e = c .before .before .before .before .before .before .before .before .before .before .before .before .before .cut-boxes .ensures in
-    let palette = c .before .before .before .before .before .before .before .before .before .put-results .ensures .0 ∙ ap (λ (b : Boxes). paletteLater (s .args .g) (view s) (listOf (b .boxes) (b .places)) (now (s .args .palette))) e in
-    let counts = c .before .before .before .before .before .before .before .before .before .put-results .ensures .1 ∙ ap (λ (b : Boxes). countsLater (s .args .g) (view s) (listOf (b .boxes) (b .places)) (now (s .args .counts))) e in
+    let s = c .before .before .before .before .before .before .before .before .before .before .before .before .before
+    .before .before .before .before .before .before .before .before .before .before .before in
+    let e = c .before .before .before .before .before .before .before .before .before .before .before .before
+    .before .cut-boxes .ensures in
+    let palette = c .before .before .before .before .before .before .before .before .before .put-results .ensures .0
+    ∙ ap (λ (b : Boxes). paletteLater (s .args .g) (view s) (listOf (b .boxes) (b .places)) (now (s .args .palette)))
+    e in
+    let counts = c .before .before .before .before .before .before .before .before .before .put-results .ensures .1
+    ∙ ap (λ (b : Boxes). countsLater (s .args .g) (view s) (listOf (b .boxes) (b .places)) (now (s .args .counts))) e in
     let map =
     c .before .before .before .fill-boxes .ensures
     ∙ ap (λ (b : Boxes). fillFrom (s .args .g) 0 (listOf (b .boxes) (b .places)) (now (s .args .map))) e
-    ∙ filled-map (s .args .g) _ (list-tiles (s .args .g) (view s) (s .args .k) (s .pre .0 .1 .most) (s .pre .0 .0)) (now (s .args .map)) (s .pre .1 .map) in (
+    ∙ filled-map (s .args .g) _ (list-tiles (s .args .g) (view s) (s .args .k) (s .pre .0 .1 .most) (s .pre .0 .0))
+    (now (s .args .map)) (s .pre .1 .map) in (
       c .done .ensures ∙ ap doneRecord e,
-      λ i. buffers (c .before .before .before .before .before .before .before .before .before .before .before .before .before .before .before .before .before .moments .ensures i) (palette i) (counts i) (map i),
+      λ i. buffers
+          (c .before .before .before .before .before .before .before .before .before .before .before .before .before
+          .before
+          .before .before .before .moments .ensures i) (palette i) (counts i) (map i),
     )
 
 pub cut-on-spec : {M : Type 1} → statement M

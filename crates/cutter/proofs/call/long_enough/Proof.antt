@@ -29,12 +29,14 @@ table-len-requires c κs = omega (arith, c .bins .ensures, bins-high (c .before 
 returns : tie.Need-returns
 returns c =
     let s = c .before .before .before in
-    sym (table-wrong (s .args .g) (s .args .k) (s .args .table) (lengths s) (λ e. c .if1 .taken (e ∙ sym (numbers (c .before)))))
+    sym (table-wrong (s .args .g) (s .args .k) (s .args .table) (lengths s)
+    (λ e. c .if1 .taken (e ∙ sym (numbers (c .before)))))
 
 returns-2 : tie.Need-returns-2
 returns-2 c =
     let s = c .before .before .before .before in
-    sym (work-wrong (s .args .g) (s .args .k) (s .args .table) (lengths s) (c .before .if1 .left ∙ numbers (c .before .before)) (λ e. c .if2 .taken (e ∙ sym (numbers (c .before .before)))))
+    sym (work-wrong (s .args .g) (s .args .k) (s .args .table) (lengths s)
+    (c .before .if1 .left ∙ numbers (c .before .before)) (λ e. c .if2 .taken (e ∙ sym (numbers (c .before .before)))))
 
 mul-if3 : tie.Need-mul-if3
 mul-if3 c = omega (arith, c .before .before .before .before .pre .1)
@@ -42,18 +44,25 @@ mul-if3 c = omega (arith, c .before .before .before .before .pre .1)
 returns-3 : tie.Need-returns-3
 returns-3 c =
     let s = c .before .before .before .before .before in
-    sym (palette-short (s .args .g) (s .args .k) (s .args .table) (lengths s) (c .before .before .if1 .left ∙ numbers (c .before .before .before)) (c .before .if2 .left ∙ numbers (c .before .before .before)) (c .if3 .taken))
+    sym (palette-short (s .args .g) (s .args .k) (s .args .table) (lengths s)
+    (c .before .before .if1 .left ∙ numbers (c .before .before .before))
+    (c .before .if2 .left ∙ numbers (c .before .before .before)) (c .if3 .taken))
 
 returns-4 : tie.Need-returns-4
 returns-4 c =
     let s = c .before .before .before .before .before .before in
-    sym (counts-short (s .args .g) (s .args .k) (s .args .table) (lengths s) (c .before .before .before .if1 .left ∙ numbers (c .before .before .before .before)) (c .before .before .if2 .left ∙ numbers (c .before .before .before .before)) (c .before .if3 .left) (c .if4 .taken))
+    sym (counts-short (s .args .g) (s .args .k) (s .args .table) (lengths s)
+    (c .before .before .before .if1 .left ∙ numbers (c .before .before .before .before))
+    (c .before .before .if2 .left ∙ numbers (c .before .before .before .before)) (c .before .if3 .left) (c .if4 .taken))
 
 returns-5 : tie.Need-returns-5
 returns-5 c =
     let s = c .before .before .before .before .before .before in
     ap (λ (n : ℕ). eqb (s .args .map) n) (c .before .before .before .before .before .bins .ensures)
-    ∙ sym (only-map (s .args .g) (s .args .k) (s .args .table) (lengths s) (c .before .before .before .if1 .left ∙ numbers (c .before .before .before .before)) (c .before .before .if2 .left ∙ numbers (c .before .before .before .before)) (c .before .if3 .left) (c .if4 .left))
+    ∙ sym (only-map (s .args .g) (s .args .k) (s .args .table) (lengths s)
+    (c .before .before .before .if1 .left ∙ numbers (c .before .before .before .before))
+    (c .before .before .if2 .left ∙ numbers (c .before .before .before .before)) (c .before .if3 .left)
+    (c .if4 .left))
 
 pub long-enough-spec : {M : Type 1} → statement M
 long-enough-spec =

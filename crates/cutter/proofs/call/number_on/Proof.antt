@@ -31,10 +31,14 @@ abbrev fit : tie.Start → Bool
 fit s = longEnough (s .args .g) (s .args .k) (length (table s)) (lengths s)
 
 returns : tie.Need-returns
-returns c = sym (k-low limit (c .before .before .args .g) (c .before .before .args .k) (fit (c .before .before)) (view (c .before .before)) (c .if1 .taken))
+returns c =
+    sym (k-low limit (c .before .before .args .g) (c .before .before .args .k) (fit (c .before .before))
+    (view (c .before .before)) (c .if1 .taken))
 
 returns-2 : tie.Need-returns-2
-returns-2 c = sym (k-high limit (c .before .before .before .args .g) (c .before .before .before .args .k) (fit (c .before .before .before)) (view (c .before .before .before)) (c .if2 .taken))
+returns-2 c =
+    sym (k-high limit (c .before .before .before .args .g) (c .before .before .before .args .k)
+    (fit (c .before .before .before)) (view (c .before .before .before)) (c .if2 .taken))
 
 long-enough-requires : tie.Need-long-enough-requires
 long-enough-requires c κs = (c .before .before .before .pre, omega (arith, c .if2 .left))
@@ -42,7 +46,9 @@ long-enough-requires c κs = (c .before .before .before .pre, omega (arith, c .i
 returns-3 : tie.Need-returns-3
 returns-3 c =
     let s = c .before .before .before .before .before in
-    sym (too-short limit (s .args .g) (s .args .k) (fit s) (view s) (omega (arith, c .before .before .before .if1 .left)) (omega (arith, c .before .before .if2 .left)) (sym (c .before .long-enough .ensures) ∙ not-true _ (c .if3 .taken)))
+    sym (too-short limit (s .args .g) (s .args .k) (fit s) (view s)
+    (omega (arith, c .before .before .before .if1 .left)) (omega (arith, c .before .before .if2 .left))
+    (sym (c .before .long-enough .ensures) ∙ not-true _ (c .if3 .taken)))
 
 -- the lengths are right
 right : (k : tie.Else3) → fit (k .before .before .before .before .before) ≡ true
@@ -62,24 +68,40 @@ enum-told c = search needs
 returns-4 : tie.Need-returns-4
 returns-4 c =
     let s = c .before .before .before .before .before .before .before .before in
-    sym (not-sound limit (s .args .g) (s .args .k) (fit s) (view s) (omega (arith, c .before .before .before .before .before .before .if1 .left)) (omega (arith, c .before .before .before .before .before .if2 .left)) (right (c .before .before .before))
+    sym (not-sound limit (s .args .g) (s .args .k) (fit s) (view s)
+    (omega (arith, c .before .before .before .before .before .before .if1 .left))
+    (omega (arith, c .before .before .before .before .before .if2 .left)) (right (c .before .before .before))
     (weighed-unsound limit (s .args .g) (view s) (sym (c .before .before .weigh .ensures) ∙ c .enum-told .given .1)))
 
 -- the total of a sound table
-the-total : (k : tie.After-known-told) → (sound limit (k .before .before .before .before .before .before .before .before .before .args .g) (viewOf (table (k .before .before .before .before .before .before .before .before .before))) ≡ true) × (k .before .total .given .0 .0 ≡ total (k .before .before .before .before .before .before .before .before .before .args .g) (viewOf (table (k .before .before .before .before .before .before .before .before .before))))
-the-total k = weighed-total limit (k .before .before .before .before .before .before .before .before .before .args .g) (viewOf (table (k .before .before .before .before .before .before .before .before .before))) (k .before .total .given .0 .0) (sym (k .before .before .before .weigh .ensures) ∙ k .before .total .given .1)
+the-total : (k : tie.After-known-told)
+    → (sound limit (k .before .before .before .before .before .before .before .before .before .args .g)
+    (viewOf (table (k .before .before .before .before .before .before .before .before .before))) ≡ true)
+    × (k .before .total .given .0 .0
+    ≡ total (k .before .before .before .before .before .before .before .before .before .args .g)
+    (viewOf (table (k .before .before .before .before .before .before .before .before .before))))
+the-total k =
+    weighed-total limit (k .before .before .before .before .before .before .before .before .before .args .g)
+    (viewOf (table (k .before .before .before .before .before .before .before .before .before)))
+    (k .before .total .given .0 .0) (sym (k .before .before .before .weigh .ensures) ∙ k .before .total .given .1)
 
 returns-5 : tie.Need-returns-5
 returns-5 c =
     let s = c .before .before .before .before .before .before .before .before .before .before in
     let w = the-total (c .before) in
-    sym (no-total limit (s .args .g) (s .args .k) (fit s) (view s) (omega (arith, c .before .before .before .before .before .before .before .before .if1 .left)) (omega (arith, c .before .before .before .before .before .before .before .if2 .left)) (right (c .before .before .before .before .before)) (w .0) (sym (w .1) ∙ c .if4 .taken))
+    sym (no-total limit (s .args .g) (s .args .k) (fit s) (view s)
+    (omega (arith, c .before .before .before .before .before .before .before .before .if1 .left))
+    (omega (arith, c .before .before .before .before .before .before .before .if2 .left))
+    (right (c .before .before .before .before .before)) (w .0) (sym (w .1) ∙ c .if4 .taken))
 
 returns-6 : tie.Need-returns-6
 returns-6 c =
     let s = c .before .before .before .before .before .before .before .before .before .before in
     let w = the-total (c .before) in
-    sym (accepts limit (s .args .g) (s .args .k) (fit s) (view s) (omega (arith, c .before .before .before .before .before .before .before .before .if1 .left)) (omega (arith, c .before .before .before .before .before .before .before .if2 .left)) (right (c .before .before .before .before .before)) (w .0) (λ e. c .if4 .left (w .1 ∙ e)))
+    sym (accepts limit (s .args .g) (s .args .k) (fit s) (view s)
+    (omega (arith, c .before .before .before .before .before .before .before .before .if1 .left))
+    (omega (arith, c .before .before .before .before .before .before .before .if2 .left))
+    (right (c .before .before .before .before .before)) (w .0) (λ e. c .if4 .left (w .1 ∙ e)))
 
 pub number-on-spec : {M : Type 1} → statement M
 number-on-spec =

@@ -57,7 +57,8 @@ loop-again c =
     let l = c .before .before .before .before .before .loop in (
       omega arith,
       omega arith,
-      slices-more (s .args .g) (s .args .x) 0 (s .args .index) (now (s .args .map)) (l .r) (l .inv .0) (l .inv .2) (c .before .before .fill-plane .ensures),
+      slices-more (s .args .g) (s .args .x) 0 (s .args .index) (now (s .args .map)) (l .r) (l .inv .0) (l .inv .2)
+          (c .before .before .fill-plane .ensures),
     )
 
 same-length : tie.Need-same-length Inv-loop μ-loop

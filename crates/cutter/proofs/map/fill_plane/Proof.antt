@@ -11,7 +11,8 @@ use Rattle.boxes.specs.Box.{lowSide, highSide, minAt, maxAt}
 use Rattle.boxes.proofs.Within.{sides}
 use Rattle.boxes.specs.Holds.{holdsAt, slice}
 use Rattle.cutter.specs.Inner.{fillWhere}
-use Rattle.cutter.proofs.Filled.{length-fill, slices-none, slices-all, row-inside, row-fits, row-small, row-filled}
+use Rattle.cutter.proofs.Filled.{length-fill, slices-none, slices-all, row-inside, row-fits, row-small}
+use Rattle.cutter.proofs.Filled.{row-filled}
 use Rattle.cutter.proofs.map.fill_plane.Statement.{statement}
 use Rattle.cutter.proofs.map.fill_plane.Tie as tie
 
@@ -41,16 +42,27 @@ cast-gr c = omega arith
 loop-holds : tie.Need-loop-holds Inv-loop μ-loop
 unfolding slice lowSide highSide minAt choose
 loop-holds c =
-    let s = c .before .before .before .before .before in
-    (omega arith, omega (arith, sides (s .pre .within) .two), slices-none (s .args .g) (slice (s .args .x) 0 (s .args .r)) 1 _ _)
+    let s = c .before .before .before .before .before in (
+      omega arith,
+      omega (arith, sides (s .pre .within) .two),
+      slices-none (s .args .g)
+          (slice (s .args .x) 0 (s .args .r)) 1 _ _,
+    )
 
 place-requires : tie.Need-place-requires Inv-loop μ-loop
-place-requires c κs = row-inside (c .before .before .before .before .before .before .before .pre) (c .before .loop .gr) (omega arith)
+place-requires c κs =
+    row-inside (c .before .before .before .before .before .before .before .pre) (c .before .loop .gr) (omega arith)
 
 add-fill : tie.Need-add-fill Inv-loop μ-loop
 add-fill c =
     let s = c .before .before .before .before .before .before .before .before .before in
-    omega (arith, c .before .place .ensures, row-small (s .pre) (c .before .before .before .loop .gr) (omega arith), sides (s .pre .within) .three)
+    omega (
+      arith,
+      c .before .place .ensures,
+      row-small (s .pre) (c .before .before .before .loop .gr)
+          (omega arith),
+      sides (s .pre .within) .three,
+    )
 
 add-fill-2 : tie.Need-add-fill-2 Inv-loop μ-loop
 add-fill-2 c =
@@ -61,8 +73,11 @@ fill-requires : tie.Need-fill-requires Inv-loop μ-loop
 fill-requires c κs =
     let s = c .before .before .before .before .before .before .before .before .before in
     let l = c .before .before .before .loop in
-    let lent : length (l .map) ≡ length (now (s .args .map)) = ap length (l .inv .2) ∙ length-fill _ _ _ in
-    (omega (arith, sides (s .pre .within) .three), omega (arith, lent, c .before .place .ensures, row-fits (s .pre) (l .gr) (omega arith)))
+    let lent : length (l .map) ≡ length (now (s .args .map)) = ap length (l .inv .2) ∙ length-fill _ _ _ in (
+      omega (arith, sides (s .pre .within) .three),
+      omega
+          (arith, lent, c .before .place .ensures, row-fits (s .pre) (l .gr) (omega arith)),
+    )
 
 add-gr : tie.Need-add-gr Inv-loop μ-loop
 add-gr c = omega arith
@@ -77,7 +92,8 @@ loop-again c =
     let l = c .before .before .before .before .before .before .loop in (
       omega arith,
       omega arith,
-      row-filled (s .pre) (l .gr) (omega arith) (s .args .index) (l .inv .0) (l .inv .2) (c .before .before .before .before .place .ensures) (c .before .before .fill .ensures),
+      row-filled (s .pre) (l .gr) (omega arith) (s .args .index) (l .inv .0) (l .inv .2)
+          (c .before .before .before .before .place .ensures) (c .before .before .fill .ensures),
     )
 
 same-length : tie.Need-same-length Inv-loop μ-loop
@@ -89,7 +105,8 @@ returns c =
     let s = c .before .before .before .before .before .before .before in
     let l = c .before .loop in
     let all : l .gr ≡ s .args .x .g1 = omega arith in
-    l .inv .2 ∙ slices-all (s .args .g) (slice (s .args .x) 0 (s .args .r)) 1 (s .args .index) (now (s .args .map)) (l .gr) all
+    l .inv .2 ∙ slices-all (s .args .g) (slice (s .args .x) 0 (s .args .r)) 1 (s .args .index) (now (s .args .map))
+    (l .gr) all
 
 pub fill-plane-spec : {M : Type 1} → statement M
 fill-plane-spec =

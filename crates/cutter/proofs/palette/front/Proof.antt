@@ -1,4 +1,5 @@
--- `cutter::palette::front` meets its contract: a third of the length is below the number of boxes just where the length is below three bytes each.
+-- `cutter::palette::front` meets its contract: a third of the length is below the number of boxes just where the
+-- length is below three bytes each.
 -- Assumes nothing.
 use Prim.Native.Nat.{_*_, _≤_, _<_}
 use native.Mathlib.Nat.{sub-zero}

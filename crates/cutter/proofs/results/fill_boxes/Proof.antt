@@ -4,7 +4,6 @@ use mathlib.Core.Path.{_≡_, refl, sym, ap, subst, _∙_}
 use mathlib.Core.List.{List}
 use Prim.Native.Nat.{_-_, _≤_, _<_}
 use native.Mathlib.Omega.{arith}
-use borrow.Author.Needs.{needs}
 use denote.Ref.{now}
 use lib.ListN.{length, take}
 use Rattle.boxes.specs.declared.sides.Bounds.{Bounds}
@@ -42,11 +41,18 @@ fill-box-requires c κs =
     let f = s .pre .0 in
     let t : l .at < s .args .b .boxes = omega (arith, c .before .before .loop-test .taken) in (
       subst (Within (s .args .g)) (sym (list-item f (l .at) t refl)) (f .within (l .at) t),
-      ap length (l .inv .1) ∙ length-filled (s .args .g) 0 (take (l .at) (listOf (s .args .b .boxes) (s .args .b .places))) (now (s .args .map)) ∙ s .pre .1,
+      ap length (l .inv .1)
+          ∙ length-filled (s .args .g) 0 (take (l .at) (listOf (s .args .b .boxes) (s .args .b .places)))
+          (now (s .args .map)) ∙ s .pre .1,
     )
 
 add-at : tie.Need-add-at Inv-loop μ-loop
-add-at c = omega (arith, c .before .before .before .before .before .loop-test .taken, c .before .before .before .before .before .before .before .before .before .pre .0 .few)
+add-at c =
+    omega (
+      arith,
+      c .before .before .before .before .before .loop-test .taken,
+      c .before .before .before .before .before .before .before .before .before .pre .0 .few,
+    )
 
 loop-less : tie.Need-loop-less Inv-loop μ-loop
 loop-less c = omega (arith, c .before .before .before .before .before .loop-test .taken)
@@ -59,8 +65,10 @@ loop-again c =
     let t : l .at < s .args .b .boxes = omega (arith, c .before .before .before .before .before .loop-test .taken) in
     let here : l .at < length (listOf (s .args .b .boxes) (s .args .b .places)) = omega (arith, list-length f) in (
       omega arith,
-      filled-next (s .args .g) (listOf (s .args .b .boxes) (s .args .b .places)) (l .at) noBox here (now (s .args .map)) (l .inv .1)
-          (c .before .before .fill-box .ensures ∙ ap (λ (x : Bounds). fillOf (s .args .g) x (l .at) (l .map)) (list-item f (l .at) t refl)),
+      filled-next (s .args .g) (listOf (s .args .b .boxes) (s .args .b .places)) (l .at) noBox here (now (s .args .map))
+          (l .inv .1)
+          (c .before .before .fill-box .ensures
+          ∙ ap (λ (x : Bounds). fillOf (s .args .g) x (l .at) (l .map)) (list-item f (l .at) t refl)),
     )
 
 same-length : tie.Need-same-length Inv-loop μ-loop
@@ -70,7 +78,8 @@ returns : tie.Need-returns Inv-loop μ-loop
 returns c =
     let s = c .before .before .before .before in
     let l = c .before .loop in
-    l .inv .1 ∙ ap (λ (xs : List Bounds). fillFrom (s .args .g) 0 xs (now (s .args .map))) (take-listed (s .pre .0) {i = l .at} (omega (arith, l .inv .0, c .loop-test .left)))
+    l .inv .1 ∙ ap (λ (xs : List Bounds). fillFrom (s .args .g) 0 xs (now (s .args .map)))
+    (take-listed (s .pre .0) {i = l .at} (omega (arith, l .inv .0, c .loop-test .left)))
 
 pub fill-boxes-spec : {M : Type 1} → statement M
 fill-boxes-spec =

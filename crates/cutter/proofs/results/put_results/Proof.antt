@@ -5,7 +5,6 @@ use mathlib.Core.List.{List}
 use Prim.Native.Nat.{ℕ, _-_, _*_, _≤_, _<_}
 use native.Mathlib.Nat.{le-of-lt}
 use native.Mathlib.Omega.{arith}
-use borrow.Author.Needs.{needs}
 use denote.Ref.{now}
 use lib.ListN.{length, take}
 use Rattle.table.specs.Cell.{View}
@@ -25,7 +24,8 @@ use Rattle.cutter.proofs.results.put_results.Tie as tie
 abbrev Inv-loop : tie.InvT-loop
 Inv-loop table work g palette₀ counts₀ places n i₀ palette counts i =
     let boxes = take i (listOf n places) in
-    (i ≤ n) × (palette ≡ paletteLater g (viewOf table) boxes palette₀) × (counts ≡ countsLater g (viewOf table) boxes counts₀)
+    (i ≤ n) × (palette ≡ paletteLater g (viewOf table) boxes palette₀)
+    × (counts ≡ countsLater g (viewOf table) boxes counts₀)
 
 abbrev μ-loop : tie.MeasureT-loop
 μ-loop table work g palette₀ counts₀ places n i₀ palette counts i = n - i
@@ -45,23 +45,39 @@ module _ (s : tie.Start Inv-loop μ-loop) where
   counts-fits = omega (arith, list-length (s .pre .0 .1 .placed), s .pre .1 .1)
 
   module _ (i : ℕ) (h : i ≤ s .args .b .boxes) where
-    palette-long : length (paletteLater (s .args .g) (view s) (take i boxes) (now (s .args .palette))) ≡ length (now (s .args .palette))
+    palette-long : length (paletteLater (s .args .g) (view s) (take i boxes) (now (s .args .palette)))
+        ≡ length (now (s .args .palette))
     unfolding paletteLater
-    palette-long = length-filled-part 3 _ (three (s .args .g) (view s)) boxes i (omega (arith, list-length (s .pre .0 .1 .placed))) (now (s .args .palette)) palette-fits
+    palette-long =
+        length-filled-part 3 _ (three (s .args .g) (view s)) boxes i (omega (arith, list-length (s .pre .0 .1 .placed)))
+        (now (s .args .palette)) palette-fits
 
-    counts-long : length (countsLater (s .args .g) (view s) (take i boxes) (now (s .args .counts))) ≡ length (now (s .args .counts))
+    counts-long : length (countsLater (s .args .g) (view s) (take i boxes) (now (s .args .counts)))
+        ≡ length (now (s .args .counts))
     unfolding countsLater
-    counts-long = length-filled-part 1 _ (one (s .args .g) (view s)) boxes i (omega (arith, list-length (s .pre .0 .1 .placed))) (now (s .args .counts)) counts-fits
+    counts-long =
+        length-filled-part 1 _ (one (s .args .g) (view s)) boxes i (omega (arith, list-length (s .pre .0 .1 .placed)))
+        (now (s .args .counts)) counts-fits
 
 loop-holds : tie.Need-loop-holds Inv-loop μ-loop
 unfolding paletteLater countsLater
 loop-holds c = (omega arith, sym (filled-none 3 _ (three _ _) _), sym (filled-none 1 _ (one _ _) _))
 
 mul-x : tie.Need-mul-x Inv-loop μ-loop
-mul-x c = omega (arith, c .loop-test .taken, c .before .before .before .before .before .before .before .pre .0 .1 .placed .few)
+mul-x c =
+    omega (
+      arith,
+      c .loop-test .taken,
+      c .before .before .before .before .before .before .before .pre .0 .1 .placed .few,
+    )
 
 array-copy-out-x : tie.Need-array-copy-out-x Inv-loop μ-loop
-array-copy-out-x c = omega (arith, c .loop-test .taken, c .before .before .before .before .before .before .before .pre .0 .1 .placed .few)
+array-copy-out-x c =
+    omega (
+      arith,
+      c .loop-test .taken,
+      c .before .before .before .before .before .before .before .pre .0 .1 .placed .few,
+    )
 
 put-result-requires : tie.Need-put-result-requires Inv-loop μ-loop
 put-result-requires c κs =
@@ -69,7 +85,11 @@ put-result-requires c κs =
     let l = c .before .before .before .before .loop in
     let f = s .pre .0 .1 in
     let t : l .i < s .args .b .boxes = omega (arith, c .before .before .before .loop-test .taken) in (
-      (s .pre .0 .0, subst (Occupied (s .args .g) (view s)) (sym (list-item (f .placed) (l .i) t refl)) (record { within = f .placed .within (l .i) t; some = f .some (l .i) t })),
+      (
+        s .pre .0 .0,
+        subst (Occupied (s .args .g) (view s)) (sym (list-item (f .placed) (l .i) t refl))
+            (record { within = f .placed .within (l .i) t; some = f .some (l .i) t }),
+      ),
       (
         omega (arith, ap length (l .inv .1), palette-long s (l .i) (le-of-lt t), s .pre .1 .0),
         omega (arith, ap length (l .inv .2), counts-long s (l .i) (le-of-lt t), s .pre .1 .1),
@@ -77,7 +97,13 @@ put-result-requires c κs =
     )
 
 add-i : tie.Need-add-i Inv-loop μ-loop
-add-i c = omega (arith, c .before .before .before .before .before .before .before .before .loop-test .taken, c .before .before .before .before .before .before .before .before .before .before .before .before .before .before .before .pre .0 .1 .placed .few)
+add-i c =
+    omega (
+      arith,
+      c .before .before .before .before .before .before .before .before .loop-test .taken,
+      c .before .before .before .before .before .before .before .before .before .before .before .before .before .before
+          .before .pre .0 .1 .placed .few,
+    )
 
 loop-less : tie.Need-loop-less Inv-loop μ-loop
 loop-less c = omega (arith, c .before .before .before .before .before .before .before .before .loop-test .taken)
@@ -85,18 +111,23 @@ loop-less c = omega (arith, c .before .before .before .before .before .before .b
 loop-again : tie.Need-loop-again Inv-loop μ-loop
 unfolding paletteLater countsLater withColourAt itsColour itsCount
 loop-again c =
-    let s = c .before .before .before .before .before .before .before .before .before .before .before .before .before .before .before in
+    let s = c .before .before .before .before .before .before .before .before .before .before .before .before .before
+    .before .before in
     let l = c .before .before .before .before .before .before .before .before .before .loop in
     let f = s .pre .0 .1 in
-    let t : l .i < s .args .b .boxes = omega (arith, c .before .before .before .before .before .before .before .before .loop-test .taken) in
+    let t : l .i < s .args .b .boxes = omega
+    (arith, c .before .before .before .before .before .before .before .before .loop-test .taken) in
     let at : l .i < length (boxes s) = omega (arith, list-length (f .placed)) in
     let same = list-item (f .placed) (l .i) t refl in
     let e = c .before .before .before .before .put-result .ensures in (
       omega arith,
-      filled-next 3 _ (three (s .args .g) (view s)) (boxes s) (l .i) noBox 0 at (now (s .args .palette)) (palette-fits s) (l .inv .1)
+      filled-next 3 _ (three (s .args .g) (view s)) (boxes s) (l .i) noBox 0 at (now (s .args .palette))
+          (palette-fits s) (l .inv .1)
           (e .0 ∙ ap (λ (x : Bounds). putFrom (l .palette) (3 * l .i) (itsColour (s .args .g) (view s) x)) same),
-      filled-next 1 _ (one (s .args .g) (view s)) (boxes s) (l .i) noBox 0 at (now (s .args .counts)) (counts-fits s) (l .inv .2)
-          (e .1 ∙ put-one (l .counts) (l .i) _ ∙ ap (λ (x : Bounds). putFrom (l .counts) (1 * l .i) (itsCount (s .args .g) (view s) x)) same),
+      filled-next 1 _ (one (s .args .g) (view s)) (boxes s) (l .i) noBox 0 at (now (s .args .counts)) (counts-fits s)
+          (l .inv .2)
+          (e .1 ∙ put-one (l .counts) (l .i) _
+          ∙ ap (λ (x : Bounds). putFrom (l .counts) (1 * l .i) (itsCount (s .args .g) (view s) x)) same),
     )
 
 same-length : tie.Need-same-length Inv-loop μ-loop

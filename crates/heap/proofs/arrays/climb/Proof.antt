@@ -2,11 +2,11 @@
 -- Assumes nothing.
 use mathlib.Core.Path.{_≡_, refl, sym, ap, _∙_}
 use mathlib.Core.List.{List}
-use Prim.Native.Nat.{ℕ, _<_}
+use Prim.Native.Nat.{_<_}
 use native.Mathlib.Omega.{arith}
 use lib.Ieee.{lt}
 use Rattle.heap.specs.Heap.{parent, enter}
-use Rattle.heap.specs.TwoArrays.{TwoArrays, Packed, bySpread, noItem, itemsOf}
+use Rattle.heap.specs.TwoArrays.{TwoArrays, PackedBox, bySpread, noItem, itemsOf}
 use Rattle.heap.proofs.Steps.{enter-on, enter-stays, enter-ends}
 use Rattle.heap.proofs.TwoArrays.{items-long, spread-at, lent-set, written, copied, arrays-are}
 use Rattle.heap.proofs.arrays.climb.Statement.{statement}
@@ -15,8 +15,10 @@ use Rattle.heap.proofs.arrays.climb.Tie as tie
 abbrev Inv-loop : tie.InvT-loop
 Inv-loop spreads₀ boxes₀ at spread packed p₀ spreads boxes p =
     (p < 256) × TwoArrays spreads boxes
-    × (enter bySpread noItem (record { room = itemsOf spreads₀ boxes₀; hole = at }) (record { spread = spread; box = packed })
-    ≡ enter bySpread noItem (record { room = itemsOf spreads boxes; hole = p }) (record { spread = spread; box = packed }))
+    × (enter bySpread noItem (record { room = itemsOf spreads₀ boxes₀; hole = at })
+    (record { spread = spread; box = packed })
+    ≡ enter bySpread noItem (record { room = itemsOf spreads boxes; hole = p })
+    (record { spread = spread; box = packed }))
 
 abbrev μ-loop : tie.MeasureT-loop
 μ-loop spreads₀ boxes₀ at spread packed p₀ spreads boxes p = p
@@ -48,8 +50,11 @@ loop-again c =
       omega arith,
       lent-set lent (l .p) _ _ (c .copy-to .ensures .0) (c .copy-to .ensures .1),
       l .inv .2
-          ∙ enter-on bySpread noItem _ (l .p) _ (omega arith) (omega arith) (ap (λ x. lt x (s .spread)) (spread-at lent _) ∙ c .before .before .before .if1 .taken)
-          ∙ ap (λ (k : List Packed). enter bySpread noItem (record { room = k; hole = parent (l .p) }) (record { spread = s .spread; box = s .packed })) (sym (copied lent _ (l .p) (c .copy-to .ensures .0) (c .copy-to .ensures .1))),
+          ∙ enter-on bySpread noItem _ (l .p) _ (omega arith) (omega arith)
+          (ap (λ x. lt x (s .spread)) (spread-at lent _) ∙ c .before .before .before .if1 .taken)
+          ∙ ap (λ (k : List PackedBox). enter bySpread noItem (record { room = k; hole = parent (l .p) })
+          (record { spread = s .spread; box = s .packed }))
+          (sym (copied lent _ (l .p) (c .copy-to .ensures .0) (c .copy-to .ensures .1))),
     )
 
 write-at-requires : tie.Need-write-at-requires Inv-loop μ-loop
@@ -64,7 +69,8 @@ returns c =
     let e = c .write-at .ensures in
     arrays-are (lent-set lent (l .p) _ _ (e .0) (e .1))
     (written lent (l .p) _ _ (e .0) (e .1)
-    ∙ sym (l .inv .2 ∙ enter-stays bySpread noItem _ (l .p) _ (omega arith) (omega arith) (ap (λ x. lt x (s .spread)) (spread-at lent _) ∙ c .before .before .before .if1 .left)))
+    ∙ sym (l .inv .2 ∙ enter-stays bySpread noItem _ (l .p) _ (omega arith) (omega arith)
+    (ap (λ x. lt x (s .spread)) (spread-at lent _) ∙ c .before .before .before .if1 .left)))
 
 write-at-requires-2 : tie.Need-write-at-requires-2 Inv-loop μ-loop
 write-at-requires-2 c κs = omega arith
@@ -76,7 +82,8 @@ returns-2 c =
     let long = items-long lent in
     let e = c .write-at2 .ensures in
     arrays-are (lent-set lent (l .p) _ _ (e .0) (e .1))
-    (written lent (l .p) _ _ (e .0) (e .1) ∙ sym (l .inv .2 ∙ enter-ends bySpread noItem _ (l .p) _ (omega arith) (omega arith)))
+    (written lent (l .p) _ _ (e .0) (e .1)
+    ∙ sym (l .inv .2 ∙ enter-ends bySpread noItem _ (l .p) _ (omega arith) (omega arith)))
 
 pub climb-spec : {M : Type 1} → statement M
 climb-spec =

@@ -1,4 +1,5 @@
--- `heap::arrays::sink` meets its contract: where the hole ends, and the room then, are the same wherever the hole stands on its way.
+-- `heap::arrays::sink` meets its contract: where the hole ends, and the room then, are the same wherever the hole
+-- stands on its way.
 -- Assumes nothing.
 use mathlib.Core.Path.{_≡_, refl, sym, ap, subst, _∙_}
 use mathlib.Core.List.{List}
@@ -6,7 +7,7 @@ use Prim.Native.Nat.{ℕ, _+_, _-_, _*_, _≤_, _<_}
 use native.Mathlib.Omega.{arith}
 use lib.ListN.{set}
 use Rattle.heap.specs.Heap.{Holed, item, child, sink}
-use Rattle.heap.specs.TwoArrays.{TwoArrays, Packed, bySpread, noItem, itemsOf}
+use Rattle.heap.specs.TwoArrays.{TwoArrays, PackedBox, bySpread, noItem, itemsOf}
 use Rattle.heap.proofs.Steps.{child-is, sink-on, sink-left, sink-ends}
 use Rattle.heap.proofs.TwoArrays.{lent-set, copied, arrays-are, child-at}
 use Rattle.heap.proofs.arrays.sink.Statement.{statement}
@@ -14,7 +15,9 @@ use Rattle.heap.proofs.arrays.sink.Tie as tie
 
 abbrev Inv-loop : tie.InvT-loop
 Inv-loop spreads₀ boxes₀ len hole₀ spreads boxes hole =
-    (hole < 256) × TwoArrays spreads boxes × (sink bySpread noItem len (itemsOf spreads₀ boxes₀) len 0 ≡ sink bySpread noItem len (itemsOf spreads boxes) len hole)
+    (hole < 256) × TwoArrays spreads boxes
+    × (sink bySpread noItem len (itemsOf spreads₀ boxes₀) len 0 ≡ sink bySpread noItem len (itemsOf spreads boxes) len
+    hole)
 
 abbrev μ-loop : tie.MeasureT-loop
 μ-loop spreads₀ boxes₀ len hole₀ spreads boxes hole = 256 - hole
@@ -32,15 +35,21 @@ child-requires : tie.Need-child-requires Inv-loop μ-loop
 child-requires c κs = omega arith
 
 -- the child that was chosen is the one that moves up
-chosen : (k : tie.After-child Inv-loop μ-loop) → child bySpread noItem (itemsOf (k .before .before .before .loop .spreads) (k .before .before .before .loop .boxes)) (k .before .before .before .loop .hole) ≡ k .child .result
+chosen : (k : tie.After-child Inv-loop μ-loop)
+    → child bySpread noItem
+    (itemsOf (k .before .before .before .loop .spreads) (k .before .before .before .loop .boxes))
+    (k .before .before .before .loop .hole) ≡ k .child .result
 chosen k = child-at (k .before .before .before .loop .inv .1) _ ∙ sym (k .child .ensures)
 
 -- it is one of the two children of the hole
-below : (k : tie.After-child Inv-loop μ-loop) → (k .before .before .before .loop .hole < k .child .result) × (k .child .result ≤ 2 * k .before .before .before .loop .hole + 2)
+below : (k : tie.After-child Inv-loop μ-loop)
+    → (k .before .before .before .loop .hole < k .child .result)
+    × (k .child .result ≤ 2 * k .before .before .before .loop .hole + 2)
 below k =
     let l = k .before .before .before .loop in
     subst (λ (c : ℕ). (l .hole < c) × (c ≤ 2 * l .hole + 2)) (chosen k)
-    (child-is bySpread noItem (itemsOf (l .spreads) (l .boxes)) (l .hole) (λ (c : ℕ). (l .hole < c) × (c ≤ 2 * l .hole + 2)) (omega arith, omega arith) (omega arith, omega arith))
+    (child-is bySpread noItem (itemsOf (l .spreads) (l .boxes)) (l .hole)
+    (λ (c : ℕ). (l .hole < c) × (c ≤ 2 * l .hole + 2)) (omega arith, omega arith) (omega arith, omega arith))
 
 copy-to-requires : tie.Need-copy-to-requires Inv-loop μ-loop
 copy-to-requires c κs = (omega (arith, below (c .before .before)), omega arith)
@@ -59,8 +68,11 @@ loop-again c =
       lent-set lent (l .hole) _ _ (e .0) (e .1),
       l .inv .2
           ∙ sink-on bySpread noItem _ n (l .hole) (omega arith)
-          ∙ (λ i. sink bySpread noItem n (set (itemsOf (l .spreads) (l .boxes)) (l .hole) (item noItem (itemsOf (l .spreads) (l .boxes)) (is i))) n (is i))
-          ∙ ap (λ (k : List Packed). sink bySpread noItem n k n (c .before .before .before .child .result)) (sym (copied lent (c .before .before .before .child .result) (l .hole) (e .0) (e .1))),
+          ∙ (λ i. sink bySpread noItem n
+          (set (itemsOf (l .spreads) (l .boxes)) (l .hole) (item noItem (itemsOf (l .spreads) (l .boxes)) (is i))) n
+          (is i))
+          ∙ ap (λ (k : List PackedBox). sink bySpread noItem n k n (c .before .before .before .child .result))
+          (sym (copied lent (c .before .before .before .child .result) (l .hole) (e .0) (e .1))),
     )
 
 mul-left : tie.Need-mul-left Inv-loop μ-loop
@@ -77,14 +89,20 @@ returns c =
     let l = c .before .before .before .before .before .loop in
     let lent = l .inv .1 in
     let e = c .copy-to2 .ensures in
-    let ends = l .inv .2 ∙ sink-left bySpread noItem _ _ (l .hole) (omega arith) (omega arith) in
-    (sym (ap (λ (s : Holed Packed). s .hole) ends), arrays-are (lent-set lent (l .hole) _ _ (e .0) (e .1)) (copied lent _ (l .hole) (e .0) (e .1) ∙ sym (ap (λ (s : Holed Packed). s .room) ends)))
+    let ends = l .inv .2 ∙ sink-left bySpread noItem _ _ (l .hole) (omega arith) (omega arith) in (
+      sym (ap (λ (s : Holed PackedBox). s .hole) ends),
+      arrays-are (lent-set lent (l .hole) _ _ (e .0) (e .1))
+          (copied lent _ (l .hole) (e .0) (e .1) ∙ sym (ap (λ (s : Holed PackedBox). s .room) ends)),
+    )
 
 returns-2 : tie.Need-returns-2 Inv-loop μ-loop
 returns-2 c =
     let l = c .before .before .loop in
-    let ends = l .inv .2 ∙ sink-ends bySpread noItem _ _ (l .hole) (omega arith) in
-    (sym (ap (λ (s : Holed Packed). s .hole) ends), arrays-are (l .inv .1) (sym (ap (λ (s : Holed Packed). s .room) ends)))
+    let ends = l .inv .2 ∙ sink-ends bySpread noItem _ _ (l .hole) (omega arith) in (
+      sym (ap (λ (s : Holed PackedBox). s .hole) ends),
+      arrays-are (l .inv .1)
+          (sym (ap (λ (s : Holed PackedBox). s .room) ends)),
+    )
 
 pub sink-spec : {M : Type 1} → statement M
 sink-spec =

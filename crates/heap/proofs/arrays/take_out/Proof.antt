@@ -42,14 +42,20 @@ climb-requires c κs =
     let long = items-long (s .pre .0) in
     let fits : s .args .len - 1 ≤ length (itemsOf (now (s .args .spreads)) (now (s .args .boxes))) = omega arith in (
       lent-of _ (e .1 .0) (e .1 .1) (sink-long bySpread noItem _ _ others fits ∙ long),
-      omega (arith, e .0, sink-within bySpread noItem (s .args .len - 1) (itemsOf (now (s .args .spreads)) (now (s .args .boxes))) others fits),
+      omega (
+        arith,
+        e .0,
+        sink-within bySpread noItem (s .args .len - 1)
+            (itemsOf (now (s .args .spreads)) (now (s .args .boxes))) others fits,
+      ),
     )
 
 returns-2 : tie.Need-returns-2
 returns-2 c =
     let s = c .before .before .before .before .before .before .before .before .before in
     let e = c .before .before .before .sink .ensures in
-    taken-out (s .args .len) (s .pre .0) (c .before .before .before .before .before .before .before .before .if1 .left) (e .0) (e .1 .0) (e .1 .1)
+    taken-out (s .args .len) (s .pre .0) (c .before .before .before .before .before .before .before .before .if1 .left)
+    (e .0) (e .1 .0) (e .1 .1)
     (c .climb .ensures .0) (c .climb .ensures .1)
 
 pub take-out-spec : {M : Type 1} → statement M

@@ -1,4 +1,5 @@
--- `rounds::gather::cut_boxes` meets its contract: the arrays hold the start, the loop's heap, and then the record's places.
+-- `rounds::gather::cut_boxes` meets its contract: the arrays hold the start, the loop's heap, and then the record's
+-- places.
 -- Assumes nothing.
 use mathlib.Core.Path.{refl, ap, _∙_}
 use borrow.Author.Needs.{needs}
@@ -21,7 +22,8 @@ whole-requires : tie.Need-whole-requires
 whole-requires c κs = c .before .before .pre .0 .table .accepted
 
 packed-requires : tie.Need-packed-requires
-packed-requires c κs = rw (c .whole .ensures) (within-bytes (whole-within (c .before .before .before .pre .0 .table .accepted)))
+packed-requires c κs =
+    rw (c .whole .ensures) (within-bytes (whole-within (c .before .before .before .pre .0 .table .accepted)))
 
 array-write-boxes : tie.Need-array-write-boxes
 array-write-boxes c = search needs
@@ -33,14 +35,19 @@ all-rounds-requires c κs =
       s .pre,
       (
         record { spreads-long = refl; boxes-long = refl },
-        room-start (s .args .g) refl (c .before .before .packed .ensures ∙ ap packOf (c .before .before .before .whole .ensures)) (within-bytes (whole-within (s .pre .0 .table .accepted))),
+        room-start (s .args .g) refl
+            (c .before .before .packed .ensures ∙ ap packOf (c .before .before .before .whole .ensures))
+            (within-bytes (whole-within (s .pre .0 .table .accepted))),
       ),
     )
 
 gathered-requires : tie.Need-gathered-requires
 gathered-requires c κs =
-    let s = c .before .before .before .before .before .before .before .before .before in
-    (c .before .before .all-rounds .ensures .1 .1, rw (c .before .before .all-rounds .ensures .0) (heap-in-use (s .args .g) (viewOf (now (s .args .table))) (s .args .k) (s .pre .1) .most))
+    let s = c .before .before .before .before .before .before .before .before .before in (
+      c .before .before .all-rounds .ensures .1 .1,
+      rw (c .before .before .all-rounds .ensures .0)
+          (heap-in-use (s .args .g) (viewOf (now (s .args .table))) (s .args .k) (s .pre .1) .most),
+    )
 
 returns : tie.Need-returns
 unfolding boxesOf

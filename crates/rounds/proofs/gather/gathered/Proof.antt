@@ -44,25 +44,53 @@ mul-spread : tie.Need-mul-spread Inv-loop μ-loop
 mul-spread c = omega (arith, c .before .loop .inv .0, c .loop-test .taken, c .before .before .before .pre .1)
 
 element-copy-out-spread : tie.Need-element-copy-out-spread Inv-loop μ-loop
-element-copy-out-spread c = omega (arith, c .before .loop .inv .0, c .loop-test .taken, c .before .before .before .pre .1)
+element-copy-out-spread c =
+    omega (arith, c .before .loop .inv .0, c .loop-test .taken, c .before .before .before .pre .1)
 
 mul-unpacked : tie.Need-mul-unpacked Inv-loop μ-loop
-mul-unpacked c = omega (arith, c .before .before .loop .inv .0, c .before .loop-test .taken, c .before .before .before .before .pre .1)
+mul-unpacked c =
+    omega (
+      arith,
+      c .before .before .loop .inv .0,
+      c .before .loop-test .taken,
+      c .before .before .before .before .pre .1,
+    )
 
 element-copy-out-unpacked : tie.Need-element-copy-out-unpacked Inv-loop μ-loop
-element-copy-out-unpacked c = omega (arith, c .before .before .loop .inv .0, c .before .loop-test .taken, c .before .before .before .before .pre .1)
+element-copy-out-unpacked c =
+    omega (
+      arith,
+      c .before .before .loop .inv .0,
+      c .before .loop-test .taken,
+      c .before .before .before .before .pre .1,
+    )
 
 unpacked-requires-2 : tie.Need-unpacked-requires-2 Inv-loop μ-loop
 unpacked-requires-2 c κs = search needs
 
 mul-places : tie.Need-mul-places Inv-loop μ-loop
-mul-places c = omega (arith, c .before .before .before .loop-test .taken, c .before .before .before .before .before .before .pre .1)
+mul-places c =
+    omega (
+      arith,
+      c .before .before .before .loop-test .taken,
+      c .before .before .before .before .before .before .pre .1,
+    )
 
 array-set-from-places : tie.Need-array-set-from-places Inv-loop μ-loop
-array-set-from-places c = omega (arith, c .before .before .before .loop-test .taken, c .before .before .before .before .before .before .pre .1)
+array-set-from-places c =
+    omega (
+      arith,
+      c .before .before .before .loop-test .taken,
+      c .before .before .before .before .before .before .pre .1,
+    )
 
 add-i : tie.Need-add-i Inv-loop μ-loop
-add-i c = omega (arith, c .before .before .before .loop-test .taken, c .before .before .before .before .before .before .pre .1)
+add-i c =
+    omega (
+      arith,
+      c .before .before .before .loop-test .taken,
+      c .before .before .before .before .before .before .pre .1,
+    )
 
 loop-less : tie.Need-loop-less Inv-loop μ-loop
 loop-less c = omega (arith, c .before .before .before .loop-test .taken)

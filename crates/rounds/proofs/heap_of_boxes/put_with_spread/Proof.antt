@@ -20,8 +20,11 @@ box-sum-requires c κs = search needs
 
 spread-requires : tie.Need-spread-requires
 spread-requires c κs =
-    let s = c .before .before .before in
-    (within-ordered (s .pre .0 .1), plain-stats {v = viewOf (now (s .args .table))} (record { holds = s .pre .0 .0 .is-sound }) (s .pre .0 .1) (c .box-sum .ensures))
+    let s = c .before .before .before in (
+      within-ordered (s .pre .0 .1),
+      plain-stats {v = viewOf (now (s .args .table))}
+          (record { holds = s .pre .0 .0 .is-sound }) (s .pre .0 .1) (c .box-sum .ensures),
+    )
 
 put-box-requires : tie.Need-put-box-requires
 put-box-requires c κs =
@@ -33,8 +36,10 @@ unfolding withSpread
 returns c =
     let s = c .before .before .before .before .before .before .before in (
       c .put-box .ensures .0
-          ∙ ap (λ (v : Float). putIn bySpread noItem (roomIn (now (s .args .spreads)) (now (s .args .boxes))) (s .args .len) (record { spread = v; bounds = s .args .x }))
-          (c .before .before .before .spread .ensures ∙ ap (spreadOf (s .args .x)) (c .before .before .before .before .box-sum .ensures)),
+          ∙ ap (λ (v : Float). putIn bySpread noItem (roomIn (now (s .args .spreads)) (now (s .args .boxes)))
+          (s .args .len) (record { spread = v; bounds = s .args .x }))
+          (c .before .before .before .spread .ensures
+          ∙ ap (spreadOf (s .args .x)) (c .before .before .before .before .box-sum .ensures)),
       c .put-box .ensures .1,
     )
 

@@ -1,4 +1,5 @@
--- `rounds::heap_of_boxes::take_top` meets its contract: the heap of numbers is the heap of the boxes that they unpack to.
+-- `rounds::heap_of_boxes::take_top` meets its contract: the heap of numbers is the heap of the boxes that they unpack
+-- to.
 -- Assumes nothing.
 use borrow.Author.Needs.{needs}
 use Rattle.rounds.proofs.Packing.{after-take}

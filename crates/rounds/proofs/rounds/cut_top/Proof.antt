@@ -49,7 +49,9 @@ returns : tie.Need-returns
 unfolding ofBits
 returns c =
     let s = c .before .before .before .before .before .before .before .before in
-    let q : bestCut (s .args .g) (view s) (s .args .x) ≡ Nowhere = sym (c .before .before .before .before .before .best-cut .ensures) ∙ c .before .before .before .enum-told .given .1 in (
+    let q : bestCut (s .args .g) (view s) (s .args .x)
+    ≡ Nowhere = sym (c .before .before .before .before .before .best-cut .ensures)
+    ∙ c .before .before .before .enum-told .given .1 in (
       sym (boxes-none (s .args .g) (view s) (before s) (s .args .left) (s .args .x) q),
       (
         c .put-box .ensures .0 ∙ sym (room-none (s .args .g) (view s) (before s) (s .args .left) (s .args .x) q),
@@ -66,31 +68,65 @@ high-side-requires c κs = search needs
 put-with-spread-requires : tie.Need-put-with-spread-requires
 put-with-spread-requires c κs =
     let s = c .before .before .before .before .before .before .before .before .before .before in (
-      (s .pre .0 .0, subst (Within (s .args .g)) (sym (c .before .before .before .low-side .ensures)) (low-box (view s) (s .pre .0 .1) (sym (c .before .before .before .before .before .before .before .best-cut .ensures) ∙ c .before .before .before .before .before .dimension .given .1))),
+      (
+        s .pre .0 .0,
+        subst (Within (s .args .g)) (sym (c .before .before .before .low-side .ensures))
+            (low-box (view s) (s .pre .0 .1)
+            (sym (c .before .before .before .before .before .before .before .best-cut .ensures)
+            ∙ c .before .before .before .before .before .dimension .given .1)),
+      ),
       (s .pre .1 .0, omega (arith, s .pre .1 .1)),
     )
 
 add-put-with-spread : tie.Need-add-put-with-spread
-add-put-with-spread c = record { fits = omega (arith, c .before .before .before .before .before .before .before .before .before .before .before .before .before .pre .1 .1) }
+add-put-with-spread c =
+    record {
+      fits = omega (
+        arith,
+        c .before .before .before .before .before .before .before .before .before .before .before .before
+            .before .pre .1 .1,
+      );
+    }
 
 put-with-spread-requires-2 : tie.Need-put-with-spread-requires-2
 put-with-spread-requires-2 c κs =
-    let s = c .before .before .before .before .before .before .before .before .before .before .before .before .before in (
-      (s .pre .0 .0, subst (Within (s .args .g)) (sym (c .before .before .before .before .before .high-side .ensures)) (high-box (view s) (s .pre .0 .1) (sym (c .before .before .before .before .before .before .before .before .before .before .best-cut .ensures) ∙ c .before .before .before .before .before .before .before .before .dimension .given .1))),
+    let s =
+    c .before .before .before .before .before .before .before .before .before .before .before .before .before in (
+      (
+        s .pre .0 .0,
+        subst (Within (s .args .g)) (sym (c .before .before .before .before .before .high-side .ensures))
+            (high-box (view s) (s .pre .0 .1)
+            (sym (c .before .before .before .before .before .before .before .before .before .before .best-cut .ensures)
+            ∙ c .before .before .before .before .before .before .before .before .dimension .given .1)),
+      ),
       (c .before .before .put-with-spread .ensures .1, s .pre .1 .1),
     )
 
 add-result-2 : tie.Need-add-result-2
-add-result-2 c = omega (arith, c .before .before .before .before .before .before .before .before .before .before .before .before .before .before .pre .1 .1)
+add-result-2 c =
+    omega (
+      arith,
+      c .before .before .before .before .before .before .before .before .before .before .before .before .before
+          .before .pre .1 .1,
+    )
 
 returns-2 : tie.Need-returns-2
 returns-2 c =
-    let s = c .before .before .before .before .before .before .before .before .before .before .before .before .before .before in
-    let q = sym (c .before .before .before .before .before .before .before .before .before .before .before .best-cut .ensures) ∙ c .before .before .before .before .before .before .before .before .before .dimension .given .1 in (
+    let s = c .before .before .before .before .before .before .before .before .before .before .before .before .before
+    .before in
+    let q = sym
+    (c .before .before .before .before .before .before .before .before .before .before .before .best-cut .ensures)
+    ∙ c .before .before .before .before .before .before .before .before .before .dimension .given .1 in (
       sym (boxes-cut (s .args .g) (view s) (before s) (s .args .left) (s .args .x) q),
       (
         c .put-with-spread2 .ensures .0
-            ∙ (λ i. putIn bySpread noItem ((c .before .before .before .put-with-spread .ensures .0 ∙ ap (λ (y : Bounds). putIn bySpread noItem (before s) (s .args .left) (withSpread (s .args .g) (view s) y)) (c .before .before .before .before .before .before .before .low-side .ensures)) i) (s .args .left + 1) (withSpread (s .args .g) (view s) (c .before .before .before .before .before .before .high-side .ensures i)))
+            ∙ (λ i. putIn bySpread noItem
+            ((c .before .before .before .put-with-spread .ensures .0
+            ∙ ap (λ (y : Bounds). putIn bySpread noItem (before s) (s .args .left)
+            (withSpread (s .args .g) (view s) y))
+            (c .before .before .before .before .before .before .before .low-side .ensures)) i) (s .args .left + 1)
+            (withSpread (s .args .g) (view s)
+            (c .before .before .before .before .before .before .high-side .ensures i)))
             ∙ sym (room-cut (s .args .g) (view s) (before s) (s .args .left) (s .args .x) q),
         c .put-with-spread2 .ensures .1,
       ),

@@ -45,14 +45,18 @@ sub-left : tie.Need-sub-left
 sub-left c = search needs
 
 take-top-requires : tie.Need-take-top-requires
-take-top-requires c κs = let s = c .before .before .before .before .before .before .before in (s .pre .1 .0, s .pre .1 .1, omega (arith, s .pre .1 .2))
+take-top-requires c κs =
+    let s = c .before .before .before .before .before .before .before in
+    (s .pre .1 .0, s .pre .1 .1, omega (arith, s .pre .1 .2))
 
 is-above-zero-requires : tie.Need-is-above-zero-requires
 is-above-zero-requires c κs = search needs
 
 -- the box that was read
 box-read : (k : tie.After-unpacked) → k .unpacked .result ≡ top (k .before .before .before .before .before) .bounds
-box-read k = k .unpacked .ensures ∙ sym (ap (λ (x : BoxSpread). x .bounds) (room-in-item (k .before .before .before .before .before .pre .1 .0) 0))
+box-read k =
+    k .unpacked .ensures
+    ∙ sym (ap (λ (x : BoxSpread). x .bounds) (room-in-item (k .before .before .before .before .before .pre .1 .0) 0))
 
 -- and its spread
 spread-read : (s : tie.Start) → top s .spread ≡ getD (now (s .args .spreads)) 0 nan
@@ -68,12 +72,15 @@ cut-top-requires c κs =
 returns : tie.Need-returns
 returns c =
     let s = c .before .before .before .before .before .before .before .before .before .before .before .before .before in
-    let on : aboveZero (top s .spread) ≡ true = ap aboveZero (spread-read s) ∙ sym (c .before .before .before .before .is-above-zero .ensures) ∙ c .before .before .before .if1 .taken in
+    let on : aboveZero (top s .spread) ≡ true = ap aboveZero (spread-read s)
+    ∙ sym (c .before .before .before .before .is-above-zero .ensures) ∙ c .before .before .before .if1 .taken in
     let same = box-read (c .before .before .before .before .before .before .before .before) in (
-      c .cut-top .ensures .0 ∙ ap (λ (x : Bounds). boxesAfter (s .args .len - 1) (bestCut (s .args .g) (view s) x)) same ∙ sym (boxes-on (s .args .g) (view s) (before s) (s .args .len) on),
+      c .cut-top .ensures .0 ∙ ap (λ (x : Bounds). boxesAfter (s .args .len - 1) (bestCut (s .args .g) (view s) x)) same
+          ∙ sym (boxes-on (s .args .g) (view s) (before s) (s .args .len) on),
       (
         c .cut-top .ensures .1 .0
-            ∙ (λ i. roomAfter (s .args .g) (view s) (c .before .before .before .before .before .take-top .ensures .0 i) (s .args .len - 1) (same i) (bestCut (s .args .g) (view s) (same i)))
+            ∙ (λ i. roomAfter (s .args .g) (view s) (c .before .before .before .before .before .take-top .ensures .0 i)
+            (s .args .len - 1) (same i) (bestCut (s .args .g) (view s) (same i)))
             ∙ sym (room-on (s .args .g) (view s) (before s) (s .args .len) on),
         c .cut-top .ensures .1 .1,
       ),
@@ -81,17 +88,27 @@ returns c =
 
 put-box-requires : tie.Need-put-box-requires
 put-box-requires c κs =
-    let s = c .before .before .before .before .before .before .before .before .before .before .before .before in
-    (c .before .before .before .before .take-top .ensures .1, omega (arith, s .pre .1 .2), rw (box-read (c .before .before .before .before .before .before .before)) (within-bytes (s .pre .1 .3)))
+    let s = c .before .before .before .before .before .before .before .before .before .before .before .before in (
+      c .before .before .before .before .take-top .ensures .1,
+      omega (arith, s .pre .1 .2),
+      rw (box-read (c .before .before .before .before .before .before .before)) (within-bytes (s .pre .1 .3)),
+    )
 
 returns-2 : tie.Need-returns-2
 returns-2 c =
     let s = c .before .before .before .before .before .before .before .before .before .before .before .before .before in
-    let off : aboveZero (top s .spread) ≡ false = ap aboveZero (spread-read s) ∙ sym (c .before .before .before .before .is-above-zero .ensures) ∙ c .before .before .before .if1 .left in (
+    let off : aboveZero (top s .spread) ≡ false = ap aboveZero (spread-read s)
+    ∙ sym (c .before .before .before .before .is-above-zero .ensures) ∙ c .before .before .before .if1 .left in (
       sym (boxes-stops (s .args .g) (view s) (before s) (s .args .len) off),
       (
         c .put-box .ensures .0
-            ∙ (λ i. putIn bySpread noItem (c .before .before .before .before .before .take-top .ensures .0 i) (s .args .len - 1) (record { spread = sym (spread-read s) i; bounds = box-read (c .before .before .before .before .before .before .before .before) i }))
+            ∙ (λ i. putIn bySpread noItem (c .before .before .before .before .before .take-top .ensures .0 i)
+            (s .args .len - 1)
+            (record {
+              spread = sym (spread-read s) i;
+              bounds = box-read
+                  (c .before .before .before .before .before .before .before .before) i;
+            }))
             ∙ sym (room-stops (s .args .g) (view s) (before s) (s .args .len) off),
         c .put-box .ensures .1,
       ),
