@@ -6,6 +6,6 @@ pub mod Worked
 pub mod Listed
 pub mod Refusals
 pub mod Tiling
-pub mod Finding
+pub mod RecordBoxes
 pub mod Laws
-pub mod Few
+pub mod RecordSize

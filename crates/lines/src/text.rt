@@ -1,7 +1,7 @@
 // The program's whole text, for what was loaded.
 use crate::listing::listing;
 use crate::listing::refused;
-use cutter::cut;
+use cutter::call::cut;
 ghost use mathlib.Core.Path.{_≡_};
 ghost use Prim.Native.Nat.{_≤_};
 ghost use lib.ListN.{length};

@@ -25,7 +25,7 @@ use Rattle.loader.specs.Merge.{mergeNumber, mergeLater}
 use Rattle.loader.proofs.Calls.{load-no-grid, merge-no-grid}
 use Rattle.loader.proofs.Laws.{load-refused, load-tests, load-says, load-accepts, merge-refused, merge-tests}
 use Rattle.loader.proofs.Laws.{merge-says, merge-accepts}
-use Rattle.cutter.specs.Cut.{Buffers, lengthsOf, longEnough, cutNumberOn, cutNumber, refusedRecord, cutRecord, cutLater}
+use Rattle.cutter.specs.Cut.{LengthsFit, lengthsRight, Buffers, lengthsOf, longEnough, cutNumberOn, cutNumber, refusedRecord, cutRecord, cutLater}
 use Rattle.cutter.specs.Cut.{CanCut}
 use Rattle.cutter.proofs.Laws.{cut-refuses, cut-says, cut-accepts}
 use Rattle.band.specs.Band.{allBelow, bandNumber}
@@ -140,7 +140,7 @@ module _ (b1 b2 b3 : ℕ) where
   unfolding cutNumber cutNumberOn cutApplies cutTests chain ascends noGrid onBins numberOn onGrid gridAnswer refuse
   cut-lowest k t b = go (gridOf b1 b2 b3) ∙ lowest (cutTests (gridOf b1 b2 b3) k t b true) 1 (omega arith) refl
     where
-      go : (c : Chosen) → numberOn c (λ g. cutNumberOn limit g k t (lengthsOf b)) ≡ chain (cutTests c k t b true)
+      go : (c : Chosen) → numberOn c (λ g. cutNumberOn limit g k (lengthsRight g k t b) (viewOf t)) ≡ chain (cutTests c k t b true)
       go (chosen.Accepted g) = refl
       go chosen.Refused = refl
 
@@ -272,13 +272,13 @@ module _ (b1 b2 b3 : ℕ) where
   )
 
   pub cut-exactly : (k : ℕ) (t : List ℕ) (b : Buffers)
-      → (cutNumber b1 b2 b3 k t b ≡ 0) ↔ OnGrid b1 b2 b3 (λ g. CanCut g k t (lengthsOf b))
+      → (cutNumber b1 b2 b3 k t b ≡ 0) ↔ OnGrid b1 b2 b3 (λ g. CanCut limit g k (viewOf t) × LengthsFit g k (length t) (lengthsOf b))
   unfolding cutNumber
   cut-exactly k t b = (
     λ e.
-        let c = call-done {A = ℕ} (gridOf b1 b2 b3) (λ g. cutNumberOn limit g k t (lengthsOf b)) (λ g. 0) 0 e in
-        record { g = c .g; chosen = c .is; can = cut-says b1 b2 b3 k t b (c .is) e .can },
-    λ o. cut-accepts b1 b2 b3 k t b (o .chosen) (o .can),
+        let c = call-done {A = ℕ} (gridOf b1 b2 b3) (λ g. cutNumberOn limit g k (lengthsRight g k t b) (viewOf t)) (λ g. 0) 0 e in
+        let d = cut-says b1 b2 b3 k t b (c .is) e in record { g = c .g; chosen = c .is; can = (d .can, d .fit) },
+    λ o. cut-accepts b1 b2 b3 k t b (o .chosen) (o .can .0) (o .can .1),
   )
 
   pub map-exactly : (map : List ℕ) (paletteColours : ℕ) (frame indices : List ℕ) (first pixels : ℕ)
