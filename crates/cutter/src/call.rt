@@ -10,6 +10,7 @@ use rounds::gather::BoxSpread;
 use rounds::gather::Boxes;
 use rounds::gather::cut_boxes;
 use sums::moments::moments;
+use table::layout::table_len;
 use table::sound::SoundTotal;
 use table::sound::sound_total;
 ghost use mathlib.Core.Path.{_≡_};
@@ -65,14 +66,6 @@ fn done(b: Boxes) -> CutRecord
     }
 }
 
-// How many numbers a table of so many bins has.
-fn table_len(bins: usize) -> usize
-    requires { ⌜ bins ≤ 2097152 ⌝ }
-    ensures { λ r. ⌜ r ≡ tableLen bins ⌝ }
-{
-    5 * bins
-}
-
 // Whether the lengths of what is lent are right for a k within its bounds.
 fn long_enough(
     g: Grid,
@@ -89,7 +82,7 @@ fn long_enough(
         (record { work = work; palette = palette; counts = counts; map = map }) ⌝ }
 {
     let n = bins(g);
-    let numbers = table_len(n);
+    let numbers = table_len(g);
     if table != numbers {
         return false;
     }

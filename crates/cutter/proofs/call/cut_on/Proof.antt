@@ -7,7 +7,12 @@ use native.Mathlib.Omega.{arith}
 use borrow.Author.Needs.{needs}
 use denote.Ref.{now}
 use Rattle.table.specs.Cell.{View}
-use Rattle.table.specs.Table.{viewOf}
+use Rattle.grid.specs.Grid.{binsOf}
+use Rattle.table.specs.Table.{Table, viewOf, written, TableOf}
+use Rattle.table.specs.Sound.{limit}
+use Rattle.table.proofs.Tables.{sized-by}
+use Rattle.sums.specs.Moments.{momentsOf, CanSum}
+use Rattle.sums.proofs.Steps.{sums-can}
 use Rattle.rounds.specs.declared.gather.Boxes.{Boxes}
 use Rattle.rounds.specs.Loop.{boxesOf}
 use Rattle.rounds.proofs.Filled.{heap-most}
@@ -22,6 +27,14 @@ use Rattle.cutter.proofs.call.cut_on.Tie as tie
 abbrev view : tie.Start → View
 view s = viewOf (now (s .args .table))
 
+-- the table, and the work table after the moments
+the-table : (s : tie.Start) → TableOf (s .args .g) (now (s .args .table))
+the-table s = record { accepted = s .pre .0 .0; lent = sized-by (s .pre .1 .table) }
+
+can-sum : (s : tie.Start) {w : Table} → w ≡ written (binsOf (s .args .g)) (momentsOf (s .args .g) (view s))
+    → CanSum limit (s .args .g) (now (s .args .table)) w
+can-sum s = sums-can (the-table s) (s .pre .0 .1 .is-sound)
+
 -- the boxes of the loop
 the-boxes : (s : tie.Start) {b : Boxes} → b ≡ boxesOf (s .args .g) (view s) (s .args .k) → Found (s .args .g) (view s) b
 the-boxes s e =
@@ -33,10 +46,14 @@ unfolding boxesOf
 few s e = rw e (heap-most (s .args .g) (view s) (s .args .k) (s .pre .0 .1 .least) (s .pre .0 .1 .most))
 
 moments-requires : tie.Need-moments-requires
-moments-requires c κs = search needs
+moments-requires c κs =
+    let s = c .before .before .before .before .before .before in
+    record { table = the-table s; is-sound = s .pre .0 .1 .is-sound; work = sized-by (s .pre .1 .work) }
 
 cut-boxes-requires : tie.Need-cut-boxes-requires
-cut-boxes-requires c κs = search needs
+cut-boxes-requires c κs =
+    let s = c .before .before .before .before .before .before .before .before .before .before in
+    (can-sum s (c .before .before .before .moments .ensures), s .pre .0 .1 .most)
 
 put-results-requires : tie.Need-put-results-requires
 put-results-requires c κs =
@@ -44,11 +61,7 @@ put-results-requires c κs =
     .before in
     let e = c .before .before .before .cut-boxes .ensures in (
       (
-        record {
-          table = record { accepted = s .pre .0 .0; lent = s .pre .1 .table };
-          is-sound = s .pre .0 .1 .is-sound;
-          moments = c .before .before .before .before .before .before .before .moments .ensures;
-        },
+        can-sum s (c .before .before .before .before .before .before .before .moments .ensures),
         the-boxes s e,
       ),
       (omega (arith, few s e, s .pre .1 .palette), le-trans (few s e) (s .pre .1 .counts)),

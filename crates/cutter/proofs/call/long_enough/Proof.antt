@@ -5,7 +5,6 @@ use Prim.Native.Nat.{ℕ}
 use native.Mathlib.Omega.{arith}
 use borrow.Author.Needs.{needs}
 use lib.Dec.{eqb}
-use Rattle.grid.proofs.Places.{bins-high}
 use Rattle.grid.specs.Grid.{binsOf}
 use Rattle.table.specs.Table.{tableLen}
 use Rattle.cutter.specs.Cut.{Lengths}
@@ -18,13 +17,13 @@ lengths s = record { work = s .args .work; palette = s .args .palette; counts = 
 
 -- five numbers a bin
 numbers : (k : tie.After-table-len) → k .table-len .result ≡ tableLen (binsOf (k .before .before .args .g))
-numbers k = k .table-len .ensures ∙ ap (λ (n : ℕ). tableLen n) (k .before .bins .ensures)
+numbers k = k .table-len .ensures
 
 bins-requires : tie.Need-bins-requires
 bins-requires c κs = search needs
 
 table-len-requires : tie.Need-table-len-requires
-table-len-requires c κs = omega (arith, c .bins .ensures, bins-high (c .before .pre .0))
+table-len-requires c κs = search needs
 
 returns : tie.Need-returns
 returns c =

@@ -12,6 +12,7 @@ use lib.ListN.{length}
 use Rattle.table.specs.Cell.{View}
 use Rattle.table.specs.Table.{viewOf}
 use Rattle.table.specs.Sound.{limit, total, sound}
+use Rattle.table.proofs.Tables.{sized-by}
 use Rattle.table.proofs.Total.{unsound-says, total-says}
 use Rattle.cutter.specs.Cut.{Lengths, longEnough}
 use Rattle.cutter.proofs.Refusals.{k-low, k-high, too-short, not-sound, no-total, accepts, lengths-fit}
@@ -57,7 +58,7 @@ right k = sym (k .before .long-enough .ensures) ∙ not-false _ (k .if3 .left)
 sound-total-requires : tie.Need-sound-total-requires
 sound-total-requires c κs =
     let s = c .before .before .before .before .before in
-    record { accepted = s .pre; lent = lengths-fit (right c) .table }
+    record { accepted = s .pre; lent = sized-by (lengths-fit (right c) .table) }
 
 enum-known-total : tie.Need-enum-known-total
 enum-known-total c = search needs
