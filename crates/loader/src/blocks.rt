@@ -25,8 +25,8 @@ fn add_each(
     at: usize,
     n: usize,
 )
-    requires { ⌜ PartFits limit g (now table) (now colours) weighted (now weights) at n ⌝ }
-    requires { ⌜ StepTables g (now t1) (now t2) (now t3) ⌝ }
+    requires fits { ⌜ PartFits limit g (now table) (now colours) weighted (now weights) at n ⌝ }
+    requires tables { ⌜ StepTables g (now t1) (now t2) (now t3) ⌝ }
     ensures { λ r. ⌜ now (table .exit)
         ≡ withPart g (now (table .entry)) (now (colours .entry)) weighted (now (weights .entry)) at n ⌝ }
 {
@@ -53,9 +53,9 @@ fn add_block(
     weights: &[u32],
     at: usize,
 )
-    requires { ⌜ PartFits limit g (now table) (now colours) weighted (now weights) at 64
-        × (3 * at + 194 < length (now colours)) ⌝ }
-    requires { ⌜ StepTables g (now t1) (now t2) (now t3) ⌝ }
+    requires fits { ⌜ PartFits limit g (now table) (now colours) weighted (now weights) at 64 ⌝ }
+    requires whole { ⌜ 3 * at + 194 < length (now colours) ⌝ }
+    requires tables { ⌜ StepTables g (now t1) (now t2) (now t3) ⌝ }
     ensures { λ r. ⌜ now (table .exit)
         ≡ withPart g (now (table .entry)) (now (colours .entry)) weighted (now (weights .entry)) at 64 ⌝ }
 {
@@ -84,8 +84,8 @@ fn add_blocks(
     weights: &[u32],
     n: usize,
 )
-    requires { ⌜ PartFits limit g (now table) (now colours) weighted (now weights) 0 n ⌝ }
-    requires { ⌜ StepTables g (now t1) (now t2) (now t3) ⌝ }
+    requires fits { ⌜ PartFits limit g (now table) (now colours) weighted (now weights) 0 n ⌝ }
+    requires tables { ⌜ StepTables g (now t1) (now t2) (now t3) ⌝ }
     ensures { λ r. ⌜ now (table .exit)
         ≡ withPart g (now (table .entry)) (now (colours .entry)) weighted (now (weights .entry)) 0 n ⌝ }
 {

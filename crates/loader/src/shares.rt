@@ -48,8 +48,9 @@ pub(crate) fn add_colour(
     x: Rgb,
     w: u64,
 )
-    requires { ⌜ StepTables g (now t1) (now t2) (now t3) × (w ≤ limit) ⌝ }
-    requires { ⌜ CellFits (now table) (colourPlace g x) (cellOf (share (record { colour = x; weight = w }))) ⌝ }
+    requires tables { ⌜ StepTables g (now t1) (now t2) (now t3) ⌝ }
+    requires weight { ⌜ w ≤ limit ⌝ }
+    requires fits { ⌜ CellFits (now table) (colourPlace g x) (cellOf (share (record { colour = x; weight = w }))) ⌝ }
     ensures { λ r. ⌜ now (table .exit) ≡ withColour g (now (table .entry)) (record { colour = x; weight = w }) ⌝ }
 {
     let v = look_up(g, t1, t2, t3, x);

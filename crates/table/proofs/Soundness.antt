@@ -69,11 +69,11 @@ keeps-plus {span} {f} {h} a b =
     }
 
 -- ---- the bounds of a cell, as the code tests them one after the other
-flat : (a b c d : Bool) → ((a && (b && (c && true))) && d) ≡ (a && (b && (c && d)))
-flat true true true d = refl
-flat true true false d = refl
-flat true false c d = refl
-flat false b c d = refl
+regrouped : (a b c d : Bool) → ((a && (b && (c && true))) && d) ≡ (a && (b && (c && d)))
+regrouped true true true d = refl
+regrouped true true false d = refl
+regrouped true false c d = refl
+regrouped false b c d = refl
 
 -- the tests before one that held, and it or the rest
 cell-bounds : (s1 s2 s3 : Span) (c : Cell)
@@ -83,7 +83,7 @@ cell-bounds : (s1 s2 s3 : Span) (c : Cell)
     && (between s3 (c .weight) (c .sum3) && leb (c .squares) (195075 * c .weight))))
 unfolding inBounds allFrom choose numberOf
 cell-bounds s1 s2 s3 c =
-    flat (between s1 (c .weight) (c .sum1)) (between s2 (c .weight) (c .sum2)) (between s3 (c .weight) (c .sum3))
+    regrouped (between s1 (c .weight) (c .sum1)) (between s2 (c .weight) (c .sum2)) (between s3 (c .weight) (c .sum3))
     (leb (c .squares) (195075 * c .weight))
 
 between-none : (s : Span) (sum : ℕ) → between s 0 sum ≡ leb sum 0

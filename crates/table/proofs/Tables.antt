@@ -1,21 +1,20 @@
 -- Laws of a lent table: its size, the view that it holds, and a cell that is written into it. What stands above needs
 -- no inside of them.
 -- Assumes nothing.
-use mathlib.Core.Path.{_≡_, refl, sym, ap, subst, _∙_}
+use mathlib.Core.Path.{_≡_, refl, sym, ap, _∙_}
 use mathlib.Core.Bool.{true, false, cond}
-use mathlib.Core.List.{List}
-use Prim.Native.Nat.{ℕ, zero, suc, _+_, _*_, _/_, _%_, _^_, _≤_, _<_}
+use Prim.Native.Nat.{ℕ, zero, suc, _+_, _*_, _/_, _%_, _<_}
 use native.Mathlib.Nat.{add-zero}
 use native.Mathlib.Decide.{ℕ-discrete}
 use native.Mathlib.Omega.{arith}
 use borrow.Author.Tests.{eq-eqb, ne-eqb, eqb-true}
 use lib.Dec.{eqb}
-use lib.ListN.{length, getD, set, length-set, length-replicate, getD-replicate}
+use lib.ListN.{length, getD, set, replicate, length-set, length-replicate, getD-replicate}
 use lib.Seq.{getD-set-same, getD-set-other}
 use Rattle.basics.proofs.Range.{length-list, list-at, list-is}
 use Rattle.table.specs.declared.cell.Cell.{Cell}
-use Rattle.table.specs.Cell.{View, zeros, numberOf, cellOf, plusCell, SumsFit}
-use Rattle.table.specs.Table.{Table, tableLen, Sized, isSized, viewOf, written, emptyOf, putAt, HasCell, Held}
+use Rattle.table.specs.Cell.{View, zeros, numberOf, cellOf, plusCell}
+use Rattle.table.specs.Table.{Table, tableLen, Sized, isSized, viewOf, written, emptyOf, putAt, HasCell}
 use Rattle.table.proofs.Cells.{number-cell, number-plus}
 
 -- ---- size
@@ -44,6 +43,15 @@ module _ {t : Table} {n : ℕ} where
   pub has-cell : Sized t n → (p : ℕ) → p < n → HasCell t p
   unfolding tableLen
   has-cell s p h = record { fits = omega (arith, s .numbers) }
+
+-- in the wide layout, for who lends a table of a known length
+pub wide-len : (n : ℕ) → tableLen n ≡ 5 * n
+unfolding tableLen
+wide-len n = refl
+
+pub wide-empty : (n : ℕ) → emptyOf n ≡ replicate (5 * n) 0
+unfolding emptyOf tableLen
+wide-empty n = refl
 
 -- tables of as many bins are as long
 pub same-size : {t u : Table} {n : ℕ} → Sized t n → Sized u n → length t ≡ length u
@@ -103,11 +111,6 @@ empty-holds n =
     }
 
 -- ---- a cell written at a place
--- a sum that fits a u64 fits its place
-pub sums-held : {c d : Cell} → SumsFit c d → {s : Cell} → s ≡ plusCell c d → Held s
-sums-held {c} {d} f e =
-    record { fits = λ j h. rw (e, number-plus c d j h) (f .fits j h) }
-
 pub put-sized : {t : Table} {n : ℕ} → Sized t n → (p : ℕ) (c : Cell) → Sized (putAt t p c) n
 unfolding putAt
 put-sized s p c = record { numbers = simp length-set (s .numbers) }

@@ -28,27 +28,26 @@ same f k h =
     one-colour (now (a .colours)) (a .at) (sym (f .before .equal-colours .ensures) ∙ f .if1 .taken) k (omega arith)
 
 equal-colours-requires : tie.Need-equal-colours-requires
-equal-colours-requires c κs = c .before .before .before .pre .0 .1
+equal-colours-requires c κs = c .before .before .before .pre .1 .0
 
 colour-requires : tie.Need-colour-requires
 colour-requires c κs = omega arith
 
 block-weight-requires : tie.Need-block-weight-requires
 block-weight-requires c κs =
-    let fits = c .before .before .before .before .before .before .pre .0 .0 in
+    let fits = c .before .before .before .before .before .before .pre .0 in
     λ given. omega (arith, fits .there, fits .one-each given)
 
 add-colour-requires : tie.Need-add-colour-requires
 add-colour-requires c κs =
     let f = c .before .before .before in
     let pre = f .before .before .before .before .before .pre in (
+      pre .1 .1,
       (
-        pre .1,
-        light (pre .0 .0) (bytes f) (same f) (c .before .before .colour .ensures)
-            (c .before .block-weight .ensures),
+        light (pre .0) (bytes f) (same f) (c .before .before .colour .ensures) (c .before .block-weight .ensures),
+        has-room (pre .0) (bytes f) (same f) (c .before .before .colour .ensures) (c .before .block-weight .ensures)
+            (omega arith),
       ),
-      has-room (pre .0 .0) (bytes f) (same f) (c .before .before .colour .ensures) (c .before .block-weight .ensures)
-          (omega arith),
     )
 
 same-length : tie.Need-same-length
@@ -60,7 +59,7 @@ returns c =
     let b = c .before .before .before .before in
     let f = b .before .before in
     let pre = f .before .before .before .before .before .pre in
-    holds-list (at-once (pre .0 .0) (bytes f) (same f) (b .before .colour .ensures) (b .block-weight .ensures)
+    holds-list (at-once (pre .0) (bytes f) (same f) (b .before .colour .ensures) (b .block-weight .ensures)
     (c .before .before .add-colour .ensures))
 
 add-each-requires : tie.Need-add-each-requires
@@ -68,8 +67,8 @@ add-each-requires c κs =
     let s = c .before .before .before .before .before .before .before in
     let a = s .args in (
       subst (λ (b : Bool). PartFits limit (a .g) (now (a .table)) (now (a .colours)) b (now (a .weights)) (a .at) 64)
-          (c .before .if2 .taken) (s .pre .0 .0),
-      s .pre .1,
+          (c .before .if2 .taken) (s .pre .0),
+      s .pre .1 .1,
     )
 
 same-length-2 : tie.Need-same-length-2
@@ -83,8 +82,8 @@ add-each-requires-2 c κs =
     let s = c .before .before .before .before .before .before .before in
     let a = s .args in (
       subst (λ (b : Bool). PartFits limit (a .g) (now (a .table)) (now (a .colours)) b (now (a .weights)) (a .at) 64)
-          (c .before .if2 .left) (s .pre .0 .0),
-      s .pre .1,
+          (c .before .if2 .left) (s .pre .0),
+      s .pre .1 .1,
     )
 
 same-length-3 : tie.Need-same-length-3

@@ -43,11 +43,8 @@ add-block-requires : tie.Need-add-block-requires Inv-loop μ-loop
 add-block-requires c κs =
     let l = c .before .before .loop in
     let s = c .before .before .before .before .before .before in (
-      (
-        fits-later (s .pre .0) (bytes (c .before .before)) (l .i) (l .inv .1) (l .i) 64 (omega arith) (omega arith),
-        omega (arith, s .pre .0 .there),
-      ),
-      s .pre .1,
+      fits-later (s .pre .0) (bytes (c .before .before)) (l .i) (l .inv .1) (l .i) 64 (omega arith) (omega arith),
+      (omega (arith, s .pre .0 .there), s .pre .1),
     )
 
 add-i : tie.Need-add-i Inv-loop μ-loop

@@ -60,11 +60,11 @@ add-colour-requires c κs =
     let same = alone (now (a .colours)) (a .at + l .before .loop .k) in
     let own = own-weight (a .weighted) (now (a .weights)) (a .at + l .before .loop .k) in
     let w = c .before .weight-at .ensures ∙ own in (
+      l .before .before .before .before .before .pre .1,
       (
-        l .before .before .before .before .before .pre .1,
         light (next l) (bytes l) same (c .before .before .colour .ensures) w,
+        has-room (next l) (bytes l) same (c .before .before .colour .ensures) w (omega arith),
       ),
-      has-room (next l) (bytes l) same (c .before .before .colour .ensures) w (omega arith),
     )
 
 add-k : tie.Need-add-k Inv-loop μ-loop

@@ -20,12 +20,12 @@ look-up-requires c κs = search needs
 share-of-requires : tie.Need-share-of-requires
 share-of-requires c κs =
     let s = c .before .before .before in
-    (omega (arith, s .pre .0 .1), squares-above (s .pre .0 .0) (is-bytes s) (c .before .look-up .ensures))
+    (omega (arith, s .pre .1 .0), squares-above (s .pre .0) (is-bytes s) (c .before .look-up .ensures))
 
 add-at-requires : tie.Need-add-at-requires
 add-at-requires c κs =
     let s = c .before .before .before .before in
-    rw (place-below (s .pre .0 .0) (is-bytes s) (c .before .before .look-up .ensures), c .share-of .ensures) (s .pre .1)
+    rw (place-below (s .pre .0) (is-bytes s) (c .before .before .look-up .ensures), c .share-of .ensures) (s .pre .1 .1)
 
 same-length : tie.Need-same-length
 same-length c = search needs
@@ -36,7 +36,7 @@ returns c =
     let s = c .before .before .before .before .before .before .before in
     rw (
       c .before .before .add-at .ensures,
-      place-below (s .pre .0 .0) (is-bytes s) (c .before .before .before .before .before .look-up .ensures),
+      place-below (s .pre .0) (is-bytes s) (c .before .before .before .before .before .look-up .ensures),
       c .before .before .before .share-of .ensures,
     ) refl
 
