@@ -5,7 +5,7 @@ use mathlib.Core.List.{List}
 use Prim.Native.Nat.{ℕ, zero, suc, _≤_, _<_}
 use native.Mathlib.Omega.{arith}
 use Rattle.basics.specs.Answer.{whenDone}
-use Rattle.cutter.specs.declared.CutRecord.{CutRecord}
+use Rattle.cutter.specs.declared.call.CutRecord.{CutRecord}
 use Rattle.cutter.specs.Cut.{Buffers, cutRecord, cutLater}
 use Rattle.lines.specs.Text.{listingOf, refusedOf}
 use Rattle.lines.specs.Listing.{lowerOf, lentZeros, cutText, textOf}
@@ -60,6 +60,6 @@ module _ (t : List ℕ) {r : CutRecord} (e : r ≡ cutRecord 8 8 8 16 t lentZero
   unfolding cutText
   cut-refused h = rw (← e) (when-refused (r .number) _ _ h)
 
-  pub cut-listed : {later : Buffers} → later ≡ cutLater 8 8 8 16 t lentZeros → r .number ≡ 0 → cutText t ≡ listingOf (r .boxes) (later .palette) (later .counts)
+  pub cut-listed : {later : Buffers} → later ≡ cutLater 8 8 8 16 t lentZeros → r .number ≡ 0 → cutText t ≡ listingOf (r .boxes) (later .results .palette) (later .results .counts)
   unfolding cutText
   cut-listed l h = rw (← e, ← l) (when-done (r .number) _ _ h)

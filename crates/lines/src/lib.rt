@@ -1,6 +1,6 @@
 // What the listing program does between reading and writing: it loads its input batch by batch, and puts the text for
 // what was loaded into a lent buffer.
-use cutter::cut;
+use cutter::call::cut;
 use loader::load;
 ghost use mathlib.Core.Path.{_≡_};
 ghost use mathlib.Core.List.{[], _∷_};

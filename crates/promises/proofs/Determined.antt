@@ -7,7 +7,7 @@ use Prim.Native.Nat.{ℕ}
 use lib.Ieee.{Float}
 use denote.Ref.{now}
 use Rattle.basics.proofs.Determined.{determined}
-use Rattle.cutter.specs.declared.CutRecord.{CutRecord}
+use Rattle.cutter.specs.declared.call.CutRecord.{CutRecord}
 use Rattle.cutter.specs.Cut.{Buffers, buffers}
 use Rattle.grid.proofs.dimension.shift_of as shift-of
 use Rattle.grid.proofs.place.grid_of as grid-of
@@ -36,17 +36,17 @@ use Rattle.spread.proofs.better as better
 use Rattle.boxes.proofs.sides.low_side as low-side
 use Rattle.boxes.proofs.sides.high_side as high-side
 use Rattle.spread.proofs.best_cut as best-cut
-use Rattle.heap.proofs.put_in as put-in
-use Rattle.heap.proofs.take_out as take-out
-use Rattle.rounds.proofs.cut_boxes as cut-boxes
-use Rattle.cutter.proofs.front as front
+use Rattle.heap.proofs.arrays.put_in as put-in
+use Rattle.heap.proofs.arrays.take_out as take-out
+use Rattle.rounds.proofs.gather.cut_boxes as cut-boxes
+use Rattle.cutter.proofs.palette.front as front
 use Rattle.mapper.proofs.map as map
 use Rattle.mapper.proofs.paint as paint
 use Rattle.lines.specs.declared.Loaded.{Loaded}
 use Rattle.lines.proofs.empty_table as empty-table
 use Rattle.lines.proofs.load_batch as load-batch
 use Rattle.lines.proofs.text as text
-use Rattle.cutter.proofs.cut as cut
+use Rattle.cutter.proofs.call.cut as cut
 use Rattle.seluvava.specs.declared.CutAnswer.{CutAnswer}
 use Rattle.seluvava.specs.Cut.{Lent, lent}
 use Rattle.seluvava.proofs.seluvava_bins as exported-bins

@@ -44,13 +44,16 @@ module _ (b1 b2 b3 k : ℕ) (t : List ℕ) (b : Buffers) {g : Grid} (e : gridOf 
         (record {
           least = l .least;
           most = l .most;
+          is-sound = table-sound g a (leaves p) bytes (fits .0);
+          some = omega (arith, some, table-total g a (leaves p) bytes);
+        }))
+        (rw (fits .1)
+        (record {
           table = table-holds g (leaves p) .lent;
           work = l .work;
           palette = l .palette;
           counts = l .counts;
           map = l .map;
-          is-sound = table-sound g a (leaves p) bytes (fits .0);
-          some = omega (arith, some, table-total g a (leaves p) bytes);
         }))
 
     -- as many boxes as the smaller of k and the occupied bins, at every total from 1 on; demand 3 asks for those up to 200,000

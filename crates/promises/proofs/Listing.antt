@@ -36,13 +36,13 @@ use Rattle.spread.specs.Spread.{zeroOf, quotientOf, spreadOf, scoreOf}
 use Rattle.boxes.specs.Box.{oneBin}
 use Rattle.spread.specs.Cut.{positionOf, positionAt, laterWins, better, bestRun, bestIn, bestCut}
 use Rattle.heap.specs.Heap.{climb, putIn, sink, enter, takeOut}
-use Rattle.rounds.specs.declared.BoxSpread.{BoxSpread}
-use Rattle.rounds.specs.declared.Boxes.{Boxes}
-use Rattle.rounds.specs.Loop.{itself, startRoom, start, roomAfter, usedAfter, goesOn, roundRoom, roundUsed, round, rounds, heapOf, boxSpread, placesOf, boxesOf}
+use Rattle.rounds.specs.declared.gather.BoxSpread.{BoxSpread}
+use Rattle.rounds.specs.declared.gather.Boxes.{Boxes}
+use Rattle.rounds.specs.Loop.{withSpread, startRoom, start, roomAfter, boxesAfter, aboveZero, roundRoom, roundBoxes, round, rounds, heapOf, placesOf, boxesOf}
 use Rattle.boxes.specs.Box.{wholeOf}
-use Rattle.cutter.specs.Fronts.{flat, filled}
+use Rattle.cutter.specs.Fronts.{joinAll, filled}
 use Rattle.cutter.specs.Palette.{meanOf, colourOf, countOf, bytesOf, itsColour, itsCount, paletteLater, countsLater}
-use Rattle.cutter.specs.Cut.{lengthsOf, cutNumber, cutRecord, doneRecord, boundsOf, listOf, boxList, laterOn}
+use Rattle.cutter.specs.Cut.{longEnough, resultsOn, lengthsOf, cutNumber, cutRecord, doneRecord, listOf, boxList, laterOn}
 use Rattle.cutter.proofs.Refusals.{only-map, no-total}
 use Rattle.cutter.proofs.Laws.{record-number, cut-says, cut-accepts}
 use Rattle.lines.specs.Text.{digitsWithin, decimalOf, boxesWord, totalWord, refusedWord, newline, headOf, fieldOf, lineOf, linesOf, totalOf, listingOf, refusedOf}
@@ -114,13 +114,15 @@ module _ (bytes : List ℕ) (whole : length bytes % 3 ≡ 0) (few : length bytes
         (record {
           least = lit≤ tt;
           most = lit≤ tt;
+          is-sound = its-sound;
+          some = omega (arith, its-total);
+        })
+        (record {
           table = table-holds grid8 (batchOf bytes false []) .lent;
           work = refl;
           palette = lit≤ tt;
           counts = lit≤ tt;
           map = refl;
-          is-sound = its-sound;
-          some = omega (arith, its-total);
         })
 
     none-cut : length bytes / 3 ≡ 0 → cutNumber 8 8 8 16 left lentZeros ≡ 8
@@ -128,7 +130,7 @@ module _ (bytes : List ℕ) (whole : length bytes % 3 ≡ 0) (few : length bytes
     none-cut nothing =
         let l = lengthsOf lentZeros in
         rw is-grid8
-        (no-total grid8 16 left l (lit≤ tt) (lit≤ tt)
+        (no-total limit grid8 16 (longEnough grid8 16 (length left) l) (viewOf left) (lit≤ tt) (lit≤ tt)
         (only-map grid8 16 (length left) l (table-holds grid8 (batchOf bytes false []) .lent) refl (lit≤ tt) (lit≤ tt))
         its-sound
         (its-total ∙ nothing))
@@ -174,11 +176,11 @@ unfolding view
 is-view = λ i p j. (view-at fourTable p j ∙ at-number (5 * p + j)) i
 
 abbrev planes : ℕ → ℕ → BoxSpread
-planes from end = record { r0 = from; r1 = end; g0 = 0; g1 = 8; b0 = 0; b1 = 8; spread = zeroOf }
+planes from end = record { bounds = record { r0 = from; r1 = end; g0 = 0; g1 = 8; b0 = 0; b1 = 8 }; spread = zeroOf }
 
 -- white's box, then black's
 abbrev two : Boxes
-two = record { found = 2; places = planes 1 8 ∷ planes 0 1 ∷ replicate 254 (record { r0 = 0; r1 = 0; g0 = 0; g1 = 0; b0 = 0; b1 = 0; spread = zeroOf }) }
+two = record { boxes = 2; places = planes 1 8 ∷ planes 0 1 ∷ replicate 254 (record { bounds = record { r0 = 0; r1 = 0; g0 = 0; g1 = 0; b0 = 0; b1 = 0 }; spread = zeroOf }) }
 
 are-two : boxesOf grid8 view 16 ≡ two
 unfolding number view
@@ -186,20 +188,20 @@ unfolding number view
     minAt maxAt sum3 binSum boxSum statsOf lowSide highSide
     quotientOf oneBin spreadOf scoreOf positionOf positionAt laterWins better bestRun bestIn bestCut
     climb putIn sink enter takeOut
-    itself wholeOf startRoom start roomAfter usedAfter goesOn roundRoom roundUsed round rounds heapOf boxSpread placesOf boxesOf
+    withSpread wholeOf startRoom start roomAfter boxesAfter aboveZero roundRoom roundBoxes round rounds heapOf placesOf boxesOf
     lib.Ieee.ofInt lib.Ieee.mul lib.Ieee.add lib.Ieee.sub lib.Ieee.div lib.Ieee.neg lib.Ieee.lt lib.Ieee.le lib.Ieee.round lib.Ieee.size lib.Ieee.span lib.Ieee.climb lib.Ieee.units lib.Ieee.odd lib.Ieee.sum lib.Ieee.eq lib.Count.trailingZeros
 are-two = refl
 
 -- the text of some boxes
 abbrev listed : View → Boxes → List ℕ
 listed v b =
-    listingOf (b .found)
-    (paletteLater grid8 v (listOf (b .found) (b .places)) (replicate 48 0))
-    (countsLater grid8 v (listOf (b .found) (b .places)) (replicate 16 0))
+    listingOf (b .boxes)
+    (paletteLater grid8 v (listOf (b .boxes) (b .places)) (replicate 48 0))
+    (countsLater grid8 v (listOf (b .boxes) (b .places)) (replicate 16 0))
 
 lists-two : listed view two ≡ threeLines
 unfolding number view threeLines sumFrom placeOf sum3 binSum boxSum
-    boundsOf listOf meanOf colourOf countOf bytesOf itsColour itsCount flat filled paletteLater countsLater
+    listOf meanOf colourOf countOf bytesOf itsColour itsCount joinAll filled paletteLater countsLater
     digitsWithin decimalOf boxesWord totalWord newline headOf fieldOf lineOf linesOf totalOf listingOf
 lists-two = refl
 
@@ -209,7 +211,7 @@ byte-at (x ∷ xs) e zero = ltb-true x 256 (and-left (ltb x 256) (areBytes xs) e
 byte-at (x ∷ xs) e (suc k) = byte-at xs (and-right (ltb x 256) (areBytes xs) e) k
 
 four-cut : cutText fourTable ≡ listed (viewOf fourTable) (boxesOf grid8 (viewOf fourTable) 16)
-unfolding fourPixels cutText whenDone lentZeros doneRecord laterOn boxList
+unfolding fourPixels cutText whenDone lentZeros doneRecord laterOn resultsOn boxList
 four-cut =
     let number = ap (λ (t : List ℕ). cutNumber 8 8 8 16 t lentZeros) (sym four-added) ∙ cuts fourPixels refl (lit≤ tt) (byte-at fourPixels refl) (lit< tt) in
     let d = cut-says 8 8 8 16 fourTable lentZeros is-grid8 number in

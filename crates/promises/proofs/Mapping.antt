@@ -17,8 +17,8 @@ use Rattle.table.specs.Table.{viewOf}
 use Rattle.loader.proofs.Parts.{colour-bytes}
 use Rattle.cutter.specs.Palette.{itsColour, coloursOf}
 use Rattle.boxes.specs.Holds.{holdsAt}
-use Rattle.cutter.specs.Cut.{Buffers, cutNumber, cutRecord, boxList, laterOn}
-use Rattle.cutter.proofs.Fronts.{length-flat}
+use Rattle.cutter.specs.Cut.{resultsOn, Buffers, cutNumber, cutRecord, boxList, laterOn}
+use Rattle.cutter.proofs.Fronts.{length-joined}
 use Rattle.cutter.proofs.Colours.{three}
 use Rattle.cutter.proofs.Maps.{map-length}
 use Rattle.cutter.proofs.Laws.{cut-says}
@@ -55,8 +55,8 @@ module _ (b1 b2 b3 k : ℕ) (t : List ℕ) (b : Buffers) {g : Grid} (e : gridOf 
       ∙ band-within first pixels (indexAt g map frame) indices p (omega (arith, d .one-each, d .inside)) from until))
 
   full-map : length (cutMap b1 b2 b3 k t b) ≡ binsOf g
-  unfolding laterOn
-  full-map = ap (λ (l : Buffers). length (l .map)) (cut-says b1 b2 b3 k t b e n .leaves) ∙ map-length g (boxList g t k)
+  unfolding laterOn resultsOn
+  full-map = ap (λ (l : Buffers). length (l .results .map)) (cut-says b1 b2 b3 k t b e n .leaves) ∙ map-length g (boxList g (viewOf t) k)
 
   all-entries-below : allBelow (cutBoxes b1 b2 b3 k t b) (cutMap b1 b2 b3 k t b) ≡ true
   all-entries-below = all-below (cutBoxes b1 b2 b3 k t b) (cutMap b1 b2 b3 k t b) (λ p h. tiling b1 b2 b3 k t b e n .below p (omega (arith, full-map)))
@@ -66,7 +66,7 @@ module _ (b1 b2 b3 k : ℕ) (t : List ℕ) (b : Buffers) {g : Grid} (e : gridOf 
   unfolding coloursOf
   front-colours =
       let all = tiling b1 b2 b3 k t b e n in
-      thirds (ap length (all .front) ∙ length-flat 3 (itsColour g (viewOf t)) (three g (viewOf t)) (boxesIn (cutRecord b1 b2 b3 k t b)) ∙ ap (λ (m : ℕ). 3 * m) (all .listed))
+      thirds (ap length (all .front) ∙ length-joined 3 (itsColour g (viewOf t)) (three g (viewOf t)) (boxesIn (cutRecord b1 b2 b3 k t b)) ∙ ap (λ (m : ℕ). 3 * m) (all .listed))
     where
       thirds : {l m : ℕ} → l ≡ 3 * m → l / 3 ≡ m
       thirds q = omega arith

@@ -23,7 +23,7 @@ use Rattle.loader.specs.Load.{loadNumber, loadLater}
 use Rattle.loader.specs.Merge.{mergeNumber, mergeLater}
 use Rattle.loader.proofs.Calls.{load-no-grid, merge-no-grid}
 use Rattle.loader.proofs.Laws.{load-refused, load-tests, load-says, load-accepts, merge-refused, merge-tests, merge-says, merge-accepts}
-use Rattle.cutter.specs.Cut.{Buffers, lengthsOf, longEnough, cutNumberOn, cutNumber, refusedRecord, cutRecord, cutLater, CanCut}
+use Rattle.cutter.specs.Cut.{LengthsFit, lengthsRight, Buffers, lengthsOf, longEnough, cutNumberOn, cutNumber, refusedRecord, cutRecord, cutLater, CanCut}
 use Rattle.cutter.proofs.Laws.{cut-refuses, cut-says, cut-accepts}
 use Rattle.mapper.specs.Band.{allBelow, bandNumber}
 use Rattle.mapper.specs.Map.{mapNumberOn, mapNumber, mapLater}
@@ -125,7 +125,7 @@ module _ (b1 b2 b3 : ℕ) where
   unfolding cutNumber cutNumberOn cutApplies cutTests chain ascends noGrid onBins numberOn onGrid gridAnswer refuse
   cut-lowest k t b = go (gridOf b1 b2 b3) ∙ lowest (cutTests (gridOf b1 b2 b3) k t b true) 1 (omega arith) refl
     where
-      go : (c : Chosen) → numberOn c (λ g. cutNumberOn limit g k t (lengthsOf b)) ≡ chain (cutTests c k t b true)
+      go : (c : Chosen) → numberOn c (λ g. cutNumberOn limit g k (lengthsRight g k t b) (viewOf t)) ≡ chain (cutTests c k t b true)
       go (chosen.Accepted g) = refl
       go chosen.Refused = refl
 
@@ -220,13 +220,13 @@ module _ (b1 b2 b3 : ℕ) where
     λ o. let c = o .can in merge-accepts b1 b2 b3 t s (o .chosen) (c .lent .0) (c .lent .1) (c .are-sound .0) (c .are-sound .1) (c .fits),
   )
 
-  pub cut-exactly : (k : ℕ) (t : List ℕ) (b : Buffers) → (cutNumber b1 b2 b3 k t b ≡ 0) ↔ OnGrid b1 b2 b3 (λ g. CanCut g k t (lengthsOf b))
+  pub cut-exactly : (k : ℕ) (t : List ℕ) (b : Buffers) → (cutNumber b1 b2 b3 k t b ≡ 0) ↔ OnGrid b1 b2 b3 (λ g. CanCut limit g k (viewOf t) × LengthsFit g k (length t) (lengthsOf b))
   unfolding cutNumber
   cut-exactly k t b = (
     λ e.
-        let c = call-done {A = ℕ} (gridOf b1 b2 b3) (λ g. cutNumberOn limit g k t (lengthsOf b)) (λ g. 0) 0 e in
-        record { g = c .g; chosen = c .is; can = cut-says b1 b2 b3 k t b (c .is) e .can },
-    λ o. cut-accepts b1 b2 b3 k t b (o .chosen) (o .can),
+        let c = call-done {A = ℕ} (gridOf b1 b2 b3) (λ g. cutNumberOn limit g k (lengthsRight g k t b) (viewOf t)) (λ g. 0) 0 e in
+        let d = cut-says b1 b2 b3 k t b (c .is) e in record { g = c .g; chosen = c .is; can = (d .can, d .fit) },
+    λ o. cut-accepts b1 b2 b3 k t b (o .chosen) (o .can .0) (o .can .1),
   )
 
   pub map-exactly : (map : List ℕ) (colours : ℕ) (frame indices : List ℕ) (first pixels : ℕ) → (mapNumber b1 b2 b3 map colours frame indices first pixels ≡ 0) ↔ OnGrid b1 b2 b3 (CanMap map colours frame indices first pixels)

@@ -21,11 +21,11 @@ same-cut : (g : Grid) (b1 b2 b3 k : ℕ) (b : Buffers) {t s : List ℕ} → t �
 same-cut g b1 b2 b3 k b e =
     record {
       boxes = λ i. cutRecord b1 b2 b3 k (e i) b;
-      palette = λ i. cutLater b1 b2 b3 k (e i) b .palette;
-      counts = λ i. cutLater b1 b2 b3 k (e i) b .counts;
-      map = λ i. cutLater b1 b2 b3 k (e i) b .map;
+      palette = λ i. cutLater b1 b2 b3 k (e i) b .results .palette;
+      counts = λ i. cutLater b1 b2 b3 k (e i) b .results .counts;
+      map = λ i. cutLater b1 b2 b3 k (e i) b .results .map;
       work = λ i. cutLater b1 b2 b3 k (e i) b .work;
-      pixel = λ c i. getD (cutLater b1 b2 b3 k (e i) b .map) (colourPlace g c) 0;
+      pixel = λ c i. getD (cutLater b1 b2 b3 k (e i) b .results .map) (colourPlace g c) 0;
     }
 
 module _ (b1 b2 b3 : ℕ) {g : Grid} (e : gridOf b1 b2 b3 ≡ chosen.Accepted g) (p q : Plan) (y : BytesIn p) (z : BytesIn q) (π : Perm (leaves p) (leaves q)) where

@@ -15,7 +15,7 @@ use Rattle.grid.specs.Grid.{gridOf, Accepted, binsOf, colourPlace}
 use Rattle.basics.proofs.Range.{sum-same}
 use Rattle.grid.proofs.Places.{Bytes, colour-place-lt}
 use Rattle.table.specs.Table.{viewOf}
-use Rattle.table.specs.Sound.{total}
+use Rattle.table.specs.Sound.{limit, total}
 use Rattle.loader.specs.Load.{Weighted, sumOver, tableOf}
 use Rattle.loader.specs.Plan.{Plan, Table, run, leaves, BytesIn}
 use Rattle.loader.proofs.Loading.{AllBytes, share-weight, over-none, over-more}
@@ -25,62 +25,59 @@ use Rattle.boxes.specs.declared.sides.Bounds.{Bounds}
 use Rattle.boxes.specs.Box.{Within}
 use Rattle.sums.proofs.Loaded.{lies, loaded-box}
 use Rattle.sums.proofs.Same.{box-same}
-use Rattle.rounds.specs.declared.Boxes.{Boxes}
+use Rattle.rounds.specs.declared.gather.Boxes.{Boxes}
 use Rattle.boxes.specs.Box.{noBox}
 use Rattle.rounds.specs.Loop.{boxesOf}
 use Rattle.rounds.proofs.Filled.{heap-most}
-use Rattle.cutter.specs.declared.CutRecord.{CutRecord}
+use Rattle.cutter.specs.declared.call.CutRecord.{CutRecord}
 use Rattle.cutter.specs.Palette.{countOf, paletteLater, countsLater, frontOf}
 use Rattle.boxes.specs.Holds.{holdsAt}
-use Rattle.cutter.specs.Cut.{Buffers, lengthsOf, cutNumber, doneRecord, cutRecord, listOf, boxList, laterOn, cutLater, CanCut, Found}
+use Rattle.cutter.specs.Cut.{LengthsFit, resultsOn, Buffers, lengthsOf, cutNumber, doneRecord, cutRecord, listOf, boxList, laterOn, cutLater, CanCut}
 use Rattle.cutter.proofs.Colours.{front-filled, palette-at, counts-at}
 use Rattle.cutter.proofs.Listed.{list-length}
 use Rattle.cutter.proofs.Maps.{map-below, box-of-index}
 use Rattle.cutter.proofs.Tiling.{counts-total, holds-colour, sum-of-held}
-use Rattle.cutter.proofs.Finding.{list-found, list-tiles, all-found}
+use Rattle.cutter.proofs.RecordBoxes.{list-found, list-tiles, all-found}
 use Rattle.cutter.proofs.Laws.{cut-says}
 use Rattle.promises.specs.Tiling.{boxesIn, boxIn, Tiling, LoadedCounts}
 
 -- ---- a cut that nothing refuses
-module _ {g : Grid} {k : ℕ} {t : List ℕ} (b : Buffers) (a : Accepted g) (c : CanCut g k t (lengthsOf b)) where
+module _ {g : Grid} {k : ℕ} {t : List ℕ} (b : Buffers) (a : Accepted g) (c : CanCut limit g k (viewOf t)) (l : LengthsFit g k (length t) (lengthsOf b)) where
   abbrev found : Boxes
   found = boxesOf g (viewOf t) k
 
   abbrev boxes : List Bounds
-  boxes = listOf (found .found) (found .places)
+  boxes = listOf (found .boxes) (found .places)
 
-  are-found : Found g (viewOf t) found
-  are-found = all-found g (viewOf t) k (c .most) a (c .some)
+  in-list : {i : ℕ} → i < found .boxes → i < length boxes
+  in-list h = omega (arith, list-length (all-found g (viewOf t) k (c .most) a (c .some) .placed))
 
-  in-list : {i : ℕ} → i < found .found → i < length boxes
-  in-list h = omega (arith, list-length (are-found .placed))
-
-  counts-all : sumFrom 0 (found .found) (λ i. getD (countsLater g (viewOf t) boxes (b .counts)) i 0) ≡ total g (viewOf t)
-  unfolding boxesOf
+  counts-all : sumFrom 0 (found .boxes) (λ i. getD (countsLater g (viewOf t) boxes (b .results .counts)) i 0) ≡ total g (viewOf t)
+  unfolding boxesOf boxList
   counts-all =
-      sum-same 0 (found .found) _ _ (λ i l h. counts-at g (viewOf t) boxes (b .counts) i noBox (in-list (omega arith)))
-      ∙ ap (λ (xs : List Bounds). sumFrom 0 (found .found) (λ i. countOf g (viewOf t) (getD xs i noBox))) (list-found g (viewOf t) k (c .most))
+      sum-same 0 (found .boxes) _ _ (λ i l h. counts-at g (viewOf t) boxes (b .results .counts) i noBox (in-list (omega arith)))
+      ∙ ap (λ (xs : List Bounds). sumFrom 0 (found .boxes) (λ i. countOf g (viewOf t) (getD xs i noBox))) (list-found g (viewOf t) k (c .most))
       ∙ counts-total g (viewOf t) k (c .most)
 
-  fits : 3 * length boxes ≤ length (b .palette)
+  fits : 3 * length boxes ≤ length (b .results .palette)
   unfolding boxesOf
-  fits = omega (arith, list-length (are-found .placed), heap-most g (viewOf t) k (c .least) (c .most), c .palette)
+  fits = omega (arith, list-length (all-found g (viewOf t) k (c .most) a (c .some) .placed), heap-most g (viewOf t) k (c .least) (c .most), l .palette)
 
-  done-tiling : Tiling g t (doneRecord found) (laterOn g k t b)
-  unfolding boxesIn boxIn doneRecord laterOn boxList countOf
+  done-tiling : Tiling g t (doneRecord found) (laterOn g (viewOf t) k b)
+  unfolding boxesIn boxIn doneRecord laterOn resultsOn boxList countOf
   done-tiling =
       let tiles = list-tiles g (viewOf t) k (c .most) a in
       record {
-        listed = list-length (are-found .placed);
+        listed = list-length (all-found g (viewOf t) k (c .most) a (c .some) .placed);
         tiles = tiles;
-        within = are-found .placed .within;
-        count = λ i h. counts-at g (viewOf t) boxes (b .counts) i noBox (in-list h) ∙ sum-of-held (are-found .placed .within i h) (viewOf t) 0;
-        some = λ i h. omega (arith, counts-at g (viewOf t) boxes (b .counts) i noBox (in-list h), are-found .some i h);
+        within = all-found g (viewOf t) k (c .most) a (c .some) .placed .within;
+        count = λ i h. counts-at g (viewOf t) boxes (b .results .counts) i noBox (in-list h) ∙ sum-of-held (all-found g (viewOf t) k (c .most) a (c .some) .placed .within i h) (viewOf t) 0;
+        some = λ i h. omega (arith, counts-at g (viewOf t) boxes (b .results .counts) i noBox (in-list h), all-found g (viewOf t) k (c .most) a (c .some) .some i h);
         all = counts-all;
         index = λ i p h l. box-of-index g boxes tiles i noBox p (in-list h) l;
-        below = λ p l. omega (arith, map-below g boxes tiles p l, list-length (are-found .placed));
-        colour = λ i h. palette-at g (viewOf t) boxes (b .palette) i noBox (in-list h);
-        front = ap (frontOf (paletteLater g (viewOf t) boxes (b .palette))) (sym (list-length (are-found .placed))) ∙ front-filled g (viewOf t) boxes (b .palette) fits;
+        below = λ p l. omega (arith, map-below g boxes tiles p l, list-length (all-found g (viewOf t) k (c .most) a (c .some) .placed));
+        colour = λ i h. palette-at g (viewOf t) boxes (b .results .palette) i noBox (in-list h);
+        front = ap (frontOf (paletteLater g (viewOf t) boxes (b .results .palette))) (sym (list-length (all-found g (viewOf t) k (c .most) a (c .some) .placed))) ∙ front-filled g (viewOf t) boxes (b .results .palette) fits;
       }
 
 -- ---- the boxes of a loaded table
@@ -113,7 +110,7 @@ tiling-loaded {g} a cs b {r} {later} t =
 module _ (b1 b2 b3 k : ℕ) (t : List ℕ) (b : Buffers) {g : Grid} (e : gridOf b1 b2 b3 ≡ chosen.Accepted g) (n : cutNumber b1 b2 b3 k t b ≡ 0) where
   -- at any total, of every table that a cut is done with
   pub tiling : Tiling g t (cutRecord b1 b2 b3 k t b) (cutLater b1 b2 b3 k t b)
-  tiling = let d = cut-says b1 b2 b3 k t b e n in rw (d .hands, d .leaves) (done-tiling b (d .accepted) (d .can))
+  tiling = let d = cut-says b1 b2 b3 k t b e n in rw (d .hands, d .leaves) (done-tiling b (d .accepted) (d .can) (d .fit))
 
   -- and of every table that loads and merges gave
   pub loaded-counts : (p : Plan) → BytesIn p → run b1 b2 b3 p ≡ Table t → LoadedCounts g (leaves p) (cutRecord b1 b2 b3 k t b) (cutLater b1 b2 b3 k t b)

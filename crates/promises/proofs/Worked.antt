@@ -20,13 +20,13 @@ use Rattle.spread.specs.Spread.{quotientOf, spreadOf, scoreOf}
 use Rattle.boxes.specs.Box.{oneBin}
 use Rattle.spread.specs.Cut.{positionAnswer, positionOf, positionAt, laterWins, better, bestRun, bestIn, bestCut}
 use Rattle.heap.specs.Heap.{climb, putIn, sink, enter, takeOut}
-use Rattle.rounds.specs.Loop.{itself, startRoom, start, roomAfter, usedAfter, goesOn, roundRoom, roundUsed, round, rounds, heapOf, boxSpread, placesOf, boxesOf}
+use Rattle.rounds.specs.Loop.{withSpread, startRoom, start, roomAfter, boxesAfter, aboveZero, roundRoom, roundBoxes, round, rounds, heapOf, placesOf, boxesOf}
 use Rattle.boxes.specs.Box.{wholeOf}
-use Rattle.cutter.specs.Fronts.{flat, filled}
+use Rattle.cutter.specs.Fronts.{joinAll, filled}
 use Rattle.cutter.specs.Palette.{meanOf, colourOf, countOf, bytesOf, itsColour, itsCount, paletteLater, countsLater}
 use Rattle.boxes.specs.Holds.{lies, holdsAt}
 use Rattle.cutter.specs.Map.{indexFrom, mapOf}
-use Rattle.cutter.specs.Cut.{longEnough, cutNumberOn, cutNumber, refusedRecord, doneRecord, recordOn, cutRecord, boundsOf, listOf, boxList, laterOn, cutLater}
+use Rattle.cutter.specs.Cut.{resultsOn, longEnough, cutNumberOn, cutNumber, refusedRecord, doneRecord, recordOn, cutRecord, listOf, boxList, laterOn, cutLater}
 use Rattle.promises.specs.Cases.{Case, loadsOf, tableAfter, positionIn, lentTo, outcome, times, empties, plain, weighted, loadGives, at, nowhere, box, recordWith, done, refusedWith, blackWhite, blackWhiteTable, blackWhiteMoments, reds, redsTable, redsMoments, fullCell, sizeOne, cases}
 use Rattle.promises.specs.Listing.{grid8, fourPixels, fourTable}
 use Rattle.promises.proofs.Each.{each}
@@ -39,9 +39,9 @@ unfolding loadsOf tableAfter positionIn lentTo outcome times empties plain weigh
     minAt maxAt sum3 binSum boxSum statsOf lowSide highSide belowSum momentsOf
     quotientOf oneBin spreadOf scoreOf positionAnswer positionOf positionAt laterWins better bestRun bestIn bestCut
     climb putIn sink enter takeOut
-    itself wholeOf startRoom start roomAfter usedAfter goesOn roundRoom roundUsed round rounds heapOf boxSpread placesOf boxesOf
-    meanOf colourOf countOf bytesOf itsColour itsCount flat filled paletteLater countsLater lies holdsAt holds indexFrom mapOf
-    longEnough cutNumberOn cutNumber refusedRecord doneRecord recordOn cutRecord boundsOf listOf boxList laterOn cutLater
+    withSpread wholeOf startRoom start roomAfter boxesAfter aboveZero roundRoom roundBoxes round rounds heapOf placesOf boxesOf
+    meanOf colourOf countOf bytesOf itsColour itsCount joinAll filled paletteLater countsLater lies holdsAt holds indexFrom mapOf
+    longEnough cutNumberOn cutNumber refusedRecord doneRecord recordOn cutRecord listOf boxList laterOn resultsOn cutLater
     lib.Ieee.ofInt lib.Ieee.mul lib.Ieee.add lib.Ieee.sub lib.Ieee.div lib.Ieee.neg lib.Ieee.lt lib.Ieee.le lib.Ieee.round lib.Ieee.size lib.Ieee.span lib.Ieee.climb lib.Ieee.units lib.Ieee.odd lib.Ieee.sum lib.Ieee.eq lib.Count.trailingZeros
 worked = refl
 

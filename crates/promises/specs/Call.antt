@@ -6,8 +6,8 @@ use lib.ListN.{length, getD}
 use lib.Ieee.{nan}
 use Rattle.boxes.specs.declared.sides.Bounds.{Bounds}
 use Rattle.boxes.specs.Box.{noBox}
-use Rattle.rounds.specs.Loop.{spent, boxSpread}
-use Rattle.cutter.specs.declared.CutRecord.{CutRecord}
+use Rattle.rounds.specs.Loop.{withZero}
+use Rattle.cutter.specs.declared.call.CutRecord.{CutRecord}
 use Rattle.cutter.specs.Cut.{Buffers}
 use Rattle.seluvava.specs.declared.CutAnswer.{CutAnswer}
 use Rattle.seluvava.specs.Cut.{Lent}
@@ -35,7 +35,7 @@ pub record TellsCut (r : CutRecord) (after : Buffers) (old : Lent) (told : CutAn
   pub answer : told ≡ record { number = r .number; boxes = r .boxes }
   pub buffers : later .buffers ≡ after
   pub box : (i : ℕ) → i < r .boxes → boxRead (later .boxes) i ≡ boxIn r i
-  pub spread : (i : ℕ) → i < r .boxes → getD (later .spreads) i nan ≡ getD (r .places) i (boxSpread (spent noBox)) .spread
+  pub spread : (i : ℕ) → i < r .boxes → getD (later .spreads) i nan ≡ getD (r .places) i (withZero noBox) .spread
   pub boxes-stay : (j : ℕ) → getD (later .boxes) (6 * r .boxes + j) 0 ≡ getD (old .boxes) (6 * r .boxes + j) 0
   pub spreads-stay : (j : ℕ) → getD (later .spreads) (r .boxes + j) nan ≡ getD (old .spreads) (r .boxes + j) nan
   pub boxes-long : length (later .boxes) ≡ length (old .boxes)

@@ -11,9 +11,9 @@ use Rattle.loader.specs.Load.{loadNumber, loadLater}
 use Rattle.loader.specs.Plan.{Batch}
 use Rattle.spread.specs.Spread.{zeroOf}
 use Rattle.spread.specs.Cut.{Told, positionAnswer, bestCut}
-use Rattle.rounds.specs.declared.BoxSpread.{BoxSpread}
+use Rattle.rounds.specs.declared.gather.BoxSpread.{BoxSpread}
 use Rattle.boxes.specs.Box.{wholeOf}
-use Rattle.cutter.specs.declared.CutRecord.{CutRecord}
+use Rattle.cutter.specs.declared.call.CutRecord.{CutRecord}
 use Rattle.cutter.specs.Cut.{Buffers, buffers, cutRecord, cutLater}
 
 -- the number of a load, and the table then
@@ -100,7 +100,7 @@ at dimension bin score = record { number = 0; values = dimension ∷ bin ∷ [];
 
 -- a box of three ranges, with its spread
 unfoldable pub box : ℕ × ℕ → ℕ × ℕ → ℕ × ℕ → Float → BoxSpread
-box r gr b spread = record { r0 = r .0; r1 = r .1; g0 = gr .0; g1 = gr .1; b0 = b .0; b1 = b .1; spread = spread }
+box r gr b spread = record { bounds = record { r0 = r .0; r1 = r .1; g0 = gr .0; g1 = gr .1; b0 = b .0; b1 = b .1 }; spread = spread }
 
 -- "places past the last box are all zeros"
 unfoldable pub recordWith : ℕ → List BoxSpread → CutRecord

@@ -19,6 +19,6 @@ pub record Lends (g : Grid) (k : ℕ) (b : Buffers) : Type 0 where
   pub least : 1 ≤ k
   pub most : k ≤ 256
   pub work : length (b .work) ≡ 5 * binsOf g
-  pub palette : 3 * k ≤ length (b .palette)
-  pub counts : k ≤ length (b .counts)
-  pub map : length (b .map) ≡ binsOf g
+  pub palette : 3 * k ≤ length (b .results .palette)
+  pub counts : k ≤ length (b .results .counts)
+  pub map : length (b .results .map) ≡ binsOf g

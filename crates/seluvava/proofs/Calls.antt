@@ -19,15 +19,15 @@ use Rattle.basics.proofs.Range.{and-left, and-right}
 use Rattle.basics.proofs.Ends.{passed}
 use Rattle.table.specs.Table.{viewOf}
 use Rattle.table.specs.Sound.{limit, total, sound, unsoundNumber}
-use Rattle.cutter.specs.declared.CutRecord.{CutRecord}
+use Rattle.cutter.specs.declared.call.CutRecord.{CutRecord}
 use Rattle.cutter.specs.Fronts.{filled}
-use Rattle.cutter.specs.Cut.{Buffers, lengthsOf, longEnough, cutNumberOn, cutNumber, refusedRecord, cutRecord, cutLater}
+use Rattle.cutter.specs.Cut.{lengthsRight, Buffers, lengthsOf, longEnough, cutNumberOn, cutNumber, refusedRecord, cutRecord, cutLater}
 use Rattle.cutter.proofs.Fronts.{filled-none}
 use Rattle.cutter.proofs.Laws.{record-number, cut-refuses}
 use Rattle.seluvava.specs.declared.CutAnswer.{CutAnswer}
 use Rattle.seluvava.specs.Sizes.{binsFor}
 use Rattle.seluvava.proofs.Boxes.{six, one}
-use Rattle.seluvava.specs.Cut.{Lent, lent, hasRoom, allLong, callNumberOn, callNumber, cutAnswer, boxBytes, spreadOf, told, callLater, roomOn, roomNumber}
+use Rattle.seluvava.specs.Cut.{Lent, lent, hasRoom, allLong, callNumberOn, callNumber, cutAnswer, itsBytes, spreadOf, told, callLater, roomOn, roomNumber}
 
 module _ (b1 b2 b3 : ℕ) where
   -- ---- sizes
@@ -136,7 +136,7 @@ module _ (b1 b2 b3 k : ℕ) (t : List ℕ) (l : Lent) where
   unfolding callNumber callNumberOn allLong cutNumber cutNumberOn roomNumber roomOn numberOn onGrid gridAnswer whenDone
   in-stages = go (gridOf b1 b2 b3)
     where
-      go : (c : Chosen) → numberOn c (λ g. callNumberOn g k t l) ≡ whenDone (numberOn c (λ g. roomOn k (length (l .boxes)) (length (l .spreads)))) (numberOn c (λ g. cutNumberOn limit g k t (lengthsOf (l .buffers)))) (numberOn c (λ g. roomOn k (length (l .boxes)) (length (l .spreads))))
+      go : (c : Chosen) → numberOn c (λ g. callNumberOn g k t l) ≡ whenDone (numberOn c (λ g. roomOn k (length (l .boxes)) (length (l .spreads)))) (numberOn c (λ g. cutNumberOn limit g k (lengthsRight g k t (l .buffers)) (viewOf t))) (numberOn c (λ g. roomOn k (length (l .boxes)) (length (l .spreads))))
       go (chosen.Accepted g) =
           stages (leb 1 k && leb k 256) (longEnough g k (length t) (lengthsOf (l .buffers))) (hasRoom k (length (l .boxes)) (length (l .spreads)))
           (refuse (not (sound limit g (viewOf t))) unsoundNumber (refuse (eqb (total g (viewOf t)) 0) 8 0))
@@ -147,7 +147,7 @@ module _ (b1 b2 b3 k : ℕ) (t : List ℕ) (l : Lent) where
 
   -- the boxes of a record written out, beside its buffers
   abbrev written : CutRecord → Buffers → Lent
-  written r b = lent b (filled 6 boxBytes (told r) (l .boxes)) (filled 1 spreadOf (told r) (l .spreads))
+  written r b = lent b (filled 6 itsBytes (told r) (l .boxes)) (filled 1 spreadOf (told r) (l .spreads))
 
   -- what a cut with room leaves behind
   abbrev cut : Lent
@@ -191,10 +191,10 @@ module _ (b1 b2 b3 k : ℕ) (t : List ℕ) (l : Lent) where
             let kept = call-kept {n = m} (same ∙ q) in
             let none = cut-refuses b1 b2 b3 k t (l .buffers) q in (
               ap answer-of (none .0) ∙ sym (kept .0),
-              (λ i. written (none .0 i) (none .1 i)) ∙ (λ i. lent (l .buffers) (filled-none 6 boxBytes six (l .boxes) i) (filled-none 1 spreadOf one (l .spreads) i)) ∙ sym (kept .1),
+              (λ i. written (none .0 i) (none .1 i)) ∙ (λ i. lent (l .buffers) (filled-none 6 itsBytes six (l .boxes) i) (filled-none 1 spreadOf one (l .spreads) i)) ∙ sym (kept .1),
             )
 
-    pub call-done : n ≡ 0 → {r : CutRecord} → r ≡ cutRecord b1 b2 b3 k t (l .buffers) → {b : Buffers} {boxes : List ℕ} {spreads : List Float} → b ≡ cutLater b1 b2 b3 k t (l .buffers) → boxes ≡ filled 6 boxBytes (told r) (l .boxes) → spreads ≡ filled 1 spreadOf (told r) (l .spreads) → Ends (answer-of r) (lent b boxes spreads)
+    pub call-done : n ≡ 0 → {r : CutRecord} → r ≡ cutRecord b1 b2 b3 k t (l .buffers) → {b : Buffers} {boxes : List ℕ} {spreads : List Float} → b ≡ cutLater b1 b2 b3 k t (l .buffers) → boxes ≡ filled 6 itsBytes (told r) (l .boxes) → spreads ≡ filled 1 spreadOf (told r) (l .spreads) → Ends (answer-of r) (lent b boxes spreads)
     call-done z q later p s =
         let ends = cut-ends z in (
           ap answer-of q ∙ ends .0,

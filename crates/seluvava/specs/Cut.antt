@@ -10,8 +10,10 @@ use Rattle.basics.specs.Answer.{refuse, whenDone}
 use Rattle.grid.specs.Grid.{gridOf, numberOn}
 use Rattle.table.specs.Table.{viewOf}
 use Rattle.table.specs.Sound.{limit, total, sound, unsoundNumber}
-use Rattle.rounds.specs.declared.BoxSpread.{BoxSpread}
-use Rattle.cutter.specs.declared.CutRecord.{CutRecord}
+use Rattle.boxes.specs.declared.sides.Bounds.{Bounds}
+use Rattle.boxes.specs.Bytes.{boxBytes}
+use Rattle.rounds.specs.declared.gather.BoxSpread.{BoxSpread}
+use Rattle.cutter.specs.declared.call.CutRecord.{CutRecord}
 use Rattle.cutter.specs.Fronts.{filled, putFrom}
 use Rattle.cutter.specs.Cut.{Buffers, lengthsOf, longEnough, cutRecord, cutLater}
 use Rattle.seluvava.specs.declared.CutAnswer.{CutAnswer}
@@ -51,9 +53,9 @@ cutAnswer b1 b2 b3 k t l =
     record { number = n; boxes = whenDone n (cutRecord b1 b2 b3 k t (l .buffers) .boxes) 0 }
 
 -- ---- what was lent, afterwards
--- the six bytes of a box: of each dimension where it begins, and where it ends
-unfoldable pub boxBytes : BoxSpread → List ℕ
-boxBytes x = x .r0 ∷ x .r1 ∷ x .g0 ∷ x .g1 ∷ x .b0 ∷ x .b1 ∷ []
+-- what a box gives the bytes, and what it gives the spreads
+unfoldable pub itsBytes : BoxSpread → List ℕ
+itsBytes x = boxBytes (x .bounds)
 
 unfoldable pub spreadOf : BoxSpread → List Float
 spreadOf x = x .spread ∷ []
@@ -69,7 +71,7 @@ callLater b1 b2 b3 k t l =
     whenDone (callNumber b1 b2 b3 k t l)
     (record {
       buffers = cutLater b1 b2 b3 k t (l .buffers);
-      boxes = filled 6 boxBytes (told r) (l .boxes);
+      boxes = filled 6 itsBytes (told r) (l .boxes);
       spreads = filled 1 spreadOf (told r) (l .spreads);
     })
     l
@@ -82,5 +84,5 @@ unfoldable pub roomNumber : ℕ → ℕ → ℕ → ℕ → ℕ → ℕ → ℕ
 roomNumber b1 b2 b3 k boxes spreads = numberOn (gridOf b1 b2 b3) (λ g. roomOn k boxes spreads)
 
 -- ---- one box
-unfoldable pub withBoxAt : List ℕ → ℕ → BoxSpread → List ℕ
+unfoldable pub withBoxAt : List ℕ → ℕ → Bounds → List ℕ
 withBoxAt old i x = putFrom old (6 * i) (boxBytes x)

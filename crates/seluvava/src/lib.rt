@@ -1,10 +1,10 @@
 // The calls for C and Rust; include/seluvava.h says the same to their callers.
-use cutter::CutRecord;
-use cutter::cut;
+use boxes::sides::Bounds;
+use cutter::call::CutRecord;
+use cutter::call::cut;
 use grid::place::Chosen;
 use grid::place::bins;
 use grid::place::grid_of;
-use rounds::BoxSpread;
 ghost use mathlib.Core.Path.{_≡_};
 ghost use Prim.Native.Nat.{_+_, _*_, _≤_, _<_};
 ghost use lib.ListN.{length};
@@ -15,7 +15,7 @@ ghost use Rattle.mapper.specs.Paint.{paintNumber, paintLater};
 ghost use Rattle.cutter.specs.Cut.{buffers};
 ghost use Rattle.cutter.specs.Fronts.{filled};
 ghost use Rattle.seluvava.specs.Sizes.{binsFor, numbersFor};
-ghost use Rattle.seluvava.specs.Cut.{lent, roomNumber, cutAnswer, callLater, boxBytes, spreadOf, told, withBoxAt};
+ghost use Rattle.seluvava.specs.Cut.{lent, roomNumber, cutAnswer, callLater, itsBytes, spreadOf, told, withBoxAt};
 
 // ---- Sizes
 
@@ -104,7 +104,7 @@ fn room_number(b1: usize, b2: usize, b3: usize, k: usize, boxes: usize, spreads:
 }
 
 // Writes the bounds of a box as the six bytes of place i.
-fn put_box(boxes: &mut [u8], i: usize, x: BoxSpread)
+fn put_box(boxes: &mut [u8], i: usize, x: Bounds)
     requires { ⌜ 6 * i + 5 < length (now boxes) ⌝ }
     ensures { λ r. ⌜ now (boxes .exit) ≡ withBoxAt (now (boxes .entry)) i x ⌝ }
 {
@@ -120,14 +120,14 @@ fn put_box(boxes: &mut [u8], i: usize, x: BoxSpread)
 // Writes the boxes of a record and their spreads.
 fn put_boxes(r: CutRecord, boxes: &mut [u8], spreads: &mut [f64])
     requires { ⌜ (length (r .places) ≡ 256) × (r .boxes ≤ 256) × (6 * r .boxes ≤ length (now boxes)) × (r .boxes ≤ length (now spreads)) ⌝ }
-    ensures { λ c. ⌜ now (boxes .exit) ≡ filled 6 boxBytes (told r) (now (boxes .entry)) ⌝ }
+    ensures { λ c. ⌜ now (boxes .exit) ≡ filled 6 itsBytes (told r) (now (boxes .entry)) ⌝ }
     ensures { λ c. ⌜ now (spreads .exit) ≡ filled 1 spreadOf (told r) (now (spreads .entry)) ⌝ }
 {
     let n = r.boxes;
     let mut i = 0;
     while i < n {
         let x = r.places[i];
-        put_box(boxes, i, x);
+        put_box(boxes, i, x.bounds);
         spreads[i] = x.spread;
         i = i + 1;
     }

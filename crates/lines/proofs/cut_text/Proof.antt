@@ -1,7 +1,7 @@
 -- `lines::cut_text` meets its contract: a cut into 16 boxes finds no more, and for these there is room.
 -- Assumes nothing.
 use native.Mathlib.Omega.{arith}
-use Rattle.cutter.proofs.Few.{few}
+use Rattle.cutter.proofs.RecordSize.{few}
 use borrow.Author.Needs.{needs}
 use Rattle.lines.specs.Listing.{lentZeros}
 use Rattle.lines.proofs.Texts.{cut-refused, cut-listed}

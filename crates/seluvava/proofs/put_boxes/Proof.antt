@@ -6,23 +6,23 @@ use Prim.Native.Nat.{_-_, _≤_, _<_}
 use native.Mathlib.Omega.{arith}
 use denote.Ref.{now}
 use lib.ListN.{length, take}
-use Rattle.rounds.specs.declared.BoxSpread.{BoxSpread}
+use Rattle.rounds.specs.declared.gather.BoxSpread.{BoxSpread}
 use Rattle.cutter.specs.Fronts.{filled}
 use Rattle.cutter.proofs.Fronts.{filled-none}
-use Rattle.seluvava.specs.Cut.{boxBytes, spreadOf, told}
+use Rattle.seluvava.specs.Cut.{itsBytes, spreadOf, told}
 use Rattle.seluvava.proofs.Boxes.{six, one, told-all, boxes-next, spreads-next, boxes-long, spreads-long}
 use Rattle.seluvava.proofs.put_boxes.Statement.{statement}
 use Rattle.seluvava.proofs.put_boxes.Tie as tie
 
 abbrev Inv-loop : tie.InvT-loop
 Inv-loop boxes₀ spreads₀ r n i₀ boxes spreads i =
-    (i ≤ n) × (boxes ≡ filled 6 boxBytes (take i (told r)) boxes₀) × (spreads ≡ filled 1 spreadOf (take i (told r)) spreads₀)
+    (i ≤ n) × (boxes ≡ filled 6 itsBytes (take i (told r)) boxes₀) × (spreads ≡ filled 1 spreadOf (take i (told r)) spreads₀)
 
 abbrev μ-loop : tie.MeasureT-loop
 μ-loop boxes₀ spreads₀ r n i₀ boxes spreads i = n - i
 
 loop-holds : tie.Need-loop-holds Inv-loop μ-loop
-loop-holds c = (omega arith, sym (filled-none 6 boxBytes six _), sym (filled-none 1 spreadOf one _))
+loop-holds c = (omega arith, sym (filled-none 6 itsBytes six _), sym (filled-none 1 spreadOf one _))
 
 mul-x : tie.Need-mul-x Inv-loop μ-loop
 mul-x c = omega (arith, c .loop-test .taken, c .before .before .before .before .pre)
@@ -72,7 +72,7 @@ returns c =
     let s = c .before .before .before .before in
     let l = c .before .loop in
     let all = told-all (s .args .t1) (s .pre .0) (s .pre .1) {i = l .i} (omega (arith, l .inv .0, c .loop-test .left)) in (
-      l .inv .1 ∙ ap (λ (xs : List BoxSpread). filled 6 boxBytes xs (now (s .args .boxes))) all,
+      l .inv .1 ∙ ap (λ (xs : List BoxSpread). filled 6 itsBytes xs (now (s .args .boxes))) all,
       l .inv .2 ∙ ap (λ (xs : List BoxSpread). filled 1 spreadOf xs (now (s .args .spreads))) all,
     )
 

@@ -6,7 +6,7 @@ use borrow.Author.Needs.{needs}
 use denote.Ref.{now}
 use lib.ListN.{length}
 use Rattle.cutter.specs.Cut.{Buffers, buffers}
-use Rattle.cutter.proofs.Few.{few, all-places}
+use Rattle.cutter.proofs.RecordSize.{few, all-places}
 use Rattle.seluvava.specs.Cut.{Lent, lent}
 use Rattle.seluvava.proofs.Calls.{roomy, call-refused, call-done}
 use Rattle.seluvava.proofs.seluvava_cut.Statement.{statement}
