@@ -20,7 +20,8 @@ use Rattle.cutter.specs.Cut.{listOf, cutNumber, cutRecord, cutLater}
 use Rattle.cutter.proofs.RecordSize.{few, all-places}
 use Rattle.cutter.proofs.Fronts.{length-filled, filled-at, filled-past}
 use Rattle.cutter.proofs.Laws.{record-number}
-use Rattle.seluvava.specs.Cut.{Lent, itsBytes, spreadOf, told, roomNumber, callNumber, cutAnswer, callLater}
+use Rattle.seluvava.specs.Cut.{Lent, itsBytes, spreadOf, told, callNumber, cutAnswer, callLater}
+use Rattle.seluvava.specs.Inner.{roomNumber}
 use Rattle.seluvava.proofs.Boxes.{six, one, told-length}
 use Rattle.seluvava.proofs.Calls.{roomy, room-on, room-enough, in-stages, call-kept, call-has}
 use Rattle.promises.specs.Tiling.{boxesIn, boxIn}

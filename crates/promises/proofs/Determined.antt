@@ -56,15 +56,15 @@ use Rattle.lines.proofs.batches.empty_table as empty-table
 use Rattle.lines.proofs.batches.load_batch as load-batch
 use Rattle.lines.proofs.text.text as text
 use Rattle.cutter.proofs.call.cut as cut
-use Rattle.seluvava.specs.declared.CutAnswer.{CutAnswer}
+use Rattle.seluvava.specs.declared.cut.CutAnswer.{CutAnswer}
 use Rattle.seluvava.specs.Cut.{Lent, lent}
-use Rattle.seluvava.proofs.seluvava_bins as exported-bins
-use Rattle.seluvava.proofs.seluvava_table_len as exported-table-len
-use Rattle.seluvava.proofs.seluvava_load as exported-load
-use Rattle.seluvava.proofs.seluvava_merge as exported-merge
-use Rattle.seluvava.proofs.seluvava_cut as exported-cut
-use Rattle.seluvava.proofs.seluvava_map as exported-map
-use Rattle.seluvava.proofs.seluvava_paint as exported-paint
+use Rattle.seluvava.proofs.sizes.seluvava_bins as exported-bins
+use Rattle.seluvava.proofs.sizes.seluvava_table_len as exported-table-len
+use Rattle.seluvava.proofs.tables.seluvava_load as exported-load
+use Rattle.seluvava.proofs.tables.seluvava_merge as exported-merge
+use Rattle.seluvava.proofs.cut.seluvava_cut as exported-cut
+use Rattle.seluvava.proofs.frames.seluvava_map as exported-map
+use Rattle.seluvava.proofs.frames.seluvava_paint as exported-paint
 use Rattle.basics.specs.Determines.{Determines}
 
 both : {A B : Type 0} {a c : A} {b d : B} → a ≡ c → b ≡ d → _≡_ {A = A × B} (a, b) (c, d)

@@ -131,7 +131,7 @@ module _ (b1 b2 b3 : ℕ) where
       go chosen.Refused = refl
 
   pub call-lowest : (k : ℕ) (t : List ℕ) (l : Lent) → cutAnswer b1 b2 b3 k t l .number ≡ lowestOf (callApplies b1 b2 b3 k t l)
-  unfolding cutAnswer callNumber callNumberOn allLong callApplies cutTests chain ascends noGrid onBins numberOn onGrid gridAnswer refuse
+  unfolding cutAnswer callNumber callNumberOn cutNumberOn allLong callApplies cutTests chain ascends noGrid onBins numberOn onGrid gridAnswer refuse
   call-lowest k t l = go (gridOf b1 b2 b3) ∙ lowest (cutTests (gridOf b1 b2 b3) k t (l .buffers) room) 1 (omega arith) refl
     where
       room : Bool

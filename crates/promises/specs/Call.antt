@@ -9,7 +9,7 @@ use Rattle.boxes.specs.Box.{noBox}
 use Rattle.rounds.specs.Loop.{withZero}
 use Rattle.cutter.specs.declared.call.CutRecord.{CutRecord}
 use Rattle.cutter.specs.Cut.{Buffers}
-use Rattle.seluvava.specs.declared.CutAnswer.{CutAnswer}
+use Rattle.seluvava.specs.declared.cut.CutAnswer.{CutAnswer}
 use Rattle.seluvava.specs.Cut.{Lent}
 use Rattle.promises.specs.Tiling.{boxIn}
 

@@ -14,7 +14,8 @@ use Rattle.cutter.specs.declared.call.CutRecord.{CutRecord}
 use Rattle.cutter.specs.Fronts.{filled, putFrom}
 use Rattle.rounds.specs.Loop.{noItem}
 use Rattle.cutter.proofs.Fronts.{put-one, filled-next, length-filled-part}
-use Rattle.seluvava.specs.Cut.{itsBytes, spreadOf, told, withBoxAt}
+use Rattle.seluvava.specs.Cut.{itsBytes, spreadOf, told}
+use Rattle.seluvava.specs.Inner.{withBoxAt}
 
 -- the six bytes of a box are six stores
 pub six-bytes : (old : List ℕ) (i : ℕ) (x : Bounds) → withBoxAt old i x ≡ set (set (set (set (set (set old (6 * i) (x .r0)) (6 * i + 1) (x .r1)) (6 * i + 2) (x .g0)) (6 * i + 3) (x .g1)) (6 * i + 4) (x .b0)) (6 * i + 5) (x .b1)

@@ -17,17 +17,18 @@ use Rattle.grid.specs.Grid.{gridOf, gridAnswer, onGrid, numberOn, binsOf}
 use Rattle.grid.proofs.Places.{chose, bins-high}
 use Rattle.basics.proofs.Range.{and-left, and-right}
 use Rattle.basics.proofs.Ends.{passed}
-use Rattle.table.specs.Table.{viewOf}
+use Rattle.table.specs.Table.{tableLen, viewOf}
 use Rattle.table.specs.Sound.{limit, total, sound, unsoundNumber}
 use Rattle.cutter.specs.declared.call.CutRecord.{CutRecord}
 use Rattle.cutter.specs.Fronts.{filled}
 use Rattle.cutter.specs.Cut.{lengthsRight, Buffers, lengthsOf, longEnough, cutNumberOn, cutNumber, refusedRecord, cutRecord, cutLater}
 use Rattle.cutter.proofs.Fronts.{filled-none}
 use Rattle.cutter.proofs.Laws.{record-number, cut-refuses}
-use Rattle.seluvava.specs.declared.CutAnswer.{CutAnswer}
-use Rattle.seluvava.specs.Sizes.{binsFor}
+use Rattle.seluvava.specs.declared.cut.CutAnswer.{CutAnswer}
+use Rattle.seluvava.specs.Sizes.{binsFor, tableLenFor}
 use Rattle.seluvava.proofs.Boxes.{six, one}
-use Rattle.seluvava.specs.Cut.{Lent, lent, hasRoom, allLong, callNumberOn, callNumber, cutAnswer, itsBytes, spreadOf, told, callLater, roomOn, roomNumber}
+use Rattle.seluvava.specs.Cut.{Lent, lent, hasRoom, allLong, callNumberOn, callNumber, cutAnswer, itsBytes, spreadOf, told, callLater}
+use Rattle.seluvava.specs.Inner.{roomOn, roomNumber}
 
 module _ (b1 b2 b3 : ℕ) where
   -- ---- sizes
@@ -39,13 +40,13 @@ module _ (b1 b2 b3 : ℕ) where
   unfolding binsFor onGrid
   bins-on e = rw e refl
 
-  pub bins-small : binsFor b1 b2 b3 ≤ 2097152
-  unfolding binsFor onGrid
-  bins-small = go (gridOf b1 b2 b3) refl
-    where
-      go : (c : Chosen) → gridOf b1 b2 b3 ≡ c → onGrid c 0 binsOf ≤ 2097152
-      go (chosen.Accepted g) e = bins-high (chose b1 b2 b3 g e .accepted)
-      go chosen.Refused e = omega arith
+  pub len-refused : gridOf b1 b2 b3 ≡ chosen.Refused → tableLenFor b1 b2 b3 ≡ 0
+  unfolding tableLenFor onGrid
+  len-refused e = rw e refl
+
+  pub len-on : {g : Grid} → gridOf b1 b2 b3 ≡ chosen.Accepted g → tableLenFor b1 b2 b3 ≡ tableLen (binsOf g)
+  unfolding tableLenFor onGrid
+  len-on e = rw e refl
 
   -- ---- the room for the boxes
   module _ (k boxes spreads : ℕ) where

@@ -20,7 +20,6 @@ use Rattle.table.specs.Sound.{limit}
 use Rattle.sums.specs.Moments.{CanSum}
 use Rattle.sums.specs.Inner.{Corner, binCell}
 use Rattle.sums.proofs.Corners.{first-from, second-from, third-from, no-first, no-second, no-third, zeroCell, zeros-are, zeros-cell, corner-inside, corner-cell, corner-is, from-least, from-is}
-
 use Rattle.spread.specs.Inner.{outerOf, innerOf, startOf, combinedCell, CanCombine}
 
 pub outer-rest : (d : ℕ) → (d ≡ 0 → ⊥) → outerOf d ≡ 0

@@ -1,13 +1,13 @@
 // The statistics of the low side of a position, from what lies before the bin and before the box in the moments.
-use boxes::sides::Bounds;
 use crate::walk::Walk;
+use boxes::sides::Bounds;
 use grid::place::Grid;
 use sums::box_sums::Stats;
 use sums::box_sums::stats_of;
 use sums::moments::ZEROS;
 use table::cell::Cell;
-use table::layout::cell_at;
 use table::cell::minus;
+use table::layout::cell_at;
 ghost use mathlib.Core.Path.{_≡_};
 ghost use Prim.Native.Nat.{_≤_};
 ghost use Rattle.table.specs.Sound.{limit};

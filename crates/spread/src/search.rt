@@ -1,7 +1,4 @@
 // The best position of a box.
-use boxes::sides::Bounds;
-use boxes::sides::end_bin;
-use boxes::sides::first_bin;
 use crate::low_side::low_side_sums;
 use crate::low_side::sums_before;
 use crate::position::Position;
@@ -9,6 +6,9 @@ use crate::position::better;
 use crate::position::later_wins;
 use crate::position::position_between;
 use crate::walk::walk_of;
+use boxes::sides::Bounds;
+use boxes::sides::end_bin;
+use boxes::sides::first_bin;
 use grid::place::Grid;
 use sums::box_sums::Stats;
 use sums::box_sums::box_sum;

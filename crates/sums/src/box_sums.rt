@@ -1,11 +1,11 @@
 // The statistics of boxes, from the moments of their table.
-use boxes::sides::Bounds;
 use crate::moments::ZEROS;
+use boxes::sides::Bounds;
 use grid::place::Grid;
 use grid::place::place;
 use table::cell::Cell;
-use table::layout::cell_at;
 use table::cell::minus;
+use table::layout::cell_at;
 ghost use mathlib.Core.Path.{_≡_};
 ghost use Prim.Native.Nat.{_-_, _^_, _≤_};
 ghost use Rattle.table.specs.Cell.{numberOf};
@@ -44,7 +44,15 @@ fn corner(table: &[u64], work: &[u64], g: Grid, r: usize, gr: usize, b: usize) -
 }
 
 // The sums of the bins from b0 to b1, below r and gr.
-fn bins_from(table: &[u64], work: &[u64], g: Grid, r: usize, gr: usize, b0: usize, b1: usize) -> Cell
+fn bins_from(
+    table: &[u64],
+    work: &[u64],
+    g: Grid,
+    r: usize,
+    gr: usize,
+    b0: usize,
+    b1: usize,
+) -> Cell
     requires { ⌜ Corner g (now table) (now work) r gr b1 × (b0 ≤ b1) ⌝ }
     ensures { λ c. ⌜ c ≡ binCell g (viewOf (now (table .entry))) 0 r 0 gr b0 (b1 - b0) ⌝ }
 {

@@ -2,9 +2,9 @@
 use grid::place::Grid;
 use grid::place::place;
 use table::cell::Cell;
-use table::layout::cell_at;
 use table::cell::minus;
 use table::cell::plus;
+use table::layout::cell_at;
 use table::layout::put_at;
 ghost use mathlib.Core.Path.{_≡_};
 ghost use Prim.Native.Nat.{_+_, _*_};

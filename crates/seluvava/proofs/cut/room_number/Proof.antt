@@ -1,12 +1,12 @@
--- `seluvava::room_number` meets its contract: the refusals in their order.
+-- `seluvava::cut::room_number` meets its contract: the refusals in their order.
 -- Assumes nothing.
 use mathlib.Core.Path.{_≡_, sym, _∙_}
 use native.Mathlib.Omega.{arith}
-use Rattle.seluvava.specs.Cut.{roomOn, roomNumber}
+use Rattle.seluvava.specs.Inner.{roomOn, roomNumber}
 use Rattle.seluvava.proofs.Calls.{room-refused, room-on, room-k-low, room-k-high, room-boxes-short, room-spreads-short, room-enough}
 use borrow.Author.Needs.{needs}
-use Rattle.seluvava.proofs.room_number.Statement.{statement}
-use Rattle.seluvava.proofs.room_number.Tie as tie
+use Rattle.seluvava.proofs.cut.room_number.Statement.{statement}
+use Rattle.seluvava.proofs.cut.room_number.Tie as tie
 
 chosen : (k : tie.After-known-told) → roomNumber (k .before .before .before .before .args .b1) (k .before .before .before .before .args .b2) (k .before .before .before .before .args .b3) (k .before .before .before .before .args .k) (k .before .before .before .before .args .boxes) (k .before .before .before .before .args .spreads) ≡ roomOn (k .before .before .before .before .args .k) (k .before .before .before .before .args .boxes) (k .before .before .before .before .args .spreads)
 chosen k = let s = k .before .before .before .before in room-on (s .args .b1) (s .args .b2) (s .args .b3) (s .args .k) (s .args .boxes) (s .args .spreads) (sym (k .before .before .before .grid-of .ensures) ∙ k .before .accepted .given .1)

@@ -1,4 +1,4 @@
--- `seluvava::seluvava_bins` meets its contract.
+-- `seluvava::sizes::seluvava_bins` meets its contract.
 -- Assumes nothing.
 use mathlib.Core.Path.{_≡_, sym, _∙_}
 use Rattle.grid.specs.declared.place.Chosen.the-variants as chosen
@@ -6,8 +6,8 @@ use Rattle.grid.specs.Grid.{gridOf}
 use Rattle.grid.proofs.Places.{chose}
 use Rattle.seluvava.proofs.Calls.{bins-refused, bins-on}
 use borrow.Author.Needs.{needs}
-use Rattle.seluvava.proofs.seluvava_bins.Statement.{statement}
-use Rattle.seluvava.proofs.seluvava_bins.Tie as tie
+use Rattle.seluvava.proofs.sizes.seluvava_bins.Statement.{statement}
+use Rattle.seluvava.proofs.sizes.seluvava_bins.Tie as tie
 
 on-grid : (k : tie.After-known-told) → gridOf (k .before .before .before .before .args .b1) (k .before .before .before .before .args .b2) (k .before .before .before .before .args .b3) ≡ chosen.Accepted (k .before .g .given .0 .0)
 on-grid k = sym (k .before .before .before .grid-of .ensures) ∙ k .before .g .given .1

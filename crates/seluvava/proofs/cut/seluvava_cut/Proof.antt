@@ -1,4 +1,4 @@
--- `seluvava::seluvava_cut` meets its contract: without the room nothing is cut, and else the boxes of the record are written.
+-- `seluvava::cut::seluvava_cut` meets its contract: without the room nothing is cut, and else the boxes of the record are written.
 -- Assumes nothing.
 use mathlib.Core.Path.{sym, _∙_}
 use native.Mathlib.Omega.{arith}
@@ -9,8 +9,8 @@ use Rattle.cutter.specs.Cut.{Buffers, buffers}
 use Rattle.cutter.proofs.RecordSize.{few, all-places}
 use Rattle.seluvava.specs.Cut.{Lent, lent}
 use Rattle.seluvava.proofs.Calls.{roomy, call-refused, call-done}
-use Rattle.seluvava.proofs.seluvava_cut.Statement.{statement}
-use Rattle.seluvava.proofs.seluvava_cut.Tie as tie
+use Rattle.seluvava.proofs.cut.seluvava_cut.Statement.{statement}
+use Rattle.seluvava.proofs.cut.seluvava_cut.Tie as tie
 
 abbrev four : tie.Start → Buffers
 four s = buffers (now (s .args .work)) (now (s .args .palette)) (now (s .args .counts)) (now (s .args .map))

@@ -1,0 +1,38 @@
+// Loading and merging tables.
+ghost use mathlib.Core.Path.{_≡_};
+ghost use Rattle.loader.specs.Load.{loadNumber, loadLater};
+ghost use Rattle.loader.specs.Merge.{mergeNumber, mergeLater};
+
+// Adds a batch of colours to a table.
+#[no_mangle]
+pub extern "C" fn seluvava_load(
+    b1: usize,
+    b2: usize,
+    b3: usize,
+    table: &mut [u64],
+    colours: &[u8],
+    weighted: bool,
+    weights: &[u32],
+) -> u8
+    ensures number { λ r. ⌜ r
+        ≡ loadNumber b1 b2 b3 (now (table .entry)) (now (colours .entry)) weighted (now (weights .entry)) ⌝ }
+    ensures later { λ r. ⌜ now (table .exit)
+        ≡ loadLater b1 b2 b3 (now (table .entry)) (now (colours .entry)) weighted (now (weights .entry)) ⌝ }
+{
+    loader::load::load(b1, b2, b3, table, colours, weighted, weights)
+}
+
+// Adds a second table into a first.
+#[no_mangle]
+pub extern "C" fn seluvava_merge(
+    b1: usize,
+    b2: usize,
+    b3: usize,
+    table: &mut [u64],
+    second: &[u64],
+) -> u8
+    ensures number { λ r. ⌜ r ≡ mergeNumber b1 b2 b3 (now (table .entry)) (now (second .entry)) ⌝ }
+    ensures later { λ r. ⌜ now (table .exit) ≡ mergeLater b1 b2 b3 (now (table .entry)) (now (second .entry)) ⌝ }
+{
+    loader::merge::merge(b1, b2, b3, table, second)
+}
