@@ -7,7 +7,11 @@ use native.Mathlib.Omega.{arith}
 use borrow.Author.Needs.{needs}
 use denote.Ref.{now}
 use Rattle.table.specs.Cell.{View}
-use Rattle.table.specs.Table.{viewOf}
+use Rattle.table.specs.Table.{Table, viewOf, written}
+use Rattle.table.specs.Sound.{limit}
+use Rattle.grid.specs.Grid.{binsOf}
+use Rattle.sums.specs.Moments.{momentsOf, CanSum}
+use Rattle.sums.proofs.Steps.{sums-can}
 use Rattle.rounds.specs.declared.Boxes.{Boxes}
 use Rattle.rounds.specs.Loop.{boxesOf}
 use Rattle.rounds.proofs.Filled.{heap-most}
@@ -22,6 +26,11 @@ use Rattle.cutter.proofs.cut_on.Tie as tie
 abbrev view : tie.Start → View
 view s = viewOf (now (s .args .table))
 
+-- the work table after the moments
+can-sum : (s : tie.Start) {w : Table} → w ≡ written (binsOf (s .args .g)) (momentsOf (s .args .g) (view s))
+    → CanSum limit (s .args .g) (now (s .args .table)) w
+can-sum s = sums-can (record { accepted = s .pre .0; lent = s .pre .1 .table }) (s .pre .1 .is-sound)
+
 -- the boxes of the loop
 the-boxes : (s : tie.Start) {b : Boxes} → b ≡ boxesOf (s .args .g) (view s) (s .args .k) → Found (s .args .g) (view s) b
 the-boxes s e = subst (Found (s .args .g) (view s)) (sym e) (all-found (s .args .g) (view s) (s .args .k) (s .pre .1 .most) (s .pre .0) (s .pre .1 .some))
@@ -34,13 +43,15 @@ moments-requires : tie.Need-moments-requires
 moments-requires c κs = search needs
 
 cut-boxes-requires : tie.Need-cut-boxes-requires
-cut-boxes-requires c κs = search needs
+cut-boxes-requires c κs =
+    let s = c .before .before .before .before .before .before .before .before .before .before in
+    (can-sum s (c .before .before .before .moments .ensures), s .pre .1 .most)
 
 put-results-requires : tie.Need-put-results-requires
 put-results-requires c κs =
     let s = c .before .before .before .before .before .before .before .before .before .before .before .before .before .before in
     let e = c .before .before .before .cut-boxes .ensures in (
-      (record { table = record { accepted = s .pre .0; lent = s .pre .1 .table }; is-sound = s .pre .1 .is-sound; moments = c .before .before .before .before .before .before .before .moments .ensures }, the-boxes s e),
+      (can-sum s (c .before .before .before .before .before .before .before .moments .ensures), the-boxes s e),
       (omega (arith, few s e, s .pre .1 .palette), le-trans (few s e) (s .pre .1 .counts)),
     )
 
