@@ -28,6 +28,7 @@ use Rattle.table.proofs.sound.sound_total as sound-total
 use Rattle.loader.proofs.load.load as load
 use Rattle.loader.proofs.merge.merge as merge
 use Rattle.sums.proofs.moments.moments as moments
+use Rattle.sums.proofs.box_sums.in_float as in-float
 use Rattle.sums.proofs.box_sums.stats_of as stats-of
 use Rattle.sums.proofs.box_sums.box_sum as box-sum
 use Rattle.spread.proofs.spread.spread as spread
@@ -156,6 +157,9 @@ merge-determined κs a r s x y p q = both (determined (p .0) (q .0)) (determined
 -- ---- sums
 pub moments-determined : Determines 2 moments.Kinds.ps moments.Kinds.r moments.Reads.Learnt (λ κs r e. now (e .1 .1 .0))
 moments-determined κs a r s x y p q = determined p q
+
+pub in-float-determined : Determines 0 in-float.Kinds.ps in-float.Kinds.r in-float.Reads.Learnt (λ κs r e. r)
+in-float-determined κs a r s x y p q = determined p q
 
 pub stats-of-determined : Determines 0 stats-of.Kinds.ps stats-of.Kinds.r stats-of.Reads.Learnt (λ κs r e. r)
 stats-of-determined κs a r s x y p q = determined p q

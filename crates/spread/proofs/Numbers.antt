@@ -14,7 +14,8 @@ use Rattle.boxes.specs.declared.sides.Bounds.{Bounds}
 use Rattle.sums.specs.Box.{boxSum, statsOf}
 use Rattle.boxes.specs.Box.{Within}
 use Rattle.sums.proofs.Laws.{box-sums-high, box-squares-high, box-weight-high}
-use Rattle.spread.specs.Spread.{whole, qOf, quotientOf, zeroOf, spreadOf}
+use Rattle.sums.specs.Box.{whole}
+use Rattle.spread.specs.Spread.{qOf, quotientOf, zeroOf, spreadOf}
 use Rattle.boxes.specs.Box.{oneBin}
 use Rattle.spread.proofs.Rounding.{Is, of-whole}
 
@@ -60,9 +61,12 @@ module _ (g : Grid) (v : View) (x : Bounds) where
   unfolding quotientOf statsOf
   quot-is = refl
 
-  pub spread-is : oneBin x ≡ false → spreadOf x (statsOf g v x) ≡ spreadAt (boxSum g v x 0) (boxSum g v x 1) (boxSum g v x 2) (boxSum g v x 3) (boxSum g v x 4)
+  pub spread-is : oneBin x ≡ false → spreadOf x (statsOf g v x)
+      ≡ spreadAt (boxSum g v x 0) (boxSum g v x 1) (boxSum g v x 2) (boxSum g v x 3) (boxSum g v x 4)
   unfolding spreadOf quotientOf statsOf
-  spread-is e = ap (λ (t : Bool). cond t zeroOf (spreadAt (boxSum g v x 0) (boxSum g v x 1) (boxSum g v x 2) (boxSum g v x 3) (boxSum g v x 4))) e
+  spread-is e =
+      ap (λ (t : Bool). cond t zeroOf (spreadAt (boxSum g v x 0) (boxSum g v x 1) (boxSum g v x 2) (boxSum g v x 3)
+      (boxSum g v x 4))) e
 
   pub spread-one : oneBin x ≡ true → spreadOf x (statsOf g v x) ≡ zeroOf
   unfolding spreadOf

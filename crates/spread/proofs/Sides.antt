@@ -1,4 +1,5 @@
--- Records taken from each other: f64 subtracts their squares without loss, so a difference has the statistics of what is left.
+-- Records taken from each other: f64 subtracts their squares without loss, so a difference has the statistics of what
+-- is left.
 -- Assumes nothing.
 use mathlib.Core.Path.{_≡_, sym, ap, _∙_}
 use mathlib.Core.Bool.{false}
@@ -12,11 +13,11 @@ use Rattle.table.specs.Sound.{limit}
 use Rattle.table.proofs.Soundness.{Sound}
 use Rattle.boxes.specs.declared.sides.Bounds.{Bounds}
 use Rattle.sums.specs.declared.box_sums.Stats.{Stats}
-use Rattle.boxes.specs.Box.{minAt, maxAt, lowSide, highSide, Within}
+use Rattle.boxes.specs.Box.{minAt, maxAt, lowSide, highSide, slabTo, Within}
 use Rattle.sums.specs.Box.{boxSum, statsFrom, statsOf}
 use Rattle.sums.proofs.Corners.{box-squares}
-use Rattle.sums.proofs.Laws.{cut-sum}
-use Rattle.spread.specs.Spread.{whole}
+use Rattle.sums.proofs.Laws.{cut-sum, slab-sum, slab-squares}
+use Rattle.sums.specs.Box.{whole}
 use Rattle.spread.specs.Inner.{minusStats, Covers}
 use Rattle.spread.proofs.Rounding.{less-of, of-whole, whole-is}
 
@@ -38,12 +39,25 @@ less-whole a b h l =
     ∙ sym (whole-is binary64 (a - b))
 
 -- the difference of the statistics of five numbers and of a part of them is the statistics of the rest
-pub stats-less : (all part left : ℕ → ℕ) → ((j : ℕ) → all j ≡ part j + left j) → {a b : Stats} → Exact a all → b ≡ statsFrom part → Less a b left
+pub stats-less : (all part left : ℕ → ℕ) → ((j : ℕ) → all j ≡ part j + left j) → {a b : Stats} → Exact a all → b
+    ≡ statsFrom part → Less a b left
 unfolding minusStats
 stats-less all part left split {a} {b} p q =
     record {
-      covers = rw (p .is, q) (record { weight = omega (arith, split 0); sum1 = omega (arith, split 1); sum2 = omega (arith, split 2); sum3 = omega (arith, split 3) });
-      exact = λ e. record { is = e ∙ (λ i. minusStats (p .is i) (q i)) ∙ rest; squares = omega (arith, split 4, p .squares) };
+      covers =
+          rw (p .is, q) (record {
+            weight = omega (arith, split 0);
+            sum1 = omega (arith, split 1);
+            sum2 =
+                omega (arith, split 2);
+            sum3 = omega (arith, split 3);
+          });
+      exact =
+          λ e. record {
+            is = e ∙ (λ i. minusStats (p .is i) (q i)) ∙ rest;
+            squares =
+                omega (arith, split 4, p .squares);
+          };
     }
   where
     less : (j : ℕ) → all j - part j ≡ left j
@@ -59,10 +73,19 @@ stats-less all part left split {a} {b} p q =
           squares = (less-whole (all 4) (part 4) (omega (arith, split 4)) (p .squares) ∙ ap whole (less 4)) i;
         }
 
--- ---- the high side of a position
-pub high : {g : Grid} {v : View} → Sound limit g v → {x : Bounds} → Within g x → (d c : ℕ) → minAt x d ≤ c → c ≤ maxAt x d
-    → {all low : Stats} → all ≡ statsOf g v x → low ≡ statsOf g v (lowSide x d c) → Less all low (boxSum g v (highSide x d c))
-unfolding statsOf
-high {g} {v} s {x} w d c h l p q =
-    stats-less (boxSum g v x) (boxSum g v (lowSide x d c)) (boxSum g v (highSide x d c)) (λ j. cut-sum g v x d c j h l)
-    (record { is = p; squares = box-squares s w }) q
+-- ---- the two sides of a position
+module _ {g : Grid} {v : View} (s : Sound limit g v) {x : Bounds} (w : Within g x) (d c : ℕ)
+    (h : minAt x d ≤ c) (l : c ≤ maxAt x d) where
+  pub low : {before base : Stats} → before ≡ statsOf g v (slabTo x d c) → base ≡ statsOf g v (slabTo x d (minAt x d))
+      → Less before base (boxSum g v (lowSide x d c))
+  unfolding statsOf
+  low p q =
+      stats-less (boxSum g v (slabTo x d c)) (boxSum g v (slabTo x d (minAt x d))) (boxSum g v (lowSide x d c))
+      (λ j. slab-sum g v x d c j h) (record { is = p; squares = slab-squares s w d c l }) q
+
+  pub high : {all low : Stats} → all ≡ statsOf g v x → low ≡ statsOf g v (lowSide x d c)
+      → Less all low (boxSum g v (highSide x d c))
+  unfolding statsOf
+  high p q =
+      stats-less (boxSum g v x) (boxSum g v (lowSide x d c)) (boxSum g v (highSide x d c))
+      (λ j. cut-sum g v x d c j h l) (record { is = p; squares = box-squares s w }) q

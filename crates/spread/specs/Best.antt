@@ -41,6 +41,9 @@ pub record Winner (A : ℕ → ℕ → Float → Type 0) (d i : ℕ) (s : Float)
 
 -- what a caller is told: that one, or that there is none
 abbrev pub Tells : (ℕ → ℕ → Float → Type 0) → ScoredAnswer → Type 0
-Tells A told =
-    (_≡_ {A = ScoredAnswer} told (record { number = 0; values = []; scores = [] }) × ((d i : ℕ) (s : Float) → A d i s → ⊥))
-    ⊎ ((d : ℕ) × ((i : ℕ) × ((s : Float) × (_≡_ {A = ScoredAnswer} told (record { number = 0; values = d ∷ i ∷ []; scores = s ∷ [] }) × Winner A d i s))))
+Tells A answer =
+    (_≡_ {A = ScoredAnswer} answer (record { number = 0; values = []; scores = [] })
+    × ((d i : ℕ) (s : Float) → A d i s → ⊥))
+    ⊎ ((d : ℕ) × ((i : ℕ) × ((s : Float)
+    × (_≡_ {A = ScoredAnswer} answer (record { number = 0; values = d ∷ i ∷ []; scores = s ∷ [] })
+    × Winner A d i s))))

@@ -14,7 +14,8 @@ use Rattle.spread.specs.declared.position.Position.{Position}
 use Rattle.spread.specs.declared.position.Position.the-variants.{At, Nowhere}
 use Rattle.spread.specs.Spread.{scoreOf}
 
--- what a caller is told of each case: "either a position with its float score, or that no position exists"; neither is a refusal
+-- the number, the values and the scores of each case: "either a position with its float score, or that no position
+-- exists"; neither is a refusal
 pub record ScoredAnswer : Type 0 where
   pub number : ℕ
   pub values : List ℕ

@@ -1,29 +1,25 @@
 -- Spread and score in f64 (document 01, "Spread" and "Cutting one box"). Definitions only.
 use mathlib.Core.Path.{_≡_}
-use mathlib.Core.Bool.{Bool, true, false, cond}
+use mathlib.Core.Bool.{true, false, cond}
 use mathlib.Core.Logic.{_↔_}
 use Prim.Native.Nat.{ℕ, _+_, _*_, _≤_, _<_}
 use lib.Dec.{T}
 use lib.IntN.{pos}
-use lib.Ieee.{Float, fin, binary64, add, sub, mul, div, neg, ofInt, lt, eq}
+use lib.Ieee.{Float, fin, binary64, add, sub, mul, div, neg, lt, eq}
 use Rattle.grid.specs.declared.place.Grid.{Grid}
 use Rattle.grid.specs.Grid.{placeOf}
 use Rattle.table.specs.Cell.{View}
 use Rattle.table.specs.Sound.{limit}
 use Rattle.boxes.specs.declared.sides.Bounds.{Bounds}
 use Rattle.sums.specs.declared.box_sums.Stats.{Stats}
-use Rattle.sums.specs.Box.{statsOf}
+use Rattle.sums.specs.Box.{whole, statsOf}
 use Rattle.boxes.specs.Box.{Within, oneBin}
 use Rattle.boxes.specs.Holds.{holds}
 
--- "each whole number first turned into f64"
-abbrev pub whole : ℕ → Float
-whole n = ofInt binary64 (pos n)
-
+-- "Q is c1², then plus c2², then plus c3², each operation rounded once", each whole number first turned into f64
 abbrev pub squareOf : ℕ → Float
 squareOf n = mul binary64 (whole n) (whole n)
 
--- "Q is c1², then plus c2², then plus c3², each operation rounded once"
 abbrev pub qOf : ℕ → ℕ → ℕ → Float
 qOf a b c = add binary64 (add binary64 (squareOf a) (squareOf b)) (squareOf c)
 
@@ -59,7 +55,8 @@ pub record Plain (s : Stats) : Type 0 where
   pub two : s .sum2 ≤ 255 * s .weight
   pub three : s .sum3 ≤ 255 * s .weight
 
--- the property behind the number of boxes: a box with two occupied bins, and so of more than one, has a computed spread above 0
+-- the property behind the number of boxes: a box with two occupied bins, and so of more than one, has a computed
+-- spread above 0
 pub record SpreadsAbove (g : Grid) (v : View) : Type 0 where
   pub above : (x : Bounds) → Within g x → (r gr b r' gr' b' : ℕ) → holds x r gr b ≡ true → holds x r' gr' b' ≡ true
       → (v (placeOf g r gr b) 0 ≡ 0 → ⊥) → (v (placeOf g r' gr' b') 0 ≡ 0 → ⊥)

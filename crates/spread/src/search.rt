@@ -1,4 +1,5 @@
 // The best position of a box.
+use crate::low_side::less;
 use crate::low_side::low_side_sums;
 use crate::low_side::sums_before;
 use crate::position::Position;
@@ -12,6 +13,7 @@ use boxes::sides::first_bin;
 use grid::place::Grid;
 use sums::box_sums::Stats;
 use sums::box_sums::box_sum;
+use sums::box_sums::stats_of;
 use sums::moments::ZEROS;
 ghost use mathlib.Core.Path.{_≡_};
 ghost use Rattle.table.specs.Sound.{limit};
@@ -20,24 +22,10 @@ ghost use Rattle.boxes.specs.Box.{Within};
 ghost use Rattle.sums.specs.Box.{statsOf};
 ghost use Rattle.sums.specs.Moments.{CanSum};
 ghost use Rattle.spread.specs.Cut.{positionAt, bestIn, bestCut};
-ghost use Rattle.spread.specs.Inner.{minusStats, Covers, Sided};
+ghost use Rattle.spread.specs.Inner.{Sided};
 
-// One record less another: weight and sums in whole numbers, the squares in f64.
-fn less(a: Stats, b: Stats) -> Stats
-    requires { ⌜ Covers a b ⌝ }
-    ensures { λ r. ⌜ r ≡ minusStats a b ⌝ }
-{
-    Stats {
-        weight: a.weight - b.weight,
-        sum1: a.sum1 - b.sum1,
-        sum2: a.sum2 - b.sum2,
-        sum3: a.sum3 - b.sum3,
-        squares: a.squares - b.squares,
-    }
-}
-
-// The position at a bin, from the records of the box and of its low side: the high side is the rest of the box. The table
-// is named by the contract alone.
+// The position at a bin, from the records of the box and of its low side: the high side is the rest of the box. The
+// table is named by the contract alone.
 fn position_at(
     table: &[u64],
     g: Grid,
@@ -66,7 +54,7 @@ fn best_in(table: &[u64], work: &[u64], g: Grid, x: Bounds, dimension: u8, all: 
         return Position::Nowhere;
     }
     let walk = walk_of(g, x, dimension);
-    let mut base = ZEROS;
+    let mut base = stats_of(ZEROS);
     let mut best = Position::Nowhere;
     let mut bin = first;
     while bin < end {

@@ -2,18 +2,10 @@
 use boxes::sides::Bounds;
 use boxes::sides::is_one_bin;
 use sums::box_sums::Stats;
+use sums::box_sums::in_float;
 ghost use mathlib.Core.Path.{_≡_};
-ghost use Prim.Native.Nat.{_≤_};
 ghost use Rattle.boxes.specs.Box.{Ordered};
-ghost use Rattle.spread.specs.Spread.{whole, quotientOf, spreadOf, scoreOf, Plain};
-
-// A whole number in f64. The machine turns an i64 into an f64 by one instruction, a u64 by several.
-fn in_float(n: u64) -> f64
-    requires { ⌜ n ≤ 9007199254740992 ⌝ }
-    ensures { λ r. ⌜ r ≡ whole n ⌝ }
-{
-    (n as i64) as f64
-}
+ghost use Rattle.spread.specs.Spread.{quotientOf, spreadOf, scoreOf, Plain};
 
 // Q/n.
 fn quotient(s: Stats) -> f64

@@ -19,7 +19,7 @@ use Rattle.table.proofs.Cells.{number-cell, cell-by, Fields, cell-fields, minus
 use Rattle.table.proofs.Soundness.{Sound}
 use Rattle.boxes.specs.declared.sides.Bounds.{Bounds}
 use Rattle.sums.specs.declared.box_sums.Stats.{Stats}
-use Rattle.boxes.specs.Box.{minAt, maxAt, Within}
+use Rattle.boxes.specs.Box.{Within}
 use Rattle.sums.specs.Box.{sum3, binSum, boxSum, statsFrom}
 use Rattle.sums.specs.Moments.{belowSum}
 use Rattle.sums.specs.Inner.{binCell, Corner}
@@ -52,21 +52,24 @@ module _ (g : Grid) (v : View) where
   abbrev bin : ℕ → ℕ → ℕ → ℕ → ℕ
   bin j r gr b = v (placeOf g r gr b) j
 
-  pub first-from : (s e b m c k j : ℕ) → s ≤ e → binSum g v 0 e b m c k j ≡ binSum g v 0 s b m c k j + binSum g v s (e - s) b m c k j
+  pub first-from : (s e b m c k j : ℕ) → s ≤ e → binSum g v 0 e b m c k j
+      ≡ binSum g v 0 s b m c k j + binSum g v s (e - s) b m c k j
   unfolding binSum
   first-from s e b m c k j h =
       ap (λ (n : ℕ). sum3 0 n b m c k (bin j)) (ends s e h)
       ∙ sum3-first (bin j) 0 s (e - s) b m c k
       ∙ ap (λ (n : ℕ). sum3 0 s b m c k (bin j) + sum3 n (e - s) b m c k (bin j)) (zero-add s)
 
-  pub second-from : (a n s e c k j : ℕ) → s ≤ e → binSum g v a n 0 e c k j ≡ binSum g v a n 0 s c k j + binSum g v a n s (e - s) c k j
+  pub second-from : (a n s e c k j : ℕ) → s ≤ e → binSum g v a n 0 e c k j
+      ≡ binSum g v a n 0 s c k j + binSum g v a n s (e - s) c k j
   unfolding binSum
   second-from a n s e c k j h =
       ap (λ (m : ℕ). sum3 a n 0 m c k (bin j)) (ends s e h)
       ∙ sum3-second (bin j) a n 0 s (e - s) c k
       ∙ ap (λ (m : ℕ). sum3 a n 0 s c k (bin j) + sum3 a n m (e - s) c k (bin j)) (zero-add s)
 
-  pub third-from : (a n b m s e j : ℕ) → s ≤ e → binSum g v a n b m 0 e j ≡ binSum g v a n b m 0 s j + binSum g v a n b m s (e - s) j
+  pub third-from : (a n b m s e j : ℕ) → s ≤ e → binSum g v a n b m 0 e j
+      ≡ binSum g v a n b m 0 s j + binSum g v a n b m s (e - s) j
   unfolding binSum
   third-from a n b m s e j h =
       ap (λ (k : ℕ). sum3 a n b m 0 k (bin j)) (ends s e h)
@@ -74,11 +77,13 @@ module _ (g : Grid) (v : View) where
       ∙ ap (λ (k : ℕ). sum3 a n b m 0 s (bin j) + sum3 a n b m k (e - s) (bin j)) (zero-add s)
 
 -- the cell of a run of bins, from those up to its end and up to its start
-module _ (F : ℕ → ℕ → ℕ → ℕ) (split : (s e j : ℕ) → s ≤ e → F 0 e j ≡ F 0 s j + F s (e - s) j) {s e : ℕ} (h : s ≤ e) {upper : Cell} (p : upper ≡ cellOf (F 0 e)) where
+module _ (F : ℕ → ℕ → ℕ → ℕ) (split : (s e j : ℕ) → s ≤ e → F 0 e j ≡ F 0 s j + F s (e - s) j) {s e : ℕ}
+    (h : s ≤ e) {upper : Cell} (p : upper ≡ cellOf (F 0 e)) where
   pub from-least : {lower : Cell} → lower ≡ cellOf (F 0 s) → AtLeast upper lower
   from-least q = minus-least (F 0 e) (F 0 s) (F s (e - s)) (λ j. split s e j h) p q
 
-  pub from-is : {lower : Cell} → lower ≡ cellOf (F 0 s) → {x : Cell} → x ≡ minusCell upper lower → x ≡ cellOf (F s (e - s))
+  pub from-is : {lower : Cell} → lower ≡ cellOf (F 0 s) → {x : Cell} → x ≡ minusCell upper lower → x
+      ≡ cellOf (F s (e - s))
   from-is q r = minus-is (F 0 e) (F 0 s) (F s (e - s)) (λ j. split s e j h) p q r
 
   pub from-start : s ≡ 0 → upper ≡ cellOf (F s (e - s))
@@ -115,7 +120,8 @@ module _ {g : Grid} {t w : Table} {r gr b : ℕ} (c : Corner g t w r gr b) where
     pub corner-cell : {p : ℕ} → p ≡ placeOf g (r - 1) (gr - 1) (b - 1) → HasCell w p
     corner-cell {p} at = has-cell (c .can-sum .work) p (omega (arith, place-lt corner-inside, at))
 
-    corner-number : {p : ℕ} → p ≡ placeOf g (r - 1) (gr - 1) (b - 1) → (j : ℕ) → j < 5 → viewOf w p j ≡ binSum g (viewOf t) 0 r 0 gr 0 b j
+    pub corner-number : {p : ℕ} → p ≡ placeOf g (r - 1) (gr - 1) (b - 1) → (j : ℕ) → j < 5 → viewOf w p j
+        ≡ binSum g (viewOf t) 0 r 0 gr 0 b j
     unfolding belowSum
     corner-number at j m =
         ap (λ (n : ℕ). viewOf w n j) at
@@ -123,7 +129,8 @@ module _ {g : Grid} {t w : Table} {r gr b : ℕ} (c : Corner g t w r gr b) where
         ∙ moments-at g (viewOf t) (r - 1) (gr - 1) (b - 1) j (corner-inside .two) (corner-inside .three)
         ∙ (λ i. binSum g (viewOf t) 0 (before r h i) 0 (before gr k i) 0 (before b l i) j)
 
-    pub corner-is : {p : ℕ} → p ≡ placeOf g (r - 1) (gr - 1) (b - 1) → {x : Cell} → x ≡ cellOf (viewOf w p) → x ≡ binCell g (viewOf t) 0 r 0 gr 0 b
+    pub corner-is : {p : ℕ} → p ≡ placeOf g (r - 1) (gr - 1) (b - 1) → {x : Cell} → x ≡ cellOf (viewOf w p) → x
+        ≡ binCell g (viewOf t) 0 r 0 gr 0 b
     unfolding binCell
     corner-is {p} at {x} e =
         cell-by x (binCell g (viewOf t) 0 r 0 gr 0 b)
@@ -133,8 +140,16 @@ module _ {g : Grid} {t w : Table} {r gr b : ℕ} (c : Corner g t w r gr b) where
         ∙ corner-number at j m
         ∙ sym (number-cell (binSum g (viewOf t) 0 r 0 gr 0 b) j m))
 
+    pub corner-squares : binSum g (viewOf t) 0 r 0 gr 0 b 4 ≤ 2 ^ 53
+    unfolding belowSum
+    corner-squares =
+        let h = c .can-sum in
+        let s : Sound limit g (viewOf t) = record { holds = h .is-sound } in
+        omega (arith, below-small (h .table .accepted) s r gr b 4 (c .one) (c .two) (c .three) (lit< tt))
+
 -- a box has no more than the bins below its ends
-pub box-below : (g : Grid) (v : View) (x : Bounds) (j : ℕ) → Sides g x → boxSum g v x j ≤ belowSum g v (x .r1) (x .g1) (x .b1) j
+pub box-below : (g : Grid) (v : View) (x : Bounds) (j : ℕ) → Sides g x
+    → boxSum g v x j ≤ belowSum g v (x .r1) (x .g1) (x .b1) j
 unfolding boxSum belowSum
 box-below g v x j s =
     omega (
@@ -148,7 +163,12 @@ box-below g v x j s =
 pub box-squares : {g : Grid} {v : View} → Sound limit g v → {x : Bounds} → Within g x → boxSum g v x 4 ≤ 2 ^ 53
 box-squares {g} {v} s {x} w =
     let e = sides w in
-    omega (arith, box-below g v x 4 e, below-small (w .accepted) s (x .r1) (x .g1) (x .b1) 4 (e .one-fits) (e .two-fits) (e .three-fits) (lit< tt))
+    omega (
+      arith,
+      box-below g v x 4 e,
+      below-small (w .accepted) s (x .r1) (x .g1) (x .b1) 4 (e .one-fits)
+          (e .two-fits) (e .three-fits) (lit< tt),
+    )
 
 -- ---- statistics of five numbers
 pub stats-by : (f h : ℕ → ℕ) → ((j : ℕ) → j < 5 → f j ≡ h j) → statsFrom f ≡ statsFrom h

@@ -31,23 +31,31 @@ run-hit i e q y h = go (decLe i q) (decLe e q)
     go : Dec (i ≤ q) → Dec (e ≤ q) → sumFrom i (e - i) (λ p. hit q p y) ≡ cond (lies i e q) y 0
     go (no a) d = rw (lt-leb i q (lt-of-not-le a)) (miss (λ p k l s. omega (arith, lt-of-not-le a)))
     go (yes a) (yes b) = rw (le-leb i q a, le-ltb q e b) (miss (λ p k l s. omega arith))
-    go (yes a) (no b) = rw (le-leb i q a, lt-ltb q e (lt-of-not-le b)) (sum-hit i (e - i) q y a (omega (arith, lt-of-not-le b)))
+    go (yes a) (no b) =
+        rw (le-leb i q a, lt-ltb q e (lt-of-not-le b)) (sum-hit i (e - i) q y a (omega (arith, lt-of-not-le b)))
 
 -- a hit elsewhere goes through a sum
 hit-sum : (q s i n : ℕ) (f : ℕ → ℕ) → sumFrom i n (λ p. hit q s (f p)) ≡ hit q s (sumFrom i n f)
 hit-sum q s i n f = go (ℕ-discrete q s)
   where
     go : Dec (q ≡ s) → sumFrom i n (λ p. hit q s (f p)) ≡ hit q s (sumFrom i n f)
-    go (yes e) = sum-same i n (λ p. hit q s (f p)) f (λ p a b. hit-yes q s (f p) e) ∙ sym (hit-yes q s (sumFrom i n f) e)
-    go (no d) = sum-same i n (λ p. hit q s (f p)) (λ p. 0) (λ p a b. hit-no q s (f p) d) ∙ sum-zero i n ∙ sym (hit-no q s (sumFrom i n f) d)
+    go (yes e) =
+        sum-same i n (λ p. hit q s (f p)) f (λ p a b. hit-yes q s (f p) e) ∙ sym (hit-yes q s (sumFrom i n f) e)
+    go (no d) =
+        sum-same i n (λ p. hit q s (f p)) (λ p. 0) (λ p a b. hit-no q s (f p) d) ∙ sum-zero i n
+        ∙ sym (hit-no q s (sumFrom i n f) d)
 
 -- a place is hit where each of its bins is
-hit-place : {g : Grid} {r gr b r' gr' b' : ℕ} → Inside g r gr b → Inside g r' gr' b' → (y : ℕ) → hit (placeOf g r gr b) (placeOf g r' gr' b') y ≡ hit r r' (hit gr gr' (hit b b' y))
+hit-place : {g : Grid} {r gr b r' gr' b' : ℕ} → Inside g r gr b → Inside g r' gr' b' → (y : ℕ)
+    → hit (placeOf g r gr b) (placeOf g r' gr' b') y ≡ hit r r' (hit gr gr' (hit b b' y))
 unfolding choose
 hit-place {g} {r} {gr} {b} {r'} {gr'} {b'} i k y = go (ℕ-discrete r r') (ℕ-discrete gr gr') (ℕ-discrete b b')
   where
-    go : Dec (r ≡ r') → Dec (gr ≡ gr') → Dec (b ≡ b') → hit (placeOf g r gr b) (placeOf g r' gr' b') y ≡ hit r r' (hit gr gr' (hit b b' y))
-    go (no d) e f = hit-no (placeOf g r gr b) (placeOf g r' gr' b') y (λ p. d (place-once i k p 0)) ∙ sym (hit-no r r' (hit gr gr' (hit b b' y)) d)
+    go : Dec (r ≡ r') → Dec (gr ≡ gr') → Dec (b ≡ b') → hit (placeOf g r gr b) (placeOf g r' gr' b') y
+        ≡ hit r r' (hit gr gr' (hit b b' y))
+    go (no d) e f =
+        hit-no (placeOf g r gr b) (placeOf g r' gr' b') y (λ p. d (place-once i k p 0))
+        ∙ sym (hit-no r r' (hit gr gr' (hit b b' y)) d)
     go (yes d) (no e) f =
         hit-no (placeOf g r gr b) (placeOf g r' gr' b') y (λ p. e (place-once i k p 1))
         ∙ sym (hit-yes r r' (hit gr gr' (hit b b' y)) d ∙ hit-no gr gr' (hit b b' y) e)
@@ -69,14 +77,23 @@ pub hit-box : {g : Grid} {x : Bounds} → Within g x → {R G Z : ℕ} → Insid
 unfolding boxSum binSum sum3 holds
 hit-box {g} {x} w {R} {G} {Z} i y j =
     let e = sides w in
-    sum3-same (x .r0) (x .r1 - x .r0) (x .g0) (x .g1 - x .g0) (x .b0) (x .b1 - x .b0) (λ r gr z. hit (placeOf g R G Z) (placeOf g r gr z) y) (λ r gr z. hit R r (hit G gr (hit Z z y)))
+    sum3-same (x .r0) (x .r1 - x .r0) (x .g0) (x .g1 - x .g0) (x .b0) (x .b1 - x .b0)
+    (λ r gr z. hit (placeOf g R G Z) (placeOf g r gr z) y) (λ r gr z. hit R r (hit G gr (hit Z z y)))
     (λ r gr z h k l.
-    hit-place i (record { accepted = w .accepted; one = omega (arith, e .one, e .one-fits); two = omega (arith, e .two, e .two-fits); three = omega (arith, e .three, e .three-fits) }) y)
+    hit-place i (record {
+      accepted = w .accepted;
+      one = omega (arith, e .one, e .one-fits);
+      two =
+          omega (arith, e .two, e .two-fits);
+      three = omega (arith, e .three, e .three-fits);
+    }) y)
     ∙ sum-same (x .r0) (x .r1 - x .r0) _ _
     (λ r h k.
-    sum-same (x .g0) (x .g1 - x .g0) _ _ (λ gr m n. hit-sum R r (x .b0) (x .b1 - x .b0) (λ z. hit G gr (hit Z z y)) ∙ ap (hit R r) (hit-sum G gr (x .b0) (x .b1 - x .b0) (λ z. hit Z z y)))
+    sum-same (x .g0) (x .g1 - x .g0) _ _ (λ gr m n. hit-sum R r (x .b0) (x .b1 - x .b0) (λ z. hit G gr (hit Z z y))
+    ∙ ap (hit R r) (hit-sum G gr (x .b0) (x .b1 - x .b0) (λ z. hit Z z y)))
     ∙ hit-sum R r (x .g0) (x .g1 - x .g0) (λ gr. hit G gr (sumFrom (x .b0) (x .b1 - x .b0) (λ z. hit Z z y))))
-    ∙ run-hit (x .r0) (x .r1) R (sumFrom (x .g0) (x .g1 - x .g0) (λ gr. hit G gr (sumFrom (x .b0) (x .b1 - x .b0) (λ z. hit Z z y)))) (le-of-lt (e .one))
+    ∙ run-hit (x .r0) (x .r1) R (sumFrom (x .g0) (x .g1 - x .g0)
+    (λ gr. hit G gr (sumFrom (x .b0) (x .b1 - x .b0) (λ z. hit Z z y)))) (le-of-lt (e .one))
     ∙ ap (λ (n : ℕ). cond (lies (x .r0) (x .r1) R) n 0)
     (run-hit (x .g0) (x .g1) G (sumFrom (x .b0) (x .b1 - x .b0) (λ z. hit Z z y)) (le-of-lt (e .two))
     ∙ ap (λ (n : ℕ). cond (lies (x .g0) (x .g1) G) n 0) (run-hit (x .b0) (x .b1) Z y (le-of-lt (e .three))))

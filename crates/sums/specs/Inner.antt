@@ -1,5 +1,5 @@
--- What the crate's own functions are told: sums on the way to the moments, and where the work table has them. Definitions
--- only.
+-- What the crate's own functions are told: sums on the way to the moments, and where the work table has them.
+-- Definitions only.
 use Prim.Native.Nat.{ℕ, _+_, _-_, _^_, _≤_, _<_}
 use Rattle.basics.specs.Range.{sumFrom}
 use Rattle.grid.specs.declared.place.Grid.{Grid}
@@ -23,8 +23,8 @@ lineSum g v r gr b j = sumFrom 0 b (λ z. v (placeOf g r gr z) j)
 unfoldable pub lineCell : Grid → View → ℕ → ℕ → ℕ → Cell
 lineCell g v r gr b = cellOf (lineSum g v r gr b)
 
--- "by inclusion and exclusion": the moments at a bin, from the sums along its row and those of the row above, of the plane
--- before and of the row above in that plane
+-- "by inclusion and exclusion": the moments at a bin, from the sums along its row and those of the row above, of the
+-- plane before and of the row above in that plane
 unfoldable pub joinedCell : Cell → Cell → Cell → Cell → Cell
 joinedCell line above before corner = plusCell (plusCell line above) (minusCell before corner)
 

@@ -12,7 +12,7 @@ ghost use Rattle.table.specs.Cell.{numberOf};
 ghost use Rattle.table.specs.Sound.{limit};
 ghost use Rattle.table.specs.Table.{viewOf};
 ghost use Rattle.boxes.specs.Box.{Within};
-ghost use Rattle.sums.specs.Box.{boxCell, statsFrom, statsOf};
+ghost use Rattle.sums.specs.Box.{boxCell, whole, statsFrom, statsOf};
 ghost use Rattle.sums.specs.Moments.{CanSum};
 ghost use Rattle.sums.specs.Inner.{binCell, Corner};
 
@@ -89,6 +89,14 @@ fn box_cell(table: &[u64], work: &[u64], g: Grid, x: Bounds) -> Cell
     minus(upper, slab(table, work, g, x.r0 as usize, x))
 }
 
+// A whole number in f64. The machine turns an i64 into an f64 by one instruction, a u64 by several.
+pub fn in_float(n: u64) -> f64
+    requires { ⌜ n ≤ 2 ^ 53 ⌝ }
+    ensures { λ r. ⌜ r ≡ whole n ⌝ }
+{
+    (n as i64) as f64
+}
+
 // Five sums as statistics, with their squares turned into f64.
 pub fn stats_of(c: Cell) -> Stats
     requires { ⌜ c .squares ≤ 2 ^ 53 ⌝ }
@@ -99,7 +107,7 @@ pub fn stats_of(c: Cell) -> Stats
         sum1: c.sum1,
         sum2: c.sum2,
         sum3: c.sum3,
-        squares: c.squares as f64,
+        squares: in_float(c.squares),
     }
 }
 

@@ -21,7 +21,10 @@ score-requires c κs = search needs
 
 returns-3 : tie.Need-returns-3
 unfolding positionOf
-returns-3 c = rw (ne-eqb _ 0 (c .before .before .before .if1 .left), ne-eqb _ 0 (c .before .if2 .left)) (ap (At (c .before .before .before .before .before .args .dimension) (c .before .before .before .before .before .args .bin)) (c .score .ensures))
+returns-3 c =
+    rw (ne-eqb _ 0 (c .before .before .before .if1 .left), ne-eqb _ 0 (c .before .if2 .left))
+    (ap (At (c .before .before .before .before .before .args .dimension)
+    (c .before .before .before .before .before .args .bin)) (c .score .ensures))
 
 pub position-between-spec : {M : Type 1} → statement M
 position-between-spec = tie.close (tie.spec returns returns-2 score-requires returns-3)

@@ -19,7 +19,8 @@ better-requires : tie.Need-better-requires
 better-requires c κs = search needs
 
 best-in-requires-3 : tie.Need-best-in-requires-3
-best-in-requires-3 c κs = (c .before .before .before .before .before .before .pre, c .before .before .before .box-sum .ensures)
+best-in-requires-3 c κs =
+    (c .before .before .before .before .before .before .pre, c .before .before .before .box-sum .ensures)
 
 better-requires-2 : tie.Need-better-requires-2
 better-requires-2 c κs = search needs
@@ -28,7 +29,9 @@ returns : tie.Need-returns
 unfolding bestCut
 returns c =
     c .better2 .ensures
-    ∙ (λ i. better ((c .before .before .better .ensures ∙ (λ j. better (c .before .before .before .before .best-in .ensures j) (c .before .before .before .best-in2 .ensures j))) i) (c .before .best-in3 .ensures i))
+    ∙ (λ i. better ((c .before .before .better .ensures
+    ∙ (λ j. better (c .before .before .before .before .best-in .ensures j)
+    (c .before .before .before .best-in2 .ensures j))) i) (c .before .best-in3 .ensures i))
 
 pub best-cut-spec : {M : Type 1} → statement M
 best-cut-spec =

@@ -7,7 +7,7 @@ use native.Mathlib.Omega.{arith}
 use borrow.Author.Needs.{needs}
 use denote.Ref.{now}
 use Rattle.table.specs.Table.{viewOf}
-use Rattle.sums.specs.Box.{boxCell}
+use Rattle.sums.specs.Box.{statsOf}
 use Rattle.boxes.specs.Box.{minAt, maxAt, slabTo}
 use Rattle.spread.specs.declared.position.Position.{Position}
 use Rattle.spread.specs.Cut.{positionAt, better, bestRun, bestIn}
@@ -20,7 +20,7 @@ abbrev Inv-loop : tie.InvT-loop
 Inv-loop table work g x dimension all end first walk base₀ best₀ bin₀ base best bin =
     (minAt x dimension ≤ bin) × (bin ≤ end)
     × (best ≡ bestRun g (viewOf table) x dimension (minAt x dimension + 1) (bin - (minAt x dimension + 1)))
-    × (minAt x dimension < bin → base ≡ boxCell g (viewOf table) (slabTo x dimension (minAt x dimension)))
+    × (minAt x dimension < bin → base ≡ statsOf g (viewOf table) (slabTo x dimension (minAt x dimension)))
 
 abbrev μ-loop : tie.MeasureT-loop
 μ-loop table work g x dimension all end first walk base₀ best₀ bin₀ base best bin = end - bin
@@ -32,40 +32,71 @@ first-bin-requires : tie.Need-first-bin-requires Inv-loop μ-loop
 first-bin-requires c κs = search needs
 
 sub-if1 : tie.Need-sub-if1 Inv-loop μ-loop
-sub-if1 c = omega (arith, c .first-bin .ensures, c .before .end-bin .ensures, c .before .before .before .before .pre .0 .1 .some (c .before .before .before .before .args .dimension))
+sub-if1 c =
+    omega (
+      arith,
+      c .first-bin .ensures,
+      c .before .end-bin .ensures,
+      c .before .before .before .before .pre .0 .1 .some (c .before .before .before .before .args .dimension),
+    )
 
 returns : tie.Need-returns Inv-loop μ-loop
 unfolding bestIn
 returns c =
     let s = c .before .before .before .before .before in
-    run-none (s .args .g) (viewOf (now (s .args .table))) (s .args .x) (s .args .dimension) (minAt (s .args .x) (s .args .dimension) + 1) (maxAt (s .args .x) (s .args .dimension))
-    (omega (arith, c .if1 .taken, c .before .first-bin .ensures, c .before .before .end-bin .ensures, s .pre .0 .1 .some (s .args .dimension)))
+    run-none (s .args .g) (viewOf (now (s .args .table))) (s .args .x) (s .args .dimension)
+    (minAt (s .args .x) (s .args .dimension) + 1) (maxAt (s .args .x) (s .args .dimension))
+    (omega (
+      arith,
+      c .if1 .taken,
+      c .before .first-bin .ensures,
+      c .before .before .end-bin .ensures,
+      s .pre .0 .1 .some (s .args .dimension),
+    ))
 
 walk-of-requires : tie.Need-walk-of-requires Inv-loop μ-loop
 walk-of-requires c κs = c .before .before .before .before .before .pre .0 .1
 
+stats-of-requires : tie.Need-stats-of-requires Inv-loop μ-loop
+stats-of-requires c κs = search needs
+
 loop-holds : tie.Need-loop-holds Inv-loop μ-loop
 loop-holds c =
-    let s = c .before .before .before .before .before .before in
-    let first = c .before .before .first-bin .ensures in (
+    let s = c .before .before .before .before .before .before .before in
+    let first = c .before .before .before .first-bin .ensures in (
       omega (arith, first),
-      omega (arith, first, c .before .before .before .end-bin .ensures, s .pre .0 .1 .some (s .args .dimension)),
+      omega (
+        arith,
+        first,
+        c .before .before .before .before .end-bin .ensures,
+        s .pre .0 .1 .some
+            (s .args .dimension),
+      ),
       run-none (s .args .g) (viewOf (now (s .args .table))) (s .args .x) (s .args .dimension)
-          (minAt (s .args .x) (s .args .dimension) + 1) (c .before .before .first-bin .result) (omega (arith, first)),
+          (minAt (s .args .x) (s .args .dimension) + 1) (c .before .before .before .first-bin .result)
+          (omega (arith, first)),
       λ h. absurd (omega (arith, first)),
     )
 
 sums-before-requires : tie.Need-sums-before-requires Inv-loop μ-loop
 sums-before-requires c κs =
-    let s = c .before .before .before .before .before .before .before .before in (
-      (s .pre .0 .0, s .pre .0 .1, omega (arith, c .loop-test .taken, c .before .before .before .before .before .end-bin .ensures)),
-      c .before .before .walk-of .ensures,
+    let s = c .before .before .before .before .before .before .before .before .before in (
+      (
+        s .pre .0 .0,
+        s .pre .0 .1,
+        omega (
+          arith,
+          c .loop-test .taken,
+          c .before .before .before .before .before .before .end-bin .ensures,
+        ),
+      ),
+      c .before .before .before .walk-of .ensures,
     )
 
 -- a bin past the first: the position there, and the best with it
 module _ (k : tie.Else2 Inv-loop μ-loop) where
   abbrev s : tie.Start Inv-loop μ-loop
-  s = k .before .before .before .before .before .before .before .before .before .before
+  s = k .before .before .before .before .before .before .before .before .before .before .before
 
   abbrev bin : ℕ
   bin = k .before .before .before .loop .bin
@@ -74,10 +105,17 @@ module _ (k : tie.Else2 Inv-loop μ-loop) where
   from = minAt (s .args .x) (s .args .dimension)
 
   abbrev run : ℕ → Position
-  run n = bestRun (s .args .g) (viewOf (now (s .args .table))) (s .args .x) (s .args .dimension) (from + 1) (n - (from + 1))
+  run n =
+      bestRun (s .args .g) (viewOf (now (s .args .table))) (s .args .x) (s .args .dimension) (from + 1)
+      (n - (from + 1))
 
   past-first : from < bin
-  past-first = omega (arith, k .before .before .before .loop .inv .0, k .before .before .before .before .before .before .first-bin .ensures)
+  past-first =
+      omega (
+        arith,
+        k .before .before .before .loop .inv .0,
+        k .before .before .before .before .before .before .before .first-bin .ensures,
+      )
 
   cuts : CutsAt (s .args .g) (viewOf (now (s .args .table))) (s .args .x) (s .args .dimension) bin
   cuts =
@@ -85,10 +123,16 @@ module _ (k : tie.Else2 Inv-loop μ-loop) where
         is-sound = s .pre .0 .0 .is-sound;
         within = s .pre .0 .1;
         low = past-first;
-        high = omega (arith, k .before .before .before .before .before .before .before .end-bin .ensures, k .before .before .loop-test .taken);
+        high =
+            omega (
+              arith,
+              k .before .before .before .before .before .before .before .before .end-bin .ensures,
+              k .before .before .loop-test .taken,
+            );
       }
 
-  next : {p r : Position} → p ≡ positionAt (s .args .g) (viewOf (now (s .args .table))) (s .args .x) (s .args .dimension) bin
+  next : {p r : Position} → p
+      ≡ positionAt (s .args .g) (viewOf (now (s .args .table))) (s .args .x) (s .args .dimension) bin
       → r ≡ better (k .before .before .before .loop .best) p → r ≡ run (bin + 1)
   next =
       run-next (s .args .g) (viewOf (now (s .args .table))) (s .args .x) (s .args .dimension) (from + 1) bin
@@ -96,7 +140,12 @@ module _ (k : tie.Else2 Inv-loop μ-loop) where
 
 low-side-sums-requires : tie.Need-low-side-sums-requires Inv-loop μ-loop
 low-side-sums-requires c κs =
-    record { cuts = cuts c; of-bin = c .before .sums-before .ensures; of-box = c .before .before .before .loop .inv .3 (past-first c) }
+    record {
+      cuts = cuts c;
+      of-bin = c .before .sums-before .ensures;
+      of-box =
+          c .before .before .before .loop .inv .3 (past-first c);
+    }
 
 position-at-requires : tie.Need-position-at-requires Inv-loop μ-loop
 position-at-requires c κs =
@@ -107,11 +156,11 @@ later-wins-requires c κs = search needs
 
 add-bin : tie.Need-add-bin Inv-loop μ-loop
 add-bin c =
-    let s = c .before .before .before .before .before .before .before .before .before .before in
+    let s = c .before .before .before .before .before .before .before .before .before .before .before in
     omega (
       arith,
       c .before .before .loop-test .taken,
-      c .before .before .before .before .before .before .before .end-bin .ensures,
+      c .before .before .before .before .before .before .before .before .end-bin .ensures,
       end-high (s .pre .0 .1) (s .args .dimension),
     )
 
@@ -120,9 +169,9 @@ loop-less c = omega arith
 
 loop-again : tie.Need-loop-again Inv-loop μ-loop
 loop-again c =
-    let s = c .before .before .before .before .before .before .before .before .before .before in
+    let s = c .before .before .before .before .before .before .before .before .before .before .before in
     let l = c .before .before .before .loop in
-    let first = c .before .before .before .before .before .before .first-bin .ensures in
+    let first = c .before .before .before .before .before .before .before .first-bin .ensures in
     let from : ℕ = minAt (s .args .x) (s .args .dimension) in (
       omega (arith, l .inv .0),
       omega (arith, c .before .before .loop-test .taken),
@@ -145,7 +194,8 @@ loop-again c =
           (λ w.
           w .1
           ∙ c .before .sums-before .ensures
-          ∙ ap (λ (n : ℕ). boxCell (s .args .g) (viewOf (now (s .args .table))) (slabTo (s .args .x) (s .args .dimension) n))
+          ∙ ap (λ (n : ℕ). statsOf (s .args .g) (viewOf (now (s .args .table)))
+          (slabTo (s .args .x) (s .args .dimension) n))
           (w .0 .taken ∙ first))
           (⊎-elim
           (λ w. w .5 ∙ l .inv .3 (past-first (record { before = c .before; if2 = w .0 })))
@@ -159,11 +209,11 @@ loop-again c =
 returns-2 : tie.Need-returns-2 Inv-loop μ-loop
 unfolding bestIn
 returns-2 c =
-    let s = c .before .before .before .before .before .before .before .before in
+    let s = c .before .before .before .before .before .before .before .before .before in
     let l = c .before .loop in
     let from : ℕ = minAt (s .args .x) (s .args .dimension) in
     let all : l .bin ≡ maxAt (s .args .x) (s .args .dimension) =
-    omega (arith, l .inv .1, c .loop-test .left, c .before .before .before .before .before .end-bin .ensures) in
+    omega (arith, l .inv .1, c .loop-test .left, c .before .before .before .before .before .before .end-bin .ensures) in
     l .inv .2
     ∙ ap
     (λ (n : ℕ).
@@ -181,6 +231,7 @@ best-in-spec =
     sub-if1
     returns
     walk-of-requires
+    stats-of-requires
     loop-holds
     sums-before-requires
     low-side-sums-requires

@@ -44,14 +44,16 @@ position-between-requires : tie.Need-position-between-requires
 position-between-requires c κs =
     let s = c .before .before in
     let h = s .pre .cuts in (
-      plain-stats (is-sound s) (low-within (h .within) (s .args .dimension) (s .args .bin) (h .low) (h .high)) (s .pre .of-low),
+      plain-stats (is-sound s) (low-within (h .within) (s .args .dimension) (s .args .bin) (h .low) (h .high))
+          (s .pre .of-low),
       plain-stats (is-sound s) (high-within (h .within) (s .args .dimension) (s .args .bin) (h .high)) (the-high c),
     )
 
 returns : tie.Need-returns
 returns c =
     let s = c .before .before .before in
-    position-is (s .args .g) (view s) (s .args .x) (s .args .dimension) (s .args .bin) (s .pre .of-low) (the-high (c .before))
+    position-is (s .args .g) (view s) (s .args .x) (s .args .dimension) (s .args .bin) (s .pre .of-low)
+    (the-high (c .before))
     (c .position-between .ensures)
 
 pub position-at-spec : {M : Type 1} → statement M

@@ -25,7 +25,8 @@ returns c =
     let a : Float = c .before .before .before .in-float .ensures t in
     let b : Float = c .before .before .in-float2 .ensures t in
     let d : Float = c .before .in-float3 .ensures t in
-    div binary64 (add binary64 (add binary64 (mul binary64 a a) (mul binary64 b b)) (mul binary64 d d)) (c .in-float4 .ensures t)
+    div binary64 (add binary64 (add binary64 (mul binary64 a a) (mul binary64 b b)) (mul binary64 d d))
+    (c .in-float4 .ensures t)
 
 pub quotient-spec : {M : Type 1} → statement M
 quotient-spec =

@@ -19,7 +19,10 @@ quotient-requires c κs = search needs
 
 returns-2 : tie.Need-returns-2
 unfolding spreadOf
-returns-2 c = rw (sym (c .before .before .before .is-one-bin .ensures) ∙ c .before .before .if1 .left) (ap (λ (q : Float). sub binary64 (c .before .before .before .before .args .s .squares) q) (c .before .quotient .ensures))
+returns-2 c =
+    rw (sym (c .before .before .before .is-one-bin .ensures) ∙ c .before .before .if1 .left)
+    (ap (λ (q : Float). sub binary64 (c .before .before .before .before .args .s .squares) q)
+    (c .before .quotient .ensures))
 
 pub spread-spec : {M : Type 1} → statement M
 spread-spec = tie.close (tie.spec is-one-bin-requires returns quotient-requires returns-2)

@@ -15,24 +15,47 @@ module _ (k : tie.After-end-bin2) where
   abbrev s : tie.Start
   s = k .before .before .before .before .before .before .before .before
 
-  outer-first : k .before .before .before .before .before .before .first-bin .result ≡ minAt (s .args .x) (outerOf (s .args .dimension))
-  outer-first = k .before .before .before .before .before .before .first-bin .ensures ∙ ap (minAt (s .args .x)) (k .before .before .before .before .before .before .before .outer-of .ensures)
+  outer-first : k .before .before .before .before .before .before .first-bin .result
+      ≡ minAt (s .args .x) (outerOf (s .args .dimension))
+  outer-first =
+      k .before .before .before .before .before .before .first-bin .ensures
+      ∙ ap (minAt (s .args .x)) (k .before .before .before .before .before .before .before .outer-of .ensures)
 
-  inner-first : k .before .before .before .before .first-bin2 .result ≡ minAt (s .args .x) (innerOf (s .args .dimension))
-  inner-first = k .before .before .before .before .first-bin2 .ensures ∙ ap (minAt (s .args .x)) (k .before .before .before .before .before .inner-of .ensures)
+  inner-first : k .before .before .before .before .first-bin2 .result
+      ≡ minAt (s .args .x) (innerOf (s .args .dimension))
+  inner-first =
+      k .before .before .before .before .first-bin2 .ensures
+      ∙ ap (minAt (s .args .x)) (k .before .before .before .before .before .inner-of .ensures)
 
   outer-end : k .before .before .end-bin .result ≡ maxAt (s .args .x) (outerOf (s .args .dimension))
-  outer-end = k .before .before .end-bin .ensures ∙ ap (maxAt (s .args .x)) (k .before .before .before .outer-of2 .ensures)
+  outer-end =
+      k .before .before .end-bin .ensures ∙ ap (maxAt (s .args .x)) (k .before .before .before .outer-of2 .ensures)
 
   inner-end : k .end-bin2 .result ≡ maxAt (s .args .x) (innerOf (s .args .dimension))
   inner-end = k .end-bin2 .ensures ∙ ap (maxAt (s .args .x)) (k .before .inner-of2 .ensures)
 
   -- they fit the grid
-  outer-first-fits : k .before .before .before .before .before .before .first-bin .result ≤ sizeAt (s .args .g) (outerOf (s .args .dimension))
-  outer-first-fits = omega (arith, outer-first, s .pre .some (outerOf (s .args .dimension)), s .pre .fits (outerOf (s .args .dimension)))
+  outer-first-fits : k .before .before .before .before .before .before .first-bin .result ≤ sizeAt (s .args .g)
+      (outerOf (s .args .dimension))
+  outer-first-fits =
+      omega (
+        arith,
+        outer-first,
+        s .pre .some (outerOf (s .args .dimension)),
+        s .pre .fits
+            (outerOf (s .args .dimension)),
+      )
 
-  inner-first-fits : k .before .before .before .before .first-bin2 .result ≤ sizeAt (s .args .g) (innerOf (s .args .dimension))
-  inner-first-fits = omega (arith, inner-first, s .pre .some (innerOf (s .args .dimension)), s .pre .fits (innerOf (s .args .dimension)))
+  inner-first-fits : k .before .before .before .before .first-bin2 .result ≤ sizeAt (s .args .g)
+      (innerOf (s .args .dimension))
+  inner-first-fits =
+      omega (
+        arith,
+        inner-first,
+        s .pre .some (innerOf (s .args .dimension)),
+        s .pre .fits
+            (innerOf (s .args .dimension)),
+      )
 
   outer-end-fits : k .before .before .end-bin .result ≤ sizeAt (s .args .g) (outerOf (s .args .dimension))
   outer-end-fits = omega (arith, outer-end, s .pre .fits (outerOf (s .args .dimension)))
@@ -68,23 +91,31 @@ stride-of-requires : tie.Need-stride-of-requires
 stride-of-requires c κs = c .before .before .before .before .before .before .before .before .pre .accepted
 
 start-of-requires : tie.Need-start-of-requires
-start-of-requires c κs = (c .before .before .before .before .before .before .before .before .before .pre .accepted, outer-end-fits (c .before), inner-end-fits (c .before))
+start-of-requires c κs =
+    let k = c .before in
+    (s k .pre .accepted, outer-end-fits k, inner-end-fits k)
 
 start-of-requires-2 : tie.Need-start-of-requires-2
-start-of-requires-2 c κs = (c .before .before .before .before .before .before .before .before .before .before .pre .accepted, outer-first-fits (c .before .before), inner-end-fits (c .before .before))
+start-of-requires-2 c κs =
+    let k = c .before .before in
+    (s k .pre .accepted, outer-first-fits k, inner-end-fits k)
 
 start-of-requires-3 : tie.Need-start-of-requires-3
-start-of-requires-3 c κs = (c .before .before .before .before .before .before .before .before .before .before .before .pre .accepted, outer-end-fits (c .before .before .before), inner-first-fits (c .before .before .before))
+start-of-requires-3 c κs =
+    let k = c .before .before .before in
+    (s k .pre .accepted, outer-end-fits k, inner-first-fits k)
 
 start-of-requires-4 : tie.Need-start-of-requires-4
-start-of-requires-4 c κs = (c .before .before .before .before .before .before .before .before .before .before .before .before .pre .accepted, outer-first-fits (c .before .before .before .before), inner-first-fits (c .before .before .before .before))
+start-of-requires-4 c κs =
+    let k = c .before .before .before .before in
+    (s k .pre .accepted, outer-first-fits k, inner-first-fits k)
 
 returns : tie.Need-returns
 unfolding walkOf
 returns c =
     let k = c .before .before .before .before .before in
-    let g = c .before .before .before .before .before .before .before .before .before .before .before .before .before .args .g in
-    let d = c .before .before .before .before .before .before .before .before .before .before .before .before .before .args .dimension in
+    let g = s k .args .g in
+    let d = s k .args .dimension in
     λ t.
     record {
       step = c .before .before .before .before .stride-of .ensures t;

@@ -21,7 +21,8 @@ returns : tie.Need-returns
 unfolding binCell
 returns c =
     let s = c .before .before .before .before in
-    from-start (runs s) (third-from (s .args .g) (viewOf (now (s .args .table))) 0 (s .args .r) 0 (s .args .gr)) (s .pre .1) (c .before .corner .ensures) (c .if1 .taken)
+    from-start (runs s) (third-from (s .args .g) (viewOf (now (s .args .table))) 0 (s .args .r) 0 (s .args .gr))
+    (s .pre .1) (c .before .corner .ensures) (c .if1 .taken)
 
 corner-requires-2 : tie.Need-corner-requires-2
 corner-requires-2 c κs = search needs
@@ -30,13 +31,15 @@ minus-requires : tie.Need-minus-requires
 unfolding binCell
 minus-requires c κs =
     let s = c .before .before .before .before .before in
-    from-least (runs s) (third-from (s .args .g) (viewOf (now (s .args .table))) 0 (s .args .r) 0 (s .args .gr)) (s .pre .1) (c .before .before .corner .ensures) (c .corner2 .ensures)
+    from-least (runs s) (third-from (s .args .g) (viewOf (now (s .args .table))) 0 (s .args .r) 0 (s .args .gr))
+    (s .pre .1) (c .before .before .corner .ensures) (c .corner2 .ensures)
 
 returns-2 : tie.Need-returns-2
 unfolding binCell
 returns-2 c =
     let s = c .before .before .before .before .before .before in
-    from-is (runs s) (third-from (s .args .g) (viewOf (now (s .args .table))) 0 (s .args .r) 0 (s .args .gr)) (s .pre .1) (c .before .before .before .corner .ensures) (c .before .corner2 .ensures) (c .minus .ensures)
+    from-is (runs s) (third-from (s .args .g) (viewOf (now (s .args .table))) 0 (s .args .r) 0 (s .args .gr))
+    (s .pre .1) (c .before .before .before .corner .ensures) (c .before .corner2 .ensures) (c .minus .ensures)
 
 pub bins-from-spec : {M : Type 1} → statement M
 bins-from-spec = tie.close (tie.spec corner-requires returns corner-requires-2 minus-requires returns-2)

@@ -14,13 +14,15 @@ stats-of-requires : tie.Need-stats-of-requires
 unfolding boxCell
 stats-of-requires c κs =
     let s = c .before .before .before in
-    cell-squares (boxSum (s .args .g) (viewOf (now (s .args .table))) (s .args .x)) (c .box-cell .ensures) (box-squares (record { holds = s .pre .0 .is-sound }) (s .pre .1))
+    cell-squares (boxSum (s .args .g) (viewOf (now (s .args .table))) (s .args .x)) (c .box-cell .ensures)
+    (box-squares (record { holds = s .pre .0 .is-sound }) (s .pre .1))
 
 returns : tie.Need-returns
 unfolding boxCell statsOf
 returns c =
     let s = c .before .before .before .before in
-    cell-stats (boxSum (s .args .g) (viewOf (now (s .args .table))) (s .args .x)) (c .before .box-cell .ensures) (c .stats-of .ensures)
+    cell-stats (boxSum (s .args .g) (viewOf (now (s .args .table))) (s .args .x)) (c .before .box-cell .ensures)
+    (c .stats-of .ensures)
 
 pub box-sum-spec : {M : Type 1} → statement M
 box-sum-spec = tie.close (tie.spec box-cell-requires stats-of-requires returns)

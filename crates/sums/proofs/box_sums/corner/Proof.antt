@@ -11,17 +11,23 @@ use Rattle.sums.proofs.box_sums.corner.Tie as tie
 returns : tie.Need-returns
 returns c =
     let s = c .before .before .before in
-    zeros-are (s .args .g) (viewOf (now (s .args .table))) 0 (s .args .r) 0 (s .args .gr) 0 (s .args .b) (λ j. rw (c .if1 .taken) (no-first (s .args .g) (viewOf (now (s .args .table))) 0 0 (s .args .gr) 0 (s .args .b) j))
+    zeros-are (s .args .g) (viewOf (now (s .args .table))) 0 (s .args .r) 0 (s .args .gr) 0 (s .args .b)
+    (λ j. rw (c .if1 .taken) (no-first (s .args .g) (viewOf (now (s .args .table))) 0 0 (s .args .gr) 0
+    (s .args .b) j))
 
 returns-2 : tie.Need-returns-2
 returns-2 c =
     let s = c .before .before .before .before in
-    zeros-are (s .args .g) (viewOf (now (s .args .table))) 0 (s .args .r) 0 (s .args .gr) 0 (s .args .b) (λ j. rw (c .if2 .taken) (no-second (s .args .g) (viewOf (now (s .args .table))) 0 (s .args .r) 0 0 (s .args .b) j))
+    zeros-are (s .args .g) (viewOf (now (s .args .table))) 0 (s .args .r) 0 (s .args .gr) 0 (s .args .b)
+    (λ j. rw (c .if2 .taken) (no-second (s .args .g) (viewOf (now (s .args .table))) 0 (s .args .r) 0 0
+    (s .args .b) j))
 
 returns-3 : tie.Need-returns-3
 returns-3 c =
     let s = c .before .before .before .before .before in
-    zeros-are (s .args .g) (viewOf (now (s .args .table))) 0 (s .args .r) 0 (s .args .gr) 0 (s .args .b) (λ j. rw (c .if3 .taken) (no-third (s .args .g) (viewOf (now (s .args .table))) 0 (s .args .r) 0 (s .args .gr) 0 j))
+    zeros-are (s .args .g) (viewOf (now (s .args .table))) 0 (s .args .r) 0 (s .args .gr) 0 (s .args .b)
+    (λ j. rw (c .if3 .taken) (no-third (s .args .g) (viewOf (now (s .args .table))) 0 (s .args .r) 0 (s .args .gr)
+    0 j))
 
 sub-place : tie.Need-sub-place
 sub-place c = search needs
@@ -36,10 +42,14 @@ place-requires : tie.Need-place-requires
 place-requires c κs = search needs
 
 cell-at-requires : tie.Need-cell-at-requires
-cell-at-requires c κs = corner-cell (c .before .before .before .before .before .before .pre) (omega arith) (omega arith) (omega arith) (c .place .ensures)
+cell-at-requires c κs =
+    corner-cell (c .before .before .before .before .before .before .pre) (omega arith) (omega arith) (omega arith)
+    (c .place .ensures)
 
 returns-4 : tie.Need-returns-4
-returns-4 c = corner-is (c .before .before .before .before .before .before .before .pre) (omega arith) (omega arith) (omega arith) (c .before .place .ensures) (c .cell-at .ensures)
+returns-4 c =
+    corner-is (c .before .before .before .before .before .before .before .pre) (omega arith) (omega arith)
+    (omega arith) (c .before .place .ensures) (c .cell-at .ensures)
 
 pub corner-spec : {M : Type 1} → statement M
 corner-spec =

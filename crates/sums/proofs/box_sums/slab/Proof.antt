@@ -14,10 +14,14 @@ use Rattle.sums.proofs.box_sums.slab.Tie as tie
 
 -- number j of the bins from a start on
 abbrev rows : tie.Start → ℕ → ℕ → ℕ → ℕ
-rows s a n j = binSum (s .args .g) (viewOf (now (s .args .table))) 0 (s .args .r) a n (s .args .x .b0) (s .args .x .b1 - s .args .x .b0) j
+rows s a n j =
+    binSum (s .args .g) (viewOf (now (s .args .table))) 0 (s .args .r) a n (s .args .x .b0)
+    (s .args .x .b1 - s .args .x .b0) j
 
 split : (s : tie.Start) (a e j : ℕ) → a ≤ e → rows s 0 e j ≡ rows s 0 a j + rows s a (e - a) j
-split s a e j h = second-from (s .args .g) (viewOf (now (s .args .table))) 0 (s .args .r) a e (s .args .x .b0) (s .args .x .b1 - s .args .x .b0) j h
+split s a e j h =
+    second-from (s .args .g) (viewOf (now (s .args .table))) 0 (s .args .r) a e (s .args .x .b0)
+    (s .args .x .b1 - s .args .x .b0) j h
 
 cast-b0 : tie.Need-cast-b0
 cast-b0 c = search needs
@@ -50,13 +54,15 @@ minus-requires : tie.Need-minus-requires
 unfolding binCell
 minus-requires c κs =
     let s = c .before .before .before .before .before .before .before .before .before .before in
-    from-least (rows s) (split s) (s .pre .1) (c .before .before .before .before .bins-from .ensures) (c .bins-from2 .ensures)
+    from-least (rows s) (split s) (s .pre .1) (c .before .before .before .before .bins-from .ensures)
+    (c .bins-from2 .ensures)
 
 returns-2 : tie.Need-returns-2
 unfolding binCell
 returns-2 c =
     let s = c .before .before .before .before .before .before .before .before .before .before .before in
-    from-is (rows s) (split s) (s .pre .1) (c .before .before .before .before .before .bins-from .ensures) (c .before .bins-from2 .ensures) (c .minus .ensures)
+    from-is (rows s) (split s) (s .pre .1) (c .before .before .before .before .before .bins-from .ensures)
+    (c .before .bins-from2 .ensures) (c .minus .ensures)
 
 pub slab-spec : {M : Type 1} → statement M
 slab-spec =

@@ -4,7 +4,7 @@ use mathlib.Core.Path.{ap, _∙_}
 use native.Mathlib.Omega.{arith}
 use borrow.Author.Needs.{needs}
 use Rattle.table.specs.declared.cell.Cell.{Cell}
-use Rattle.table.specs.Cell.{numberOf, plusCell, minusCell}
+use Rattle.table.specs.Cell.{numberOf, plusCell}
 use Rattle.table.proofs.Cells.{number-plus, number-minus}
 use Rattle.sums.specs.Inner.{joinedCell}
 use Rattle.sums.proofs.moments.joined.Statement.{statement}

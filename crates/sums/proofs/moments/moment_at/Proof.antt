@@ -6,7 +6,8 @@ use borrow.Author.Needs.{needs}
 use denote.Ref.{now}
 use Rattle.table.specs.declared.cell.Cell.{Cell}
 use Rattle.table.specs.Table.{viewOf}
-use Rattle.sums.proofs.Steps.{Has, near-cell, above-has, before-has, corner-has, no-plane, no-row, can-join, joined-is}
+use Rattle.sums.proofs.Steps.{Has, near-cell, above-has, before-has, corner-has, no-plane, no-row, can-join}
+use Rattle.sums.proofs.Steps.{joined-is}
 use Rattle.sums.proofs.moments.moment_at.Statement.{statement}
 use Rattle.sums.proofs.moments.moment_at.Tie as tie
 
@@ -27,7 +28,8 @@ returns c =
     let s = c .before .before .before .before .before in
     let row = c .before .before .if1 .taken in
     joined-is (s .pre .0) (s .pre .1) (no-row (s .pre .0) row (s .args .r + 1))
-    (no-plane (s .pre .0) (c .before .if2 .taken) (s .args .gr + 1)) (no-row (s .pre .0) row (s .args .r)) (c .joined .ensures)
+    (no-plane (s .pre .0) (c .before .if2 .taken) (s .args .gr + 1)) (no-row (s .pre .0) row (s .args .r))
+    (c .joined .ensures)
 
 -- ---- the first row of a plane
 sub-place : tie.Need-sub-place
@@ -46,7 +48,8 @@ joined-requires-2 c κs =
     let s = c .before .before .before .before .before .before in
     let row = c .before .before .before .if1 .taken in
     can-join (s .pre .0) (s .pre .1) (no-row (s .pre .0) row (s .args .r + 1))
-    (before-has (s .pre .0) (omega arith) (c .before .place .ensures) (c .cell-at .ensures)) (no-row (s .pre .0) row (s .args .r))
+    (before-has (s .pre .0) (omega arith) (c .before .place .ensures) (c .cell-at .ensures))
+    (no-row (s .pre .0) row (s .args .r))
 
 returns-2 : tie.Need-returns-2
 returns-2 c =
@@ -68,8 +71,11 @@ cell-at-requires-2 c κs =
     let s = c .before .before .before .before in
     near-cell (s .pre .0) (s .args .r) (s .args .gr - 1) (omega arith) (omega arith) (c .place2 .ensures)
 
-above : (k : tie.After-cell-at2) → let s = k .before .before .before .before .before in Below s (k .cell-at2 .result) (s .args .r + 1) (s .args .gr)
-above k = above-has (k .before .before .before .before .before .pre .0) (omega arith) (k .before .place2 .ensures) (k .cell-at2 .ensures)
+above : (k : tie.After-cell-at2) → let s = k .before .before .before .before .before in
+    Below s (k .cell-at2 .result) (s .args .r + 1) (s .args .gr)
+above k =
+    above-has (k .before .before .before .before .before .pre .0) (omega arith) (k .before .place2 .ensures)
+    (k .cell-at2 .ensures)
 
 joined-requires-3 : tie.Need-joined-requires-3
 joined-requires-3 c κs =
@@ -81,7 +87,8 @@ returns-3 : tie.Need-returns-3
 returns-3 c =
     let s = c .before .before .before .before .before .before .before in
     joined-is (s .pre .0) (s .pre .1) (above (c .before .before))
-    (no-plane (s .pre .0) (c .before .if3 .taken) (s .args .gr + 1)) (no-plane (s .pre .0) (c .before .if3 .taken) (s .args .gr))
+    (no-plane (s .pre .0) (c .before .if3 .taken) (s .args .gr + 1))
+    (no-plane (s .pre .0) (c .before .if3 .taken) (s .args .gr))
     (c .joined3 .ensures)
 
 -- ---- any other row
@@ -115,7 +122,9 @@ module _ (k : tie.After-cell-at4) where
   start = k .before .before .before .before .before .before .before .before .before .before
 
   before : Below start (k .before .before .cell-at3 .result) (start .args .r) (start .args .gr + 1)
-  before = before-has (start .pre .0) (omega arith) (k .before .before .before .place3 .ensures) (k .before .before .cell-at3 .ensures)
+  before =
+      before-has (start .pre .0) (omega arith) (k .before .before .before .place3 .ensures)
+      (k .before .before .cell-at3 .ensures)
 
   some-row : 0 < start .args .gr
   some-row = omega (arith, k .before .before .before .before .before .before .before .if1 .left)
@@ -124,12 +133,15 @@ module _ (k : tie.After-cell-at4) where
   corner = corner-has (start .pre .0) (omega arith) some-row (k .before .place4 .ensures) (k .cell-at4 .ensures)
 
 joined-requires-4 : tie.Need-joined-requires-4
-joined-requires-4 c κs = can-join (start c .pre .0) (start c .pre .1) (above (c .before .before .before .before .before)) (before c) (corner c)
+joined-requires-4 c κs =
+    can-join (start c .pre .0) (start c .pre .1) (above (c .before .before .before .before .before)) (before c)
+    (corner c)
 
 returns-4 : tie.Need-returns-4
 returns-4 c =
     let k = c .before in
-    joined-is (start k .pre .0) (start k .pre .1) (above (k .before .before .before .before .before)) (before k) (corner k) (c .joined4 .ensures)
+    joined-is (start k .pre .0) (start k .pre .1) (above (k .before .before .before .before .before)) (before k)
+    (corner k) (c .joined4 .ensures)
 
 pub moment-at-spec : {M : Type 1} → statement M
 moment-at-spec =

@@ -31,12 +31,25 @@ next-plane-requires c κs =
     let l = c .before .before .before .loop in
     let a = s .pre .table .accepted in
     record {
-      inside = record { accepted = a; one = c .before .if1 .taken; two = omega (arith, size-low (two a)); three = omega (arith, size-low (three a)) };
+      inside =
+          record {
+            accepted = a;
+            one = c .before .if1 .taken;
+            two = omega (arith, size-low (two a));
+            three =
+                omega (arith, size-low (three a));
+          };
       before = before-same (l .inv .1) (sym (plane-start (s .args .g) (l .r) ∙ zero-add _));
     }
 
 add-r : tie.Need-add-r Inv-loop μ-loop
-add-r c = omega (arith, c .before .before .before .before .if1 .taken, size-high (one (c .before .before .before .before .before .before .before .before .before .pre .table .accepted)))
+add-r c =
+    omega (
+      arith,
+      c .before .before .before .before .if1 .taken,
+      size-high
+          (one (c .before .before .before .before .before .before .before .before .before .pre .table .accepted)),
+    )
 
 loop-less : tie.Need-loop-less Inv-loop μ-loop
 loop-less c = omega arith
@@ -52,7 +65,8 @@ loop-again c =
     )
 
 same-length : tie.Need-same-length Inv-loop μ-loop
-same-length c = same-size (c .before .before .loop .inv .1 .tables .work) (c .before .before .before .before .before .pre .work)
+same-length c =
+    same-size (c .before .before .loop .inv .1 .tables .work) (c .before .before .before .before .before .pre .work)
 
 returns : tie.Need-returns Inv-loop μ-loop
 unfolding binsOf
@@ -60,7 +74,8 @@ returns c =
     let s = c .before .before .before .before .before in
     let l = c .before .before .loop in
     let all : l .r ≡ s .args .g .size1 = omega arith in
-    all-made (before-same (l .inv .1) (ap (λ (n : ℕ). n * (s .args .g .size2 * s .args .g .size3)) all ∙ sym (mul-assoc (s .args .g .size1) (s .args .g .size2) (s .args .g .size3))))
+    all-made (before-same (l .inv .1) (ap (λ (n : ℕ). n * (s .args .g .size2 * s .args .g .size3)) all
+    ∙ sym (mul-assoc (s .args .g .size1) (s .args .g .size2) (s .args .g .size3))))
 
 pub moments-spec : {M : Type 1} → statement M
 moments-spec =

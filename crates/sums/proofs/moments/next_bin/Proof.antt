@@ -17,10 +17,18 @@ cell-at-requires : tie.Need-cell-at-requires
 cell-at-requires c κs = table-cell (c .before .before .before .pre .0) (c .place .ensures)
 
 plus-requires : tie.Need-plus-requires
-plus-requires c κs = line-room (c .before .before .before .before .pre .0) (c .before .before .before .before .pre .1) (c .before .place .ensures) (c .cell-at .ensures)
+plus-requires c κs =
+    line-room (c .before .before .before .before .pre .0) (c .before .before .before .before .pre .1)
+    (c .before .place .ensures) (c .cell-at .ensures)
 
 moment-at-requires : tie.Need-moment-at-requires
-moment-at-requires c κs = (c .before .before .before .before .before .before .pre .0, line-through (c .before .before .before .before .before .before .pre .0) (c .before .before .before .before .before .before .pre .1) (c .before .before .before .place .ensures) (c .before .before .cell-at .ensures) (c .before .plus .ensures))
+moment-at-requires c κs = (
+  c .before .before .before .before .before .before .pre .0,
+  line-through
+      (c .before .before .before .before .before .before .pre .0)
+      (c .before .before .before .before .before .before .pre .1) (c .before .before .before .place .ensures)
+      (c .before .before .cell-at .ensures) (c .before .plus .ensures),
+)
 
 put-at-requires : tie.Need-put-at-requires
 put-at-requires c κs =
@@ -37,8 +45,14 @@ returns : tie.Need-returns
 unfolding withMoment
 returns c =
     let s = c .before .before .before .before .before .before .before .before .before .before .before in (
-      line-through (s .pre .0) (s .pre .1) (c .before .before .before .before .before .before .before .before .place .ensures) (c .before .before .before .before .before .before .before .cell-at .ensures) (c .before .before .before .before .before .before .plus .ensures),
-      c .before .before .put-at .ensures ∙ (λ i. putAt (now (s .args .work)) (c .before .before .before .before .before .before .before .before .place .ensures i) (c .before .before .before .before .moment-at .ensures i)),
+      line-through (s .pre .0) (s .pre .1)
+          (c .before .before .before .before .before .before .before .before .place .ensures)
+          (c .before .before .before .before .before .before .before .cell-at .ensures)
+          (c .before .before .before .before .before .before .plus .ensures),
+      c .before .before .put-at .ensures
+          ∙ (λ i. putAt (now (s .args .work))
+          (c .before .before .before .before .before .before .before .before .place .ensures i)
+          (c .before .before .before .before .moment-at .ensures i)),
     )
 
 pub next-bin-spec : {M : Type 1} → statement M

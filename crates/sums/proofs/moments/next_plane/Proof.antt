@@ -22,8 +22,11 @@ abbrev μ-loop : tie.MeasureT-loop
 
 loop-holds : tie.Need-loop-holds Inv-loop μ-loop
 loop-holds c =
-    let s = c .before .before in
-    (omega arith, before-same (s .pre .before) (sym (ap (λ (n : ℕ). placeOf (s .args .g) (s .args .r) 0 0 + n) (zero-mul (s .args .g .size3)) ∙ add-zero _)))
+    let s = c .before .before in (
+      omega arith,
+      before-same (s .pre .before)
+          (sym (ap (λ (n : ℕ). placeOf (s .args .g) (s .args .r) 0 0 + n) (zero-mul (s .args .g .size3)) ∙ add-zero _)),
+    )
 
 next-row-requires : tie.Need-next-row-requires Inv-loop μ-loop
 next-row-requires c κs =
@@ -36,7 +39,13 @@ next-row-requires c κs =
     }
 
 add-gr : tie.Need-add-gr Inv-loop μ-loop
-add-gr c = omega (arith, c .before .before .before .before .if1 .taken, size-high (two (c .before .before .before .before .before .before .before .before .before .pre .inside .accepted)))
+add-gr c =
+    omega (
+      arith,
+      c .before .before .before .before .if1 .taken,
+      size-high
+          (two (c .before .before .before .before .before .before .before .before .before .pre .inside .accepted)),
+    )
 
 loop-less : tie.Need-loop-less Inv-loop μ-loop
 loop-less c = omega arith
@@ -53,7 +62,8 @@ loop-again c =
     )
 
 same-length : tie.Need-same-length Inv-loop μ-loop
-same-length c = same-size (c .before .before .loop .inv .1 .tables .work) (c .before .before .before .before .before .pre .before .tables .work)
+same-length c =
+    same-size (c .before .before .loop .inv .1 .tables .work) (c .before .before .before .before .before .pre .before .tables .work)
 
 returns : tie.Need-returns Inv-loop μ-loop
 returns c =

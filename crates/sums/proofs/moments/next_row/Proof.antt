@@ -24,18 +24,31 @@ abbrev μ-loop : tie.MeasureT-loop
 
 loop-holds : tie.Need-loop-holds Inv-loop μ-loop
 loop-holds c =
-    let s = c .before .before in
-    (omega arith, line-start (s .args .g) (viewOf (now (s .args .table))) (s .args .r) (s .args .gr), before-same (s .pre .before) (sym (add-zero _)))
+    let s = c .before .before in (
+      omega arith,
+      line-start (s .args .g) (viewOf (now (s .args .table))) (s .args .r) (s .args .gr),
+      before-same
+          (s .pre .before) (sym (add-zero _)),
+    )
 
 next-bin-requires : tie.Need-next-bin-requires Inv-loop μ-loop
 next-bin-requires c κs =
     let s = c .before .before .before .before .before .before in
     let l = c .before .before .before .loop in
-    let i = s .pre .inside in
-    (row-ready (record { accepted = i .accepted; one = i .one; two = i .two; three = c .before .if1 .taken }) (l .inv .2), l .inv .1)
+    let i = s .pre .inside in (
+      row-ready (record { accepted = i .accepted; one = i .one; two = i .two; three = c .before .if1 .taken })
+          (l .inv .2),
+      l .inv .1,
+    )
 
 add-b : tie.Need-add-b Inv-loop μ-loop
-add-b c = omega (arith, c .before .before .before .before .if1 .taken, size-high (three (c .before .before .before .before .before .before .before .before .before .pre .inside .accepted)))
+add-b c =
+    omega (
+      arith,
+      c .before .before .before .before .if1 .taken,
+      size-high
+          (three (c .before .before .before .before .before .before .before .before .before .pre .inside .accepted)),
+    )
 
 loop-less : tie.Need-loop-less Inv-loop μ-loop
 loop-less c = omega arith
@@ -45,21 +58,32 @@ loop-again c =
     let s = c .before .before .before .before .before .before .before .before .before in
     let l = c .before .before .before .before .before .before .loop in
     let i = s .pre .inside in
-    let ready = row-ready (record { accepted = i .accepted; one = i .one; two = i .two; three = c .before .before .before .before .if1 .taken }) (l .inv .2) in (
+    let ready =
+    row-ready (record {
+      accepted = i .accepted;
+      one = i .one;
+      two = i .two;
+      three =
+          c .before .before .before .before .if1 .taken;
+    }) (l .inv .2) in (
       omega (arith, c .before .before .before .before .if1 .taken),
       c .before .before .next-bin .ensures .0,
       before-same (one-on ready (c .before .before .next-bin .ensures .1))
-          (ap (λ (n : ℕ). n + 1) (sym (place-along (s .args .g) (s .args .r) (s .args .gr) (l .b))) ∙ add-assoc _ (l .b) 1),
+          (ap (λ (n : ℕ). n + 1) (sym (place-along (s .args .g) (s .args .r) (s .args .gr) (l .b)))
+          ∙ add-assoc _ (l .b) 1),
     )
 
 same-length : tie.Need-same-length Inv-loop μ-loop
-same-length c = same-size (c .before .before .loop .inv .2 .tables .work) (c .before .before .before .before .before .pre .before .tables .work)
+same-length c =
+    same-size (c .before .before .loop .inv .2 .tables .work) (c .before .before .before .before .before .pre .before .tables .work)
 
 returns : tie.Need-returns Inv-loop μ-loop
 returns c =
     let l = c .before .before .loop in
     let all : l .b ≡ c .before .before .before .before .before .args .g .size3 = omega arith in
-    before-same (l .inv .2) (ap (λ (n : ℕ). placeOf (c .before .before .before .before .before .args .g) (c .before .before .before .before .before .args .r) (c .before .before .before .before .before .args .gr) 0 + n) all)
+    before-same (l .inv .2) (ap (λ (n : ℕ). placeOf (c .before .before .before .before .before .args .g)
+    (c .before .before .before .before .before .args .r) (c .before .before .before .before .before .args .gr)
+    0 + n) all)
 
 pub next-row-spec : {M : Type 1} → statement M
 next-row-spec =
