@@ -25,12 +25,14 @@ use Rattle.promises.specs.Full.{occupiedBins, Lends}
 
 module _ (b1 b2 b3 k : ℕ) (t : List ℕ) (b : Buffers) {g : Grid} (e : gridOf b1 b2 b3 ≡ chosen.Accepted g) where
   -- over the one property of the spreads: a box with two occupied bins has a computed spread above 0
-  pub full-above : cutNumber b1 b2 b3 k t b ≡ 0 → SpreadsAbove g (viewOf t) → cutRecord b1 b2 b3 k t b .boxes ≡ min k (occupiedBins g t)
+  pub full-above : cutNumber b1 b2 b3 k t b ≡ 0 → SpreadsAbove g (viewOf t)
+      → cutRecord b1 b2 b3 k t b .boxes ≡ min k (occupiedBins g t)
   unfolding doneRecord boxesOf occupiedBins
   full-above n spreads =
       let d = cut-says b1 b2 b3 k t b e n in
       rw (d .hands)
-      (full (record { holds = d .can .is-sound }) (d .accepted) (d .can .some) spreads k (d .can .least) (d .can .most) ∙ ap (min k) (occupied-whole g (viewOf t)))
+      (full (record { holds = d .can .is-sound }) (d .accepted) (d .can .some) spreads k (d .can .least) (d .can .most)
+      ∙ ap (min k) (occupied-whole g (viewOf t)))
 
   module _ (p : Plan) (y : BytesIn p) (ran : ends b1 b2 b3 p ≡ Filled t) where
     -- a cut of what was loaded is done, if anything was
@@ -49,26 +51,30 @@ module _ (b1 b2 b3 k : ℕ) (t : List ℕ) (b : Buffers) {g : Grid} (e : gridOf 
         }))
         (rw (fits .1)
         (record {
-          table = table-holds g (leaves p) .lent;
+          table = table-holds g (leaves p) .lent .numbers;
           work = l .work;
           palette = l .palette;
           counts = l .counts;
           map = l .map;
         }))
 
-    -- as many boxes as the smaller of k and the occupied bins, at every total from 1 on; demand 3 asks for those up to 200,000
+    -- as many boxes as the smaller of k and the occupied bins, at every total from 1 on; demand 3 asks for those up to
+    -- 200,000
     pub full-loaded : Lends g k b → 0 < weightOf (leaves p) → cutRecord b1 b2 b3 k t b .boxes ≡ min k (occupiedBins g t)
     full-loaded l some =
         let fits = filled-table b1 b2 b3 e p y ran in
-        full-above (plan-cuts l some) (rw (fits .1) (table-above (chose b1 b2 b3 g e .accepted) (leaves p) (leaves-bytes p y) (fits .0)))
+        full-above (plan-cuts l some)
+        (rw (fits .1) (table-above (chose b1 b2 b3 g e .accepted) (leaves p) (leaves-bytes p y) (fits .0)))
 
     -- a bin is occupied exactly where a colour of weight above 0 was loaded
     pub occupied-loaded : (q : ℕ) → q < binsOf g → (viewOf t q 0 ≡ 0 → ⊥) → ColourAt g (leaves p) q
     occupied-loaded q h o =
         let fits = filled-table b1 b2 b3 e p y ran in
-        occupied-colour g q (leaves p) (λ z. o (ap (λ (s : List ℕ). viewOf s q 0) (fits .1) ∙ table-holds g (leaves p) .at q 0 h (lit< tt) ∙ z))
+        occupied-colour g q (leaves p)
+        (λ z. o (ap (λ (s : List ℕ). viewOf s q 0) (fits .1) ∙ table-holds g (leaves p) .at q 0 h (lit< tt) ∙ z))
 
     pub loaded-occupies : (q : ℕ) → q < binsOf g → ColourAt g (leaves p) q → viewOf t q 0 ≡ 0 → ⊥
     loaded-occupies q h c z =
         let fits = filled-table b1 b2 b3 e p y ran in
-        colour-occupies g q (leaves p) c (sym (ap (λ (s : List ℕ). viewOf s q 0) (fits .1) ∙ table-holds g (leaves p) .at q 0 h (lit< tt)) ∙ z)
+        colour-occupies g q (leaves p) c
+        (sym (ap (λ (s : List ℕ). viewOf s q 0) (fits .1) ∙ table-holds g (leaves p) .at q 0 h (lit< tt)) ∙ z)

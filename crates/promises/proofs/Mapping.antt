@@ -1,5 +1,7 @@
--- Mapping and painting after a cut: a pixel has index i exactly where box i holds its bin, neither call refuses the map with 9 for the
--- palette that came with it, and plans over the same colours give every pixel of every frame the same index. And mapping in bands,
+-- Mapping and painting after a cut: a pixel has index i exactly where box i holds its bin, neither call refuses the map
+-- with 9 for the
+-- palette that came with it, and plans over the same colours give every pixel of every frame the same index. And
+-- mapping in bands,
 -- and painting, which is looking up the palette at the mapped index.
 -- Assumes nothing.
 use mathlib.Core.Path.{_≡_, refl, sym, ap, _∙_}
@@ -37,8 +39,10 @@ use Rattle.promises.specs.Tiling.{boxesIn, boxIn}
 use Rattle.promises.specs.Mapping.{cutBoxes, cutMap, cutFront, SameIndices}
 use Rattle.promises.proofs.Tiling.{tiling}
 
-module _ (b1 b2 b3 k : ℕ) (t : List ℕ) (b : Buffers) {g : Grid} (e : gridOf b1 b2 b3 ≡ chosen.Accepted g) (n : cutNumber b1 b2 b3 k t b ≡ 0) where
-  -- "every bin of it gets index i in the map" and "A pixel's index is the map's byte at its bin", over the call: a pixel of a mapped
+module _ (b1 b2 b3 k : ℕ) (t : List ℕ) (b : Buffers) {g : Grid} (e : gridOf b1 b2 b3 ≡ chosen.Accepted g)
+    (n : cutNumber b1 b2 b3 k t b ≡ 0) where
+  -- "every bin of it gets index i in the map" and "A pixel's index is the map's byte at its bin", over the call: a
+  -- pixel of a mapped
   -- band has index i exactly where box i holds its bin
   pub pixel-index : (paletteColours : ℕ) (frame indices : List ℕ) (first pixels : ℕ) → ((j : ℕ) → getD frame j 0 < 256)
       → mapNumber b1 b2 b3 (cutMap b1 b2 b3 k t b) paletteColours frame indices first pixels ≡ 0
@@ -61,28 +65,39 @@ module _ (b1 b2 b3 k : ℕ) (t : List ℕ) (b : Buffers) {g : Grid} (e : gridOf 
 
   full-map : length (cutMap b1 b2 b3 k t b) ≡ binsOf g
   unfolding laterOn resultsOn
-  full-map = ap (λ (l : Buffers). length (l .results .map)) (cut-says b1 b2 b3 k t b e n .leaves) ∙ map-length g (boxList g (viewOf t) k)
+  full-map =
+      ap (λ (l : Buffers). length (l .results .map)) (cut-says b1 b2 b3 k t b e n .leaves)
+      ∙ map-length g (boxList g (viewOf t) k)
 
   all-entries-below : allBelow (cutBoxes b1 b2 b3 k t b) (cutMap b1 b2 b3 k t b) ≡ true
-  all-entries-below = all-below (cutBoxes b1 b2 b3 k t b) (cutMap b1 b2 b3 k t b) (λ p h. tiling b1 b2 b3 k t b e n .below p (omega (arith, full-map)))
+  all-entries-below =
+      all-below (cutBoxes b1 b2 b3 k t b) (cutMap b1 b2 b3 k t b)
+      (λ p h. tiling b1 b2 b3 k t b e n .below p (omega (arith, full-map)))
 
   -- the filled front has as many colours as there are boxes
   front-colours : length (cutFront b1 b2 b3 k t b) / 3 ≡ cutBoxes b1 b2 b3 k t b
   unfolding coloursOf
   front-colours =
       let all = tiling b1 b2 b3 k t b e n in
-      thirds (ap length (all .front) ∙ length-joined 3 (itsColour g (viewOf t)) (three g (viewOf t)) (boxesIn (cutRecord b1 b2 b3 k t b)) ∙ ap (λ (m : ℕ). 3 * m) (all .listed))
+      thirds (ap length (all .front)
+      ∙ length-joined 3 (itsColour g (viewOf t)) (three g (viewOf t)) (boxesIn (cutRecord b1 b2 b3 k t b))
+      ∙ ap (λ (m : ℕ). 3 * m) (all .listed))
     where
       thirds : {l m : ℕ} → l ≡ 3 * m → l / 3 ≡ m
       thirds q = omega arith
 
-  -- after a cut the map is never refused with 9: not by map, told the number of boxes, nor by paint, lent the filled front
-  pub map-never-9 : (frame indices : List ℕ) (first pixels : ℕ) → mapNumber b1 b2 b3 (cutMap b1 b2 b3 k t b) (cutBoxes b1 b2 b3 k t b) frame indices first pixels ≡ 9 → ⊥
-  map-never-9 frame indices first pixels = map-not-9 b1 b2 b3 (cutMap b1 b2 b3 k t b) (cutBoxes b1 b2 b3 k t b) frame indices first pixels all-entries-below
+  -- after a cut the map is never refused with 9: not by map, told the number of boxes, nor by paint, lent the filled
+  -- front
+  pub map-never-9 : (frame indices : List ℕ) (first pixels : ℕ)
+      → mapNumber b1 b2 b3 (cutMap b1 b2 b3 k t b) (cutBoxes b1 b2 b3 k t b) frame indices first pixels ≡ 9 → ⊥
+  map-never-9 frame indices first pixels =
+      map-not-9 b1 b2 b3 (cutMap b1 b2 b3 k t b) (cutBoxes b1 b2 b3 k t b) frame indices first pixels all-entries-below
 
-  pub paint-never-9 : (frame : List ℕ) (first pixels : ℕ) → paintNumber b1 b2 b3 (cutMap b1 b2 b3 k t b) (cutFront b1 b2 b3 k t b) frame first pixels ≡ 9 → ⊥
+  pub paint-never-9 : (frame : List ℕ) (first pixels : ℕ)
+      → paintNumber b1 b2 b3 (cutMap b1 b2 b3 k t b) (cutFront b1 b2 b3 k t b) frame first pixels ≡ 9 → ⊥
   paint-never-9 frame first pixels =
-      paint-not-9 b1 b2 b3 (cutMap b1 b2 b3 k t b) (cutFront b1 b2 b3 k t b) frame first pixels (rw front-colours all-entries-below)
+      paint-not-9 b1 b2 b3 (cutMap b1 b2 b3 k t b) (cutFront b1 b2 b3 k t b) frame first pixels
+      (rw front-colours all-entries-below)
 
 -- bands that cover a frame, in any order, map it whole
 pub mapped-in-bands : (b1 b2 b3 : ℕ) (map : List ℕ) (paletteColours : ℕ) (frame : List ℕ) (bs : List Band)
@@ -93,7 +108,8 @@ mapped-in-bands b1 b2 b3 map paletteColours frame bs indices inside all =
     bands-whole b1 b2 b3 map paletteColours frame bs indices inside all
 
 -- the same index for every pixel in any order of loading, over the call itself
-pub same-indices : {g : Grid} {b1 b2 b3 k : ℕ} {b : Buffers} {t s : List ℕ} → SameCut g b1 b2 b3 k b t s → SameIndices b1 b2 b3 (cutMap b1 b2 b3 k t b) (cutMap b1 b2 b3 k s b)
+pub same-indices : {g : Grid} {b1 b2 b3 k : ℕ} {b : Buffers} {t s : List ℕ} → SameCut g b1 b2 b3 k b t s
+    → SameIndices b1 b2 b3 (cutMap b1 b2 b3 k t b) (cutMap b1 b2 b3 k s b)
 same-indices {b1 = b1} {b2} {b3} c =
     record {
       number = λ paletteColours frame indices first pixels i.

@@ -1,4 +1,5 @@
--- Demand 3, the order: the same weighted colours, in any order, in any batches, into one table or several merged in any order, give
+-- Demand 3, the order: the same weighted colours, in any order, in any batches, into one table or several merged in any
+-- order, give
 -- the same table, and so the same boxes, palette, counts and map, and every pixel the same index.
 -- Assumes nothing.
 use mathlib.Core.Path.{_≡_, refl, sym, _∙_}
@@ -28,16 +29,19 @@ same-cut g b1 b2 b3 k b e =
       pixel = λ c i. getD (cutLater b1 b2 b3 k (e i) b .results .map) (colourPlace g c) 0;
     }
 
-module _ (b1 b2 b3 : ℕ) {g : Grid} (e : gridOf b1 b2 b3 ≡ chosen.Accepted g) (p q : Plan) (y : BytesIn p) (z : BytesIn q) (π : Perm (leaves p) (leaves q)) where
+module _ (b1 b2 b3 : ℕ) {g : Grid} (e : gridOf b1 b2 b3 ≡ chosen.Accepted g) (p q : Plan) (y : BytesIn p)
+    (z : BytesIn q) (π : Perm (leaves p) (leaves q)) where
   -- plans that ran to tables ran to the same table
   pub ran-same : {t s : List ℕ} → ends b1 b2 b3 p ≡ Filled t → ends b1 b2 b3 q ≡ Filled s → t ≡ s
   ran-same r u = filled-table b1 b2 b3 e p y r .1 ∙ table-perm g π ∙ sym (filled-table b1 b2 b3 e q z u .1)
 
-  pub ran-alike : {t s : List ℕ} → ends b1 b2 b3 p ≡ Filled t → ends b1 b2 b3 q ≡ Filled s → (k : ℕ) (b : Buffers) → SameCut g b1 b2 b3 k b t s
+  pub ran-alike : {t s : List ℕ} → ends b1 b2 b3 p ≡ Filled t → ends b1 b2 b3 q ≡ Filled s → (k : ℕ) (b : Buffers)
+      → SameCut g b1 b2 b3 k b t s
   ran-alike r u k b = same-cut g b1 b2 b3 k b (ran-same r u)
 
   -- and with no malformed batch and a total that fits, both do
-  pub any-order-cuts : firstMalformed p ≡ 0 → firstMalformed q ≡ 0 → weightOf (leaves p) ≤ limit → CutAlike g b1 b2 b3 p q
+  pub any-order-cuts : firstMalformed p ≡ 0 → firstMalformed q ≡ 0 → weightOf (leaves p) ≤ limit
+      → CutAlike g b1 b2 b3 p q
   any-order-cuts m n h =
       let ran = any-order b1 b2 b3 e p q y z m n π h in
       record {
@@ -49,8 +53,10 @@ module _ (b1 b2 b3 : ℕ) {g : Grid} (e : gridOf b1 b2 b3 ≡ chosen.Accepted g)
         alike = ran-alike (ran .0) (ran .1 ∙ ran .0);
       }
 
-module _ (b1 b2 b3 : ℕ) {g : Grid} (e : gridOf b1 b2 b3 ≡ chosen.Accepted g) (p : Plan) (y : BytesIn p) (h : weightOf (leaves p) ≤ limit) where
-  -- how a plan whose total fits ends: refused with the number of its first malformed batch, or else with the table of its colours
+module _ (b1 b2 b3 : ℕ) {g : Grid} (e : gridOf b1 b2 b3 ≡ chosen.Accepted g) (p : Plan) (y : BytesIn p)
+    (h : weightOf (leaves p) ≤ limit) where
+  -- how a plan whose total fits ends: refused with the number of its first malformed batch, or else with the table of
+  -- its colours
   pub plan-ends : ends b1 b2 b3 p ≡ endedOf (firstMalformed p) (tableOf g (leaves p))
   plan-ends = ends-is b1 b2 b3 e p y h
 

@@ -1,5 +1,7 @@
--- Demand 3, the boxes: at any total, each bin of the grid lies in exactly one box of the record, no box is empty, the counts add up
--- to the total, and each is the sum of the weights in its box; of a loaded table, of the loaded weights whose bin lies there.
+-- Demand 3, the boxes: at any total, each bin of the grid lies in exactly one box of the record, no box is empty, the
+-- counts add up
+-- to the total, and each is the sum of the weights in its box; of a loaded table, of the loaded weights whose bin lies
+-- there.
 -- Assumes nothing.
 use mathlib.Core.Path.{_≡_, sym, ap, subst, _∙_}
 use mathlib.Core.Bool.{Bool, cond}
@@ -32,7 +34,9 @@ use Rattle.rounds.proofs.Filled.{heap-most}
 use Rattle.cutter.specs.declared.call.CutRecord.{CutRecord}
 use Rattle.cutter.specs.Palette.{countOf, paletteLater, countsLater, frontOf}
 use Rattle.boxes.specs.Holds.{holdsAt}
-use Rattle.cutter.specs.Cut.{LengthsFit, resultsOn, Buffers, lengthsOf, cutNumber, doneRecord, cutRecord, listOf, boxList, laterOn, cutLater, CanCut}
+use Rattle.cutter.specs.Cut.{LengthsFit, resultsOn, Buffers, lengthsOf, cutNumber, doneRecord, cutRecord, listOf}
+use Rattle.cutter.specs.Cut.{boxList, laterOn, cutLater}
+use Rattle.cutter.specs.Cut.{CanCut}
 use Rattle.cutter.proofs.Colours.{front-filled, palette-at, counts-at}
 use Rattle.cutter.proofs.Listed.{list-length}
 use Rattle.cutter.proofs.Maps.{map-below, box-of-index}
@@ -42,7 +46,8 @@ use Rattle.cutter.proofs.Laws.{cut-says}
 use Rattle.promises.specs.Tiling.{boxesIn, boxIn, Tiling, LoadedCounts}
 
 -- ---- a cut that nothing refuses
-module _ {g : Grid} {k : ℕ} {t : List ℕ} (b : Buffers) (a : Accepted g) (c : CanCut limit g k (viewOf t)) (l : LengthsFit g k (length t) (lengthsOf b)) where
+module _ {g : Grid} {k : ℕ} (t : List ℕ) (b : Buffers) (a : Accepted g)
+    (c : CanCut limit g k (viewOf t)) (l : LengthsFit g k (length t) (lengthsOf b)) where
   abbrev found : Boxes
   found = boxesOf g (viewOf t) k
 
@@ -52,16 +57,26 @@ module _ {g : Grid} {k : ℕ} {t : List ℕ} (b : Buffers) (a : Accepted g) (c :
   in-list : {i : ℕ} → i < found .boxes → i < length boxes
   in-list h = omega (arith, list-length (all-found g (viewOf t) k (c .most) a (c .some) .placed))
 
-  counts-all : sumFrom 0 (found .boxes) (λ i. getD (countsLater g (viewOf t) boxes (b .results .counts)) i 0) ≡ total g (viewOf t)
+  counts-all : sumFrom 0 (found .boxes) (λ i. getD (countsLater g (viewOf t) boxes (b .results .counts)) i 0)
+      ≡ total g (viewOf t)
   unfolding boxesOf boxList
   counts-all =
-      sum-same 0 (found .boxes) _ _ (λ i l h. counts-at g (viewOf t) boxes (b .results .counts) i noBox (in-list (omega arith)))
-      ∙ ap (λ (xs : List Bounds). sumFrom 0 (found .boxes) (λ i. countOf g (viewOf t) (getD xs i noBox))) (list-found g (viewOf t) k (c .most))
+      sum-same 0 (found .boxes) _ _
+      (λ i l h. counts-at g (viewOf t) boxes (b .results .counts) i noBox (in-list (omega arith)))
+      ∙ ap (λ (xs : List Bounds). sumFrom 0 (found .boxes) (λ i. countOf g (viewOf t) (getD xs i noBox)))
+      (list-found g (viewOf t) k (c .most))
       ∙ counts-total g (viewOf t) k (c .most)
 
   fits : 3 * length boxes ≤ length (b .results .palette)
   unfolding boxesOf
-  fits = omega (arith, list-length (all-found g (viewOf t) k (c .most) a (c .some) .placed), heap-most g (viewOf t) k (c .least) (c .most), l .palette)
+  fits =
+      omega (
+        arith,
+        list-length (all-found g (viewOf t) k (c .most) a (c .some) .placed),
+        heap-most g (viewOf t) k
+            (c .least) (c .most),
+        l .palette,
+      )
 
   done-tiling : Tiling g t (doneRecord found) (laterOn g (viewOf t) k b)
   unfolding boxesIn boxIn doneRecord laterOn resultsOn boxList countOf
@@ -71,49 +86,75 @@ module _ {g : Grid} {k : ℕ} {t : List ℕ} (b : Buffers) (a : Accepted g) (c :
         listed = list-length (all-found g (viewOf t) k (c .most) a (c .some) .placed);
         tiles = tiles;
         within = all-found g (viewOf t) k (c .most) a (c .some) .placed .within;
-        count = λ i h. counts-at g (viewOf t) boxes (b .results .counts) i noBox (in-list h) ∙ sum-of-held (all-found g (viewOf t) k (c .most) a (c .some) .placed .within i h) (viewOf t) 0;
-        some = λ i h. omega (arith, counts-at g (viewOf t) boxes (b .results .counts) i noBox (in-list h), all-found g (viewOf t) k (c .most) a (c .some) .some i h);
+        count = λ i h. counts-at g (viewOf t) boxes (b .results .counts) i noBox (in-list h)
+            ∙ sum-of-held (all-found g (viewOf t) k (c .most) a (c .some) .placed .within i h) (viewOf t) 0;
+        some = λ i h.
+            omega (
+              arith,
+              counts-at g (viewOf t) boxes (b .results .counts) i noBox (in-list h),
+              all-found g
+                  (viewOf t) k (c .most) a (c .some) .some i h,
+            );
         all = counts-all;
         index = λ i p h l. box-of-index g boxes tiles i noBox p (in-list h) l;
-        below = λ p l. omega (arith, map-below g boxes tiles p l, list-length (all-found g (viewOf t) k (c .most) a (c .some) .placed));
+        below = λ p l.
+            omega (
+              arith,
+              map-below g boxes tiles p l,
+              list-length
+                  (all-found g (viewOf t) k (c .most) a (c .some) .placed),
+            );
         colour = λ i h. palette-at g (viewOf t) boxes (b .results .palette) i noBox (in-list h);
-        front = ap (frontOf (paletteLater g (viewOf t) boxes (b .results .palette))) (sym (list-length (all-found g (viewOf t) k (c .most) a (c .some) .placed))) ∙ front-filled g (viewOf t) boxes (b .results .palette) fits;
+        front =
+            ap (frontOf (paletteLater g (viewOf t) boxes (b .results .palette)))
+            (sym (list-length (all-found g (viewOf t) k (c .most) a (c .some) .placed)))
+            ∙ front-filled g (viewOf t) boxes (b .results .palette) fits;
       }
 
 -- ---- the boxes of a loaded table
 -- two sums over colours that are alike at each
-same-over : (cs : List Weighted) → AllBytes cs → (f h : Weighted → ℕ) → ((c : Weighted) → Bytes (c .colour) → f c ≡ h c) → sumOver cs f ≡ sumOver cs h
+same-over : (cs : List Weighted) → AllBytes cs → (f h : Weighted → ℕ) → ((c : Weighted) → Bytes (c .colour) → f c ≡ h c)
+    → sumOver cs f ≡ sumOver cs h
 same-over [] b f h e = over-none f ∙ sym (over-none h)
-same-over (c ∷ cs) b f h e = over-more c cs f ∙ (λ i. e c (b .0) i + same-over cs (b .1) f h e i) ∙ sym (over-more c cs h)
+same-over (c ∷ cs) b f h e = over-more c cs f ∙ (λ i. e c (b .0) i + same-over cs (b .1) f h e i)
+    ∙ sym (over-more c cs h)
 
 -- the weight of a box: that of the loaded colours whose bin lies in it
 weight-loaded : {g : Grid} {x : Bounds} → Within g x → (cs : List Weighted) → AllBytes cs
-    → sumFrom 0 (binsOf g) (λ p. cond (holdsAt g x p) (viewOf (tableOf g cs) p 0) 0) ≡ sumOver cs (λ c. cond (holdsAt g x (colourPlace g (c .colour))) (c .weight) 0)
+    → sumFrom 0 (binsOf g) (λ p. cond (holdsAt g x p) (viewOf (tableOf g cs) p 0) 0)
+    ≡ sumOver cs (λ c. cond (holdsAt g x (colourPlace g (c .colour))) (c .weight) 0)
 weight-loaded {g} {x} w cs b =
     sym (sum-of-held w (viewOf (tableOf g cs)) 0)
     ∙ box-same (table-holds g cs .at) w 0 (lit< tt)
     ∙ loaded-box w 0 cs b
     ∙ same-over cs b _ _ (λ c y. λ i. cond (sym (colour-held w y) i) (share-weight c i) 0)
 
-tiling-loaded : {g : Grid} → Accepted g → (cs : List Weighted) → AllBytes cs → {r : CutRecord} {later : Buffers} → Tiling g (tableOf g cs) r later → LoadedCounts g cs r later
+tiling-loaded : {g : Grid} → Accepted g → (cs : List Weighted) → AllBytes cs → {r : CutRecord} {later : Buffers}
+    → Tiling g (tableOf g cs) r later → LoadedCounts g cs r later
 tiling-loaded {g} a cs b {r} {later} t =
     record {
       count = λ i h. t .count i h ∙ weight-loaded (t .within i h) cs b;
       mapped = λ i h.
           t .count i h
           ∙ weight-loaded (t .within i h) cs b
-          ∙ same-over cs b _ _ (λ c y. ap (λ (q : Bool). cond q (c .weight) 0) (t .index i (colourPlace g (c .colour)) h (colour-place-lt a y)));
+          ∙ same-over cs b _ _
+          (λ c y. ap (λ (q : Bool). cond q (c .weight) 0)
+          (t .index i (colourPlace g (c .colour)) h (colour-place-lt a y)));
     }
 
 -- ---- the promises
-module _ (b1 b2 b3 k : ℕ) (t : List ℕ) (b : Buffers) {g : Grid} (e : gridOf b1 b2 b3 ≡ chosen.Accepted g) (n : cutNumber b1 b2 b3 k t b ≡ 0) where
+module _ (b1 b2 b3 k : ℕ) (t : List ℕ) (b : Buffers) {g : Grid} (e : gridOf b1 b2 b3 ≡ chosen.Accepted g)
+    (n : cutNumber b1 b2 b3 k t b ≡ 0) where
   -- at any total, of every table that a cut is done with
   pub tiling : Tiling g t (cutRecord b1 b2 b3 k t b) (cutLater b1 b2 b3 k t b)
-  tiling = let d = cut-says b1 b2 b3 k t b e n in rw (d .hands, d .leaves) (done-tiling b (d .accepted) (d .can) (d .fit))
+  tiling =
+      let d = cut-says b1 b2 b3 k t b e n in rw (d .hands, d .leaves) (done-tiling t b (d .accepted) (d .can) (d .fit))
 
   -- and of every table that loads and merges gave
-  pub loaded-counts : (p : Plan) → BytesIn p → ends b1 b2 b3 p ≡ Filled t → LoadedCounts g (leaves p) (cutRecord b1 b2 b3 k t b) (cutLater b1 b2 b3 k t b)
+  pub loaded-counts : (p : Plan) → BytesIn p → ends b1 b2 b3 p ≡ Filled t
+      → LoadedCounts g (leaves p) (cutRecord b1 b2 b3 k t b) (cutLater b1 b2 b3 k t b)
   loaded-counts p y ran =
       let d = cut-says b1 b2 b3 k t b e n in
       let is = filled-table b1 b2 b3 e p y ran .1 in
-      tiling-loaded (d .accepted) (leaves p) (leaves-bytes p y) (subst (λ (s : List ℕ). Tiling g s (cutRecord b1 b2 b3 k t b) (cutLater b1 b2 b3 k t b)) is tiling)
+      tiling-loaded (d .accepted) (leaves p) (leaves-bytes p y)
+      (subst (λ (s : List ℕ). Tiling g s (cutRecord b1 b2 b3 k t b) (cutLater b1 b2 b3 k t b)) is tiling)

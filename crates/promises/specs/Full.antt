@@ -6,7 +6,7 @@ use lib.ListN.{length}
 use Rattle.grid.specs.declared.place.Grid.{Grid}
 use Rattle.basics.specs.Range.{sumFrom}
 use Rattle.grid.specs.Grid.{binsOf}
-use Rattle.table.specs.Table.{viewOf}
+use Rattle.table.specs.Table.{tableLen, viewOf}
 use Rattle.sums.specs.Box.{marks}
 use Rattle.cutter.specs.Cut.{Buffers}
 
@@ -18,7 +18,7 @@ occupiedBins g t = sumFrom 0 (binsOf g) (λ p. marks (viewOf t) p 0)
 pub record Lends (g : Grid) (k : ℕ) (b : Buffers) : Type 0 where
   pub least : 1 ≤ k
   pub most : k ≤ 256
-  pub work : length (b .work) ≡ 5 * binsOf g
+  pub work : length (b .work) ≡ tableLen (binsOf g)
   pub palette : 3 * k ≤ length (b .results .palette)
   pub counts : k ≤ length (b .results .counts)
   pub map : length (b .results .map) ≡ binsOf g

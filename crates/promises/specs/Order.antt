@@ -9,7 +9,8 @@ use Rattle.grid.specs.Grid.{colourPlace}
 use Rattle.loader.specs.Plan.{Plan, Filled, ends}
 use Rattle.cutter.specs.Cut.{Buffers, cutRecord, cutLater}
 
--- two tables that a cut tells nothing apart by: the same boxes with their spreads, palette, counts, map and work table, and the same
+-- two tables that a cut tells nothing apart by: the same boxes with their spreads, palette, counts, map and work table,
+-- and the same
 -- index for every pixel, which "is the map's byte at its bin"
 pub record SameCut (g : Grid) (b1 b2 b3 k : ℕ) (b : Buffers) (t s : List ℕ) : Type 0 where
   pub boxes : cutRecord b1 b2 b3 k t b ≡ cutRecord b1 b2 b3 k s b
@@ -17,7 +18,9 @@ pub record SameCut (g : Grid) (b1 b2 b3 k : ℕ) (b : Buffers) (t s : List ℕ) 
   pub counts : cutLater b1 b2 b3 k t b .results .counts ≡ cutLater b1 b2 b3 k s b .results .counts
   pub map : cutLater b1 b2 b3 k t b .results .map ≡ cutLater b1 b2 b3 k s b .results .map
   pub work : cutLater b1 b2 b3 k t b .work ≡ cutLater b1 b2 b3 k s b .work
-  pub pixel : (c : Rgb) → getD (cutLater b1 b2 b3 k t b .results .map) (colourPlace g c) 0 ≡ getD (cutLater b1 b2 b3 k s b .results .map) (colourPlace g c) 0
+  pub pixel : (c : Rgb)
+      → getD (cutLater b1 b2 b3 k t b .results .map) (colourPlace g c) 0
+      ≡ getD (cutLater b1 b2 b3 k s b .results .map) (colourPlace g c) 0
 
 -- two plans that run to the same table, which is cut alike for every k and whatever is lent
 pub record CutAlike (g : Grid) (b1 b2 b3 : ℕ) (p q : Plan) : Type 0 where

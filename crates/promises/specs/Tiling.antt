@@ -1,4 +1,5 @@
--- What the record of a cut is to be, with the palette, counts and map that it leaves behind (demand 3). Definitions only.
+-- What the record of a cut is to be, with the palette, counts and map that it leaves behind (demand 3). Definitions
+-- only.
 use mathlib.Core.Path.{_≡_}
 use mathlib.Core.Bool.{cond}
 use mathlib.Core.List.{List}
@@ -34,7 +35,8 @@ pub record Tiling (g : Grid) (t : List ℕ) (r : CutRecord) (later : Buffers) : 
   -- each box is one of the grid, with some bins in each dimension
   pub within : (i : ℕ) → i < r .boxes → Within g (boxIn r i)
   -- each count is the sum of the weights in its box
-  pub count : (i : ℕ) → i < r .boxes → getD (later .results .counts) i 0 ≡ sumFrom 0 (binsOf g) (λ p. cond (holdsAt g (boxIn r i) p) (viewOf t p 0) 0)
+  pub count : (i : ℕ) → i < r .boxes
+      → getD (later .results .counts) i 0 ≡ sumFrom 0 (binsOf g) (λ p. cond (holdsAt g (boxIn r i) p) (viewOf t p 0) 0)
   -- no box is empty
   pub some : (i : ℕ) → i < r .boxes → 0 < getD (later .results .counts) i 0
   -- the counts add up to the total
@@ -47,8 +49,13 @@ pub record Tiling (g : Grid) (t : List ℕ) (r : CutRecord) (later : Buffers) : 
   -- "the filled front of the lent palette" is these colours, one after the other
   pub front : frontOf (later .results .palette) (r .boxes) ≡ coloursOf g (viewOf t) (boxesIn r)
 
--- of a table loaded from colours, "each count is the sum of loaded weights in its box": of the colours whose bin lies there, which are
+-- of a table loaded from colours, "each count is the sum of loaded weights in its box": of the colours whose bin lies
+-- there, which are
 -- those that the map gives its index
 pub record LoadedCounts (g : Grid) (cs : List Weighted) (r : CutRecord) (later : Buffers) : Type 0 where
-  pub count : (i : ℕ) → i < r .boxes → getD (later .results .counts) i 0 ≡ sumOver cs (λ c. cond (holdsAt g (boxIn r i) (colourPlace g (c .colour))) (c .weight) 0)
-  pub mapped : (i : ℕ) → i < r .boxes → getD (later .results .counts) i 0 ≡ sumOver cs (λ c. cond (eqb (getD (later .results .map) (colourPlace g (c .colour)) 0) i) (c .weight) 0)
+  pub count : (i : ℕ) → i < r .boxes
+      → getD (later .results .counts) i 0
+      ≡ sumOver cs (λ c. cond (holdsAt g (boxIn r i) (colourPlace g (c .colour))) (c .weight) 0)
+  pub mapped : (i : ℕ) → i < r .boxes
+      → getD (later .results .counts) i 0
+      ≡ sumOver cs (λ c. cond (eqb (getD (later .results .map) (colourPlace g (c .colour)) 0) i) (c .weight) 0)
