@@ -1,0 +1,111 @@
+// A cut, with its record as a list, and the filled front of a palette.
+use crate::lend::bytes_of;
+use crate::lend::counts_of;
+use crate::lend::least;
+use crate::lend::put_bytes;
+use crate::lend::put_counts;
+use crate::lists::places_of;
+use crate::lists::set_length;
+use crate::script::any;
+use crate::script::read_sizes;
+use cutter::CutRecord;
+use cutter::cut;
+use cutter::front;
+use rounds::BoxSpread;
+
+// The bits of a float, or those of a NaN.
+fn bits(x: f64) -> u64 {
+    if x == x {
+        f64::to_bits(x)
+    } else {
+        9221120237041090560
+    }
+}
+
+// A box and the bits of its spread as seven numbers.
+fn numbers_of(x: BoxSpread) -> [u64; 7] {
+    [
+        x.r0 as u64,
+        x.r1 as u64,
+        x.g0 as u64,
+        x.g1 as u64,
+        x.b0 as u64,
+        x.b1 as u64,
+        bits(x.spread),
+    ]
+}
+
+// Writes every place of the record of a cut, those past the last box too.
+fn put_boxes(list: &mut [u64], r: CutRecord) {
+    let n = least(list.len(), 1792);
+    let mut i = 0;
+    while i < n {
+        let numbers = numbers_of(r.places[i / 7]);
+        list[i] = numbers[i % 7];
+        i = i + 1;
+    }
+}
+
+// Makes the record of a cut a list.
+pub(crate) fn set_boxes(m: &mut [u64], r: CutRecord) {
+    set_length(m, b'b', 1792);
+    let p = places_of(m, b'b');
+    let start = p.start;
+    let end = p.end;
+    put_boxes(&mut m[start..end], r);
+}
+
+// Cuts a table, with the second table as work table.
+fn cut_lent(
+    text: &[u8],
+    at: &mut usize,
+    m: &mut [u64],
+    table: &[u64],
+    palette: &mut [u8],
+    counts: &mut [u32],
+    lent: &mut [u8],
+) -> CutRecord {
+    let s = read_sizes(text, at);
+    let k = any(text, at);
+    let p = places_of(m, b's');
+    let start = p.start;
+    let end = p.end;
+    let work = &mut m[start..end];
+    cut(s.b1, s.b2, s.b3, k, table, work, palette, counts, lent)
+}
+
+// Cuts the first numbers of a copy of the table.
+pub(crate) fn cut_copy(
+    text: &[u8],
+    at: &mut usize,
+    m: &mut [u64],
+    copy: &[u64],
+    n: usize,
+) -> CutRecord {
+    let t = least(n, copy.len());
+    let mut colours = [0; 4095];
+    let p = bytes_of(m, b'p', &mut colours);
+    let palette = &mut colours[0..p];
+    let mut numbers = [0; 4095];
+    let c = counts_of(m, b'c', &mut numbers);
+    let counts = &mut numbers[0..c];
+    let mut bytes = [0; 32769];
+    let b = bytes_of(m, b'm', &mut bytes);
+    let lent = &mut bytes[0..b];
+    let r = cut_lent(text, at, m, &copy[0..t], palette, counts, lent);
+    put_bytes(m, b'p', palette);
+    put_counts(m, b'c', counts);
+    put_bytes(m, b'm', lent);
+    r
+}
+
+// Makes the palette its filled front, and answers how many bytes that has.
+pub(crate) fn take_front(text: &[u8], at: &mut usize, m: &mut [u64]) -> usize {
+    let mut colours = [0; 4095];
+    let n = bytes_of(m, b'p', &mut colours);
+    let boxes = any(text, at);
+    let filled = front(&colours[0..n], boxes);
+    set_length(m, b'p', filled.len());
+    put_bytes(m, b'p', filled);
+    filled.len()
+}

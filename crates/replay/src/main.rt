@@ -1,0 +1,54 @@
+// Replays a script of calls, good and refused, and holds what each answers and leaves to the script on standard input.
+// docs/REPLAY.md says what its lines mean and where they come from.
+mod calls;
+mod compare;
+mod cuts;
+mod lend;
+mod lists;
+mod script;
+mod tell;
+
+use libc::STDIN_FILENO;
+
+// Does what a line of the script says, up to its end.
+fn line(text: &[u8], at: &mut usize, tally: &mut [u64; 6], m: &mut [u64], spare: &mut [u64]) {
+    if script::passed(text, at, b"case ") {
+        script::skip(text, at);
+    } else if script::passed(text, at, b"let ") {
+        lists::set(text, at, m);
+    } else if script::passed(text, at, b"is ") {
+        compare::hold(text, at, m);
+    } else if script::passed(text, at, b"sums ") {
+        compare::hold_sums(text, at, m);
+    } else {
+        calls::make(text, at, tally, m, spare);
+    }
+}
+
+// Replays the script, and tells how many calls there were if all agreed.
+fn replay(text: &[u8], m: &mut [u64], spare: &mut [u64]) {
+    let mut at = 0;
+    let mut tally = [0; 6];
+    let mut left: usize = 1000000;
+    while left > 0 && at < text.len() {
+        line(text, &mut at, &mut tally, m, spare);
+        script::pass(text, &mut at, b"\n");
+        left = left - 1;
+    }
+    if at == text.len() {
+        tell::tally(&tally);
+    }
+}
+
+fn read_and_replay(space: &mut [u8], m: &mut [u64], spare: &mut [u64]) {
+    let n = io::read_full(STDIN_FILENO, space);
+    replay(&space[0..n], m, spare);
+}
+
+// Room for a mebibyte of script, for the lists, and for the copy of a table.
+fn main() {
+    let mut space = [0; 1048576];
+    let mut m = [0; 385030];
+    let mut spare = [0; 163841];
+    read_and_replay(&mut space, &mut m, &mut spare);
+}
