@@ -4,9 +4,11 @@ use crate::lend::counts_of;
 use crate::lend::least;
 use crate::lend::put_bytes;
 use crate::lend::put_counts;
+use crate::lend::table_of;
 use crate::lists::places_of;
 use crate::lists::set_length;
 use crate::script::any;
+use crate::script::hold;
 use crate::script::read_sizes;
 use cutter::CutRecord;
 use cutter::cut;
@@ -47,7 +49,7 @@ fn put_boxes(list: &mut [u64], r: CutRecord) {
 }
 
 // Makes the record of a cut a list.
-pub(crate) fn set_boxes(m: &mut [u64], r: CutRecord) {
+fn set_boxes(m: &mut [u64], r: CutRecord) {
     set_length(m, b'b', 1792);
     let p = places_of(m, b'b');
     let start = p.start;
@@ -74,29 +76,60 @@ fn cut_lent(
     cut(s.b1, s.b2, s.b3, k, table, work, palette, counts, lent)
 }
 
-// Cuts the first numbers of a copy of the table.
-pub(crate) fn cut_copy(
+// Each of the next three lends one list more.
+fn with_map(
     text: &[u8],
     at: &mut usize,
     m: &mut [u64],
-    copy: &[u64],
-    n: usize,
+    table: &[u64],
+    palette: &mut [u8],
+    counts: &mut [u32],
 ) -> CutRecord {
-    let t = least(n, copy.len());
-    let mut colours = [0; 4095];
-    let p = bytes_of(m, b'p', &mut colours);
-    let palette = &mut colours[0..p];
-    let mut numbers = [0; 4095];
-    let c = counts_of(m, b'c', &mut numbers);
-    let counts = &mut numbers[0..c];
     let mut bytes = [0; 32769];
-    let b = bytes_of(m, b'm', &mut bytes);
-    let lent = &mut bytes[0..b];
-    let r = cut_lent(text, at, m, &copy[0..t], palette, counts, lent);
-    put_bytes(m, b'p', palette);
-    put_counts(m, b'c', counts);
+    let n = bytes_of(m, b'm', &mut bytes);
+    let lent = &mut bytes[0..n];
+    let r = cut_lent(text, at, m, table, palette, counts, lent);
     put_bytes(m, b'm', lent);
     r
+}
+
+fn with_counts(
+    text: &[u8],
+    at: &mut usize,
+    m: &mut [u64],
+    table: &[u64],
+    palette: &mut [u8],
+) -> CutRecord {
+    let mut numbers = [0; 4095];
+    let n = counts_of(m, b'c', &mut numbers);
+    let counts = &mut numbers[0..n];
+    let r = with_map(text, at, m, table, palette, counts);
+    put_counts(m, b'c', counts);
+    r
+}
+
+fn with_palette(text: &[u8], at: &mut usize, m: &mut [u64], table: &[u64]) -> CutRecord {
+    let mut colours = [0; 4095];
+    let n = bytes_of(m, b'p', &mut colours);
+    let palette = &mut colours[0..n];
+    let r = with_counts(text, at, m, table, palette);
+    put_bytes(m, b'p', palette);
+    r
+}
+
+// Cuts the first numbers of a copy of the table.
+fn cut_copy(text: &[u8], at: &mut usize, m: &mut [u64], copy: &[u64], n: usize) -> CutRecord {
+    let t = least(n, copy.len());
+    with_palette(text, at, m, &copy[0..t])
+}
+
+// Cuts a copy of the table, and answers the number of the record.
+pub(crate) fn cut_table(text: &[u8], at: &mut usize, m: &mut [u64], spare: &mut [u64]) -> usize {
+    let n = table_of(m, b't', spare);
+    let r = cut_copy(text, at, m, spare, n);
+    set_boxes(m, r);
+    hold(text, at, 1, r.boxes as u64);
+    r.number as usize
 }
 
 // Makes the palette its filled front, and answers how many bytes that has.

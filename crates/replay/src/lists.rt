@@ -1,5 +1,5 @@
-// The lists that calls are lent and fill, each told by the first letter of its name, in one memory: its length, and then
-// its numbers.
+// The lists that calls are lent and fill, each told by the first letter of its name, in one memory: its length, and
+// then its numbers.
 use crate::script::any;
 use crate::script::letter;
 use crate::script::lose;

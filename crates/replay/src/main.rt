@@ -12,16 +12,12 @@ use libc::STDIN_FILENO;
 
 // Does what a line of the script says, up to its end.
 fn line(text: &[u8], at: &mut usize, tally: &mut [u64; 6], m: &mut [u64], spare: &mut [u64]) {
-    if script::passed(text, at, b"case ") {
-        script::skip(text, at);
-    } else if script::passed(text, at, b"let ") {
-        lists::set(text, at, m);
-    } else if script::passed(text, at, b"is ") {
-        compare::hold(text, at, m);
-    } else if script::passed(text, at, b"sums ") {
-        compare::hold_sums(text, at, m);
-    } else {
-        calls::make(text, at, tally, m, spare);
+    match script::list_verb(text, at) {
+        0 => calls::make(text, at, tally, m, spare),
+        1 => script::skip(text, at),
+        2 => lists::set(text, at, m),
+        3 => compare::hold(text, at, m),
+        _ => compare::hold_sums(text, at, m),
     }
 }
 

@@ -1,7 +1,7 @@
 // The script, whole in memory. It is read from its start to its end: words that are due, and numbers, before each of
 // which other words of its line may stand.
 use crate::tell;
-ghost use Prim.Native.Nat.{_≤_};
+ghost use Prim.Native.Nat.{_≤_, _<_};
 
 // No place of any script: nothing more is read once something did not agree.
 const LOST: usize = usize::MAX;
@@ -56,6 +56,52 @@ pub(crate) fn pass(text: &[u8], at: &mut usize, word: &[u8]) {
     if !passed(text, at, word) {
         lose(text, at);
     }
+}
+
+// Which line it is: 1 to 4 for what a list is, or 0 for a call.
+pub(crate) fn list_verb(text: &[u8], at: &mut usize) -> usize {
+    if passed(text, at, b"case ") {
+        return 1;
+    }
+    if passed(text, at, b"let ") {
+        return 2;
+    }
+    if passed(text, at, b"is ") {
+        return 3;
+    }
+    if passed(text, at, b"sums ") {
+        return 4;
+    }
+    0
+}
+
+// Which call it is, in the order in which they are told.
+pub(crate) fn call_verb(text: &[u8], at: &mut usize) -> usize
+    ensures { λ r. ⌜ r < 6 ⌝ }
+{
+    if passed(text, at, b"load ") {
+        return 0;
+    }
+    if passed(text, at, b"merge ") {
+        return 1;
+    }
+    if passed(text, at, b"cut ") {
+        return 2;
+    }
+    later_verb(text, at)
+}
+
+fn later_verb(text: &[u8], at: &mut usize) -> usize
+    ensures { λ r. ⌜ r < 6 ⌝ }
+{
+    if passed(text, at, b"front ") {
+        return 3;
+    }
+    if passed(text, at, b"map ") {
+        return 4;
+    }
+    pass(text, at, b"paint ");
+    5
 }
 
 // The letter that stands here.

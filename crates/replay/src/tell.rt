@@ -39,8 +39,12 @@ pub(crate) fn tally(t: &[u64; 6]) {
     say(b"load ", t[0]);
     say(b", merge ", t[1]);
     say(b", cut ", t[2]);
+    later(t);
+    io::write_all(STDOUT_FILENO, b": all agreed\n");
+}
+
+fn later(t: &[u64; 6]) {
     say(b", front ", t[3]);
     say(b", map ", t[4]);
     say(b", paint ", t[5]);
-    io::write_all(STDOUT_FILENO, b": all agreed\n");
 }

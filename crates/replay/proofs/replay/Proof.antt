@@ -1,4 +1,5 @@
 -- `replay::replay` is safe and ends.
+-- The measure is how many lines may still come. From turn to turn both memories keep their lengths.
 -- Assumes nothing.
 use borrow.Author.Needs.{needs}
 use native.Mathlib.Omega.{arith}
@@ -8,7 +9,8 @@ use Rattle.replay.proofs.replay.Statement.{statement}
 use Rattle.replay.proofs.replay.Tie as tie
 
 abbrev Inv-loop : tie.InvT-loop
-Inv-loop text m₀ spare₀ at₀ tally₀ left₀ t7 m spare at tally left = (length m ≡ length m₀) × (length spare ≡ length spare₀)
+Inv-loop text m₀ spare₀ at₀ tally₀ left₀ t7 m spare at tally left =
+    (length m ≡ length m₀) × (length spare ≡ length spare₀)
 
 abbrev μ-loop : tie.MeasureT-loop
 μ-loop text m₀ spare₀ at₀ tally₀ left₀ t7 m spare at tally left = left

@@ -64,7 +64,7 @@ fn places(boxes: &Boxes) -> Vec<u64> {
 /// The line of a cut, and the one of its boxes.
 pub fn write_cut(s: &mut Script, grid: Grid, k: usize, number: u8, boxes: &Boxes) {
     let ([b1, b2, b3], n) = (grid, boxes.len());
-    let line = format!("{b1} {b2} {b3} k {k} -> {number} boxes {n}");
+    let line = format!("{b1} {b2} {b3} k {k} boxes {n} -> {number}");
     s.call(Kind::Cut, &line);
     s.whole("boxes", &places(boxes));
 }

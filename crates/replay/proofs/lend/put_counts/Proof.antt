@@ -1,4 +1,5 @@
 -- `replay::lend::put_counts` is safe and ends.
+-- The measure is what is left to copy. From turn to turn the memory keeps its length.
 -- Assumes nothing.
 use borrow.Author.Needs.{needs}
 use native.Mathlib.Omega.{arith}

@@ -1,4 +1,5 @@
 -- `replay::lend::table_of` is safe and ends.
+-- The measure is what is left to copy. From turn to turn the copy keeps its length.
 -- Assumes nothing.
 use borrow.Author.Needs.{needs}
 use native.Mathlib.Omega.{arith}

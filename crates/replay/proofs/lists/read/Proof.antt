@@ -1,4 +1,5 @@
 -- `replay::lists::read` is safe and ends.
+-- The measure is how many places are left. From turn to turn the list keeps its length.
 -- Assumes nothing.
 use borrow.Author.Needs.{needs}
 use native.Mathlib.Omega.{arith}

@@ -1,4 +1,5 @@
 -- `replay::script::digits_at` is safe and ends.
+-- The measure is what is left of the script. Nothing has to hold from turn to turn.
 -- Assumes nothing.
 use borrow.Author.Needs.{needs}
 use native.Mathlib.Omega.{arith}
