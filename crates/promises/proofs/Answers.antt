@@ -82,7 +82,8 @@ grid-told b1 b2 b3 =
     }
 
 -- ---- a table
-pub weighed-told : (g : Grid) (v : View) → WeighedTold (sound limit g v) (total g v) (soundAnswer (soundTotal limit g v))
+pub weighed-told : (g : Grid) (v : View)
+    → WeighedTold (sound limit g v) (total g v) (soundAnswer (soundTotal limit g v))
 weighed-told g v =
     record {
       done = λ e. ap soundAnswer (total-told limit g v e);

@@ -1,5 +1,7 @@
--- For every public function of every crate: any two results, and any two later contents of what it was lent, that its contract allows
--- are equal. `Learnt` is what a contract tells its caller of the arguments a, the result r and the parameters at exit e.
+-- For every public function of every crate: any two results, and any two later contents of what it was lent, that its
+-- contract allows
+-- are equal. `Learnt` is what a contract tells its caller of the arguments a, the result r and the parameters at exit
+-- e.
 -- Assumes nothing.
 use mathlib.Core.Path.{_≡_}
 use mathlib.Core.List.{List}
@@ -75,7 +77,8 @@ both p q = λ i. (p i, q i)
 pub colour-determined : Determines 1 colour.Kinds.ps colour.Kinds.r colour.Reads.Learnt (λ κs r e. r)
 colour-determined κs a r s x y p q = determined p q
 
-pub equal-colours-determined : Determines 1 equal-colours.Kinds.ps equal-colours.Kinds.r equal-colours.Reads.Learnt (λ κs r e. r)
+pub equal-colours-determined : Determines 1 equal-colours.Kinds.ps equal-colours.Kinds.r equal-colours.Reads.Learnt
+    (λ κs r e. r)
 equal-colours-determined κs a r s x y p q = determined p q
 
 -- ---- grid
@@ -144,14 +147,17 @@ plus-determined κs a r s x y p q = determined p q
 pub minus-determined : Determines 0 minus.Kinds.ps minus.Kinds.r minus.Reads.Learnt (λ κs r e. r)
 minus-determined κs a r s x y p q = determined p q
 
-pub sound-total-determined : Determines 1 sound-total.Kinds.ps sound-total.Kinds.r sound-total.Reads.Learnt (λ κs r e. r)
+pub sound-total-determined : Determines 1 sound-total.Kinds.ps sound-total.Kinds.r sound-total.Reads.Learnt
+    (λ κs r e. r)
 sound-total-determined κs a r s x y p q = determined p q
 
 -- ---- loader
-pub load-determined : Determines {A = ℕ × List ℕ} 3 load.Kinds.ps load.Kinds.r load.Reads.Learnt (λ κs r e. (r, now (e .1 .1 .1 .0)))
+pub load-determined : Determines {A = ℕ × List ℕ} 3 load.Kinds.ps load.Kinds.r load.Reads.Learnt
+    (λ κs r e. (r, now (e .1 .1 .1 .0)))
 load-determined κs a r s x y p q = both (determined (p .0) (q .0)) (determined (p .1) (q .1))
 
-pub merge-determined : Determines {A = ℕ × List ℕ} 2 merge.Kinds.ps merge.Kinds.r merge.Reads.Learnt (λ κs r e. (r, now (e .1 .1 .1 .0)))
+pub merge-determined : Determines {A = ℕ × List ℕ} 2 merge.Kinds.ps merge.Kinds.r merge.Reads.Learnt
+    (λ κs r e. (r, now (e .1 .1 .1 .0)))
 merge-determined κs a r s x y p q = both (determined (p .0) (q .0)) (determined (p .1) (q .1))
 
 -- ---- sums
@@ -174,7 +180,8 @@ spread-determined κs a r s x y p q = determined p q
 pub score-determined : Determines 0 score.Kinds.ps score.Kinds.r score.Reads.Learnt (λ κs r e. r)
 score-determined κs a r s x y p q = determined p q
 
-pub position-between-determined : Determines 0 position-between.Kinds.ps position-between.Kinds.r position-between.Reads.Learnt (λ κs r e. r)
+pub position-between-determined : Determines 0 position-between.Kinds.ps position-between.Kinds.r
+    position-between.Reads.Learnt (λ κs r e. r)
 position-between-determined κs a r s x y p q = determined p q
 
 pub better-determined : Determines 0 better.Kinds.ps better.Kinds.r better.Reads.Learnt (λ κs r e. r)
@@ -184,10 +191,12 @@ pub best-cut-determined : Determines 2 best-cut.Kinds.ps best-cut.Kinds.r best-c
 best-cut-determined κs a r s x y p q = determined p q
 
 -- ---- heap
-pub put-in-determined : Determines {A = List Float × List ℕ} 2 put-in.Kinds.ps put-in.Kinds.r put-in.Reads.Learnt (λ κs r e. (now (e .0), now (e .1 .0)))
+pub put-in-determined : Determines {A = List Float × List ℕ} 2 put-in.Kinds.ps put-in.Kinds.r put-in.Reads.Learnt
+    (λ κs r e. (now (e .0), now (e .1 .0)))
 put-in-determined κs a r s x y p q = both (determined (p .0) (q .0)) (determined (p .1) (q .1))
 
-pub take-out-determined : Determines {A = List Float × List ℕ} 2 take-out.Kinds.ps take-out.Kinds.r take-out.Reads.Learnt (λ κs r e. (now (e .0), now (e .1 .0)))
+pub take-out-determined : Determines {A = List Float × List ℕ} 2 take-out.Kinds.ps take-out.Kinds.r
+    take-out.Reads.Learnt (λ κs r e. (now (e .0), now (e .1 .0)))
 take-out-determined κs a r s x y p q = both (determined (p .0) (q .0)) (determined (p .1) (q .1))
 
 -- ---- rounds
@@ -198,52 +207,77 @@ cut-boxes-determined κs a r s x y p q = determined p q
 pub front-determined : Determines 1 front.Kinds.ps front.Kinds.r front.Reads.Learnt (λ κs r e. now r)
 front-determined κs a r s x y p q = determined p q
 
-pub cut-determined : Determines {A = CutRecord × Buffers} 5 cut.Kinds.ps cut.Kinds.r cut.Reads.Learnt (λ κs r e. (r, buffers (now (e .1 .1 .1 .1 .1 .0)) (now (e .1 .1 .1 .1 .1 .1 .0)) (now (e .1 .1 .1 .1 .1 .1 .1 .0)) (now (e .1 .1 .1 .1 .1 .1 .1 .1 .0))))
+pub cut-determined : Determines {A = CutRecord × Buffers} 5 cut.Kinds.ps cut.Kinds.r cut.Reads.Learnt
+    (λ κs r e. (
+      r,
+      buffers (now (e .1 .1 .1 .1 .1 .0)) (now (e .1 .1 .1 .1 .1 .1 .0)) (now (e .1 .1 .1 .1 .1 .1 .1 .0))
+          (now (e .1 .1 .1 .1 .1 .1 .1 .1 .0)),
+    ))
 cut-determined κs a r s x y p q = both (determined (p .0) (q .0)) (determined (p .1) (q .1))
 
 -- ---- band
-pub band-number-determined : Determines 1 band-number.Kinds.ps band-number.Kinds.r band-number.Reads.Learnt (λ κs r e. r)
+pub band-number-determined : Determines 1 band-number.Kinds.ps band-number.Kinds.r band-number.Reads.Learnt
+    (λ κs r e. r)
 band-number-determined κs a r s x y p q = determined p q
 
 pub index-at-determined : Determines 4 index-at.Kinds.ps index-at.Kinds.r index-at.Reads.Learnt (λ κs r e. r)
 index-at-determined κs a r s x y p q = determined p q
 
 -- ---- mapper
-pub map-determined : Determines {A = ℕ × List ℕ} 3 map.Kinds.ps map.Kinds.r map.Reads.Learnt (λ κs r e. (r, now (e .1 .1 .1 .1 .1 .1 .0)))
+pub map-determined : Determines {A = ℕ × List ℕ} 3 map.Kinds.ps map.Kinds.r map.Reads.Learnt
+    (λ κs r e. (r, now (e .1 .1 .1 .1 .1 .1 .0)))
 map-determined κs a r s x y p q = both (determined (p .0) (q .0)) (determined (p .1) (q .1))
 
 -- ---- painter
-pub paint-determined : Determines {A = ℕ × List ℕ} 3 paint.Kinds.ps paint.Kinds.r paint.Reads.Learnt (λ κs r e. (r, now (e .1 .1 .1 .1 .1 .0)))
+pub paint-determined : Determines {A = ℕ × List ℕ} 3 paint.Kinds.ps paint.Kinds.r paint.Reads.Learnt
+    (λ κs r e. (r, now (e .1 .1 .1 .1 .1 .0)))
 paint-determined κs a r s x y p q = both (determined (p .0) (q .0)) (determined (p .1) (q .1))
 
 -- ---- lines
-pub empty-table-determined : Determines 0 empty-table.Kinds.ps empty-table.Kinds.r empty-table.Reads.Learnt (λ κs r e. r)
+pub empty-table-determined : Determines 0 empty-table.Kinds.ps empty-table.Kinds.r empty-table.Reads.Learnt
+    (λ κs r e. r)
 empty-table-determined κs a r s x y p q = determined p q
 
-pub load-batch-determined : Determines {A = Loaded × List ℕ} 2 load-batch.Kinds.ps load-batch.Kinds.r load-batch.Reads.Learnt (λ κs r e. (r, now (e .0)))
+pub load-batch-determined : Determines {A = Loaded × List ℕ} 2 load-batch.Kinds.ps load-batch.Kinds.r
+    load-batch.Reads.Learnt (λ κs r e. (r, now (e .0)))
 load-batch-determined κs a r s x y p q = both (determined (p .0) (q .0)) (determined (p .1) (q .1))
 
-pub text-determined : Determines {A = ℕ × List ℕ} 2 text.Kinds.ps text.Kinds.r text.Reads.Learnt (λ κs r e. (r, now (e .1 .1 .0)))
+pub text-determined : Determines {A = ℕ × List ℕ} 2 text.Kinds.ps text.Kinds.r text.Reads.Learnt
+    (λ κs r e. (r, now (e .1 .1 .0)))
 text-determined κs a r s x y p q = both (determined (p .0) (q .0)) (determined (p .1 .0) (q .1 .0))
 
 -- ---- seluvava
-pub exported-bins-determined : Determines 0 exported-bins.Kinds.ps exported-bins.Kinds.r exported-bins.Reads.Learnt (λ κs r e. r)
+pub exported-bins-determined : Determines 0 exported-bins.Kinds.ps exported-bins.Kinds.r exported-bins.Reads.Learnt
+    (λ κs r e. r)
 exported-bins-determined κs a r s x y p q = determined p q
 
-pub exported-table-len-determined : Determines 0 exported-table-len.Kinds.ps exported-table-len.Kinds.r exported-table-len.Reads.Learnt (λ κs r e. r)
+pub exported-table-len-determined : Determines 0 exported-table-len.Kinds.ps exported-table-len.Kinds.r
+    exported-table-len.Reads.Learnt (λ κs r e. r)
 exported-table-len-determined κs a r s x y p q = determined p q
 
-pub exported-load-determined : Determines {A = ℕ × List ℕ} 3 exported-load.Kinds.ps exported-load.Kinds.r exported-load.Reads.Learnt (λ κs r e. (r, now (e .1 .1 .1 .0)))
+pub exported-load-determined : Determines {A = ℕ × List ℕ} 3 exported-load.Kinds.ps exported-load.Kinds.r
+    exported-load.Reads.Learnt (λ κs r e. (r, now (e .1 .1 .1 .0)))
 exported-load-determined κs a r s x y p q = both (determined (p .0) (q .0)) (determined (p .1) (q .1))
 
-pub exported-merge-determined : Determines {A = ℕ × List ℕ} 2 exported-merge.Kinds.ps exported-merge.Kinds.r exported-merge.Reads.Learnt (λ κs r e. (r, now (e .1 .1 .1 .0)))
+pub exported-merge-determined : Determines {A = ℕ × List ℕ} 2 exported-merge.Kinds.ps exported-merge.Kinds.r
+    exported-merge.Reads.Learnt (λ κs r e. (r, now (e .1 .1 .1 .0)))
 exported-merge-determined κs a r s x y p q = both (determined (p .0) (q .0)) (determined (p .1) (q .1))
 
-pub exported-cut-determined : Determines {A = CutAnswer × Lent} 7 exported-cut.Kinds.ps exported-cut.Kinds.r exported-cut.Reads.Learnt (λ κs r e. (r, lent (buffers (now (e .1 .1 .1 .1 .1 .0)) (now (e .1 .1 .1 .1 .1 .1 .0)) (now (e .1 .1 .1 .1 .1 .1 .1 .0)) (now (e .1 .1 .1 .1 .1 .1 .1 .1 .0))) (now (e .1 .1 .1 .1 .1 .1 .1 .1 .1 .0)) (now (e .1 .1 .1 .1 .1 .1 .1 .1 .1 .1 .0))))
+pub exported-cut-determined : Determines {A = CutAnswer × Lent} 7 exported-cut.Kinds.ps exported-cut.Kinds.r
+    exported-cut.Reads.Learnt
+    (λ κs r e. (
+      r,
+      lent
+          (buffers (now (e .1 .1 .1 .1 .1 .0)) (now (e .1 .1 .1 .1 .1 .1 .0)) (now (e .1 .1 .1 .1 .1 .1 .1 .0))
+          (now (e .1 .1 .1 .1 .1 .1 .1 .1 .0))) (now (e .1 .1 .1 .1 .1 .1 .1 .1 .1 .0))
+          (now (e .1 .1 .1 .1 .1 .1 .1 .1 .1 .1 .0)),
+    ))
 exported-cut-determined κs a r s x y p q = both (determined (p .0) (q .0)) (determined (p .1) (q .1))
 
-pub exported-map-determined : Determines {A = ℕ × List ℕ} 3 exported-map.Kinds.ps exported-map.Kinds.r exported-map.Reads.Learnt (λ κs r e. (r, now (e .1 .1 .1 .1 .1 .1 .0)))
+pub exported-map-determined : Determines {A = ℕ × List ℕ} 3 exported-map.Kinds.ps exported-map.Kinds.r
+    exported-map.Reads.Learnt (λ κs r e. (r, now (e .1 .1 .1 .1 .1 .1 .0)))
 exported-map-determined κs a r s x y p q = both (determined (p .0) (q .0)) (determined (p .1) (q .1))
 
-pub exported-paint-determined : Determines {A = ℕ × List ℕ} 3 exported-paint.Kinds.ps exported-paint.Kinds.r exported-paint.Reads.Learnt (λ κs r e. (r, now (e .1 .1 .1 .1 .1 .0)))
+pub exported-paint-determined : Determines {A = ℕ × List ℕ} 3 exported-paint.Kinds.ps exported-paint.Kinds.r
+    exported-paint.Reads.Learnt (λ κs r e. (r, now (e .1 .1 .1 .1 .1 .0)))
 exported-paint-determined κs a r s x y p q = both (determined (p .0) (q .0)) (determined (p .1) (q .1))

@@ -25,7 +25,7 @@ use Rattle.grid.proofs.Places.{chose}
 use Rattle.table.specs.Cell.{View}
 use Rattle.table.specs.Table.{viewOf}
 use Rattle.table.specs.Sound.{limit, total, sound}
-use Rattle.table.proofs.Tables.{wide-len, wide-empty, view-at}
+use Rattle.table.proofs.Tables.{empty-holds, view-at}
 use Rattle.loader.specs.Load.{Weighted, weightOf, tableOf, batchOf, loadNumber, loadLater}
 use Rattle.loader.proofs.Loading.{AllBytes}
 use Rattle.loader.proofs.Parts.{batch-weight, all-bytes-of}
@@ -70,7 +70,7 @@ pixels bytes = batch-weight bytes false [] (λ e. absurd (true≢false (sym e)))
 
 is-empty : emptyTable ≡ tableOf grid8 []
 unfolding emptyTable
-is-empty = sym (wide-empty (8 * 8 * 8)) ∙ empty-table 8 8 8 is-grid8
+is-empty = empty-table 8 8 8 is-grid8
 
 no-weight : weightOf [] ≡ 0
 no-weight = ap weightOf (sym (batch-none [])) ∙ pixels []
@@ -133,7 +133,7 @@ module _ (bytes : List ℕ) (whole : length bytes % 3 ≡ 0) (few : length bytes
         })
         (record {
           table = table-holds grid8 (batchOf bytes false []) .lent .numbers;
-          work = sym (wide-len (8 * 8 * 8));
+          work = empty-holds (8 * 8 * 8) .lent .numbers;
           palette = lit≤ tt;
           counts = lit≤ tt;
           map = refl;
@@ -146,7 +146,7 @@ module _ (bytes : List ℕ) (whole : length bytes % 3 ≡ 0) (few : length bytes
         rw is-grid8
         (no-total limit grid8 16 (longEnough grid8 16 (length left) l) (viewOf left) (lit≤ tt) (lit≤ tt)
         (only-map grid8 16 (length left) l (table-holds grid8 (batchOf bytes false []) .lent .numbers)
-        (sym (wide-len (8 * 8 * 8))) (lit≤ tt) (lit≤ tt))
+        (empty-holds (8 * 8 * 8) .lent .numbers) (lit≤ tt) (lit≤ tt))
         its-sound
         (its-total ∙ nothing))
 

@@ -148,7 +148,8 @@ module _ (b1 b2 b3 : ℕ) where
 
   pub call-lowest : (k : ℕ) (t : List ℕ) (l : Lent)
       → cutAnswer b1 b2 b3 k t l .number ≡ lowestOf (callApplies b1 b2 b3 k t l)
-  unfolding cutAnswer callNumber callNumberOn cutNumberOn allLong callApplies cutTests chain ascends noGrid onBins numberOn onGrid
+  unfolding cutAnswer callNumber callNumberOn cutNumberOn allLong callApplies cutTests chain ascends noGrid onBins
+      numberOn onGrid
       gridAnswer refuse
   call-lowest k t l = go (gridOf b1 b2 b3)
       ∙ lowest (cutTests (gridOf b1 b2 b3) k t (l .buffers) room) 1 (omega arith) refl

@@ -67,6 +67,7 @@ each-worked m = each outcome (λ c. c .expected) cases worked m
 
 -- the example of the listing program: the table of its four pixels
 pub four-added : tableOf grid8 (batchOf fourPixels false []) ≡ fourTable
-unfolding fourPixels fourTable tableOf listFrom binOf choose shiftAt binsOf placeOf binAt colourPlace colourAt tableLen written
+unfolding fourPixels fourTable tableOf listFrom binOf choose shiftAt binsOf placeOf binAt colourPlace colourAt tableLen
+    written
     share adds sumOver loaded weightedAt batchOf
 four-added = refl

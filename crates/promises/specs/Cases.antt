@@ -7,7 +7,7 @@ use lib.IntN.{pos}
 use lib.ListN.{length, replicate}
 use lib.Ieee.{Float, inf, fin}
 use Rattle.grid.specs.Grid.{gridOf, onGrid}
-use Rattle.table.specs.Table.{viewOf}
+use Rattle.table.specs.Table.{tableLen, viewOf}
 use Rattle.loader.specs.Load.{loadNumber, loadLater}
 use Rattle.loader.specs.Plan.{Batch}
 use Rattle.spread.specs.Spread.{zeroOf}
@@ -60,7 +60,7 @@ positionIn b1 b2 b3 t = onGrid (gridOf b1 b2 b3) nowhere (λ g. positionAnswer (
 
 -- what is lent to the cut: long enough for every k here, and nowhere zero
 unfoldable pub lentTo : ℕ → Buffers
-lentTo bins = buffers (replicate (5 * bins) 5) (replicate 780 7) (replicate 260 9) (replicate bins 3)
+lentTo bins = buffers (replicate (tableLen bins) 5) (replicate 780 7) (replicate 260 9) (replicate bins 3)
 
 unfoldable pub outcome : Case → Outcome
 outcome c =

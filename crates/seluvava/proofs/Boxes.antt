@@ -18,7 +18,10 @@ use Rattle.seluvava.specs.Cut.{itsBytes, spreadOf, told}
 use Rattle.seluvava.specs.Inner.{withBoxAt}
 
 -- the six bytes of a box are six stores
-pub six-bytes : (old : List ℕ) (i : ℕ) (x : Bounds) → withBoxAt old i x ≡ set (set (set (set (set (set old (6 * i) (x .r0)) (6 * i + 1) (x .r1)) (6 * i + 2) (x .g0)) (6 * i + 3) (x .g1)) (6 * i + 4) (x .b0)) (6 * i + 5) (x .b1)
+pub six-bytes : (old : List ℕ) (i : ℕ) (x : Bounds)
+    → withBoxAt old i x
+    ≡ set (set (set (set (set (set old (6 * i) (x .r0)) (6 * i + 1) (x .r1)) (6 * i + 2) (x .g0)) (6 * i + 3) (x .g1))
+    (6 * i + 4) (x .b0)) (6 * i + 5) (x .b1)
 unfolding withBoxAt putFrom boxBytes
 six-bytes old i x = simp (next 1, next 2, next 3, next 4) refl
   where
@@ -47,20 +50,28 @@ module _ (r : CutRecord) (long : length (r .places) ≡ 256) (few : r .boxes ≤
     unfolding told
     item = getD-take (r .boxes) (r .places) i noItem l ∙ sym at
 
-    pub boxes-next : (old : List ℕ) → 6 * r .boxes ≤ length old → {before later : List ℕ} → before ≡ filled 6 itsBytes (take i (told r)) old → later ≡ withBoxAt before i (x .bounds) → later ≡ filled 6 itsBytes (take (i + 1) (told r)) old
+    pub boxes-next : (old : List ℕ) → 6 * r .boxes ≤ length old → {before later : List ℕ}
+        → before ≡ filled 6 itsBytes (take i (told r)) old → later ≡ withBoxAt before i (x .bounds)
+        → later ≡ filled 6 itsBytes (take (i + 1) (told r)) old
     unfolding withBoxAt itsBytes
     boxes-next old h {before} e f =
         filled-next 6 itsBytes six (told r) i noItem 0 (omega (arith, told-length)) old (omega (arith, told-length)) e
         (f ∙ ap (λ (y : BoxSpread). putFrom before (6 * i) (itsBytes y)) (sym item))
 
-    pub spreads-next : (old : List Float) → r .boxes ≤ length old → {before later : List Float} → before ≡ filled 1 spreadOf (take i (told r)) old → later ≡ set before i (x .spread) → later ≡ filled 1 spreadOf (take (i + 1) (told r)) old
+    pub spreads-next : (old : List Float) → r .boxes ≤ length old → {before later : List Float}
+        → before ≡ filled 1 spreadOf (take i (told r)) old → later ≡ set before i (x .spread)
+        → later ≡ filled 1 spreadOf (take (i + 1) (told r)) old
     unfolding spreadOf
     spreads-next old h {before} e f =
         filled-next 1 spreadOf one (told r) i noItem nan (omega (arith, told-length)) old (omega (arith, told-length)) e
         (f ∙ put-one before i (x .spread) ∙ ap (λ (y : BoxSpread). putFrom before (1 * i) (spreadOf y)) (sym item))
 
-  pub boxes-long : (i : ℕ) → i ≤ r .boxes → (old : List ℕ) → 6 * r .boxes ≤ length old → length (filled 6 itsBytes (take i (told r)) old) ≡ length old
-  boxes-long i l old h = length-filled-part 6 itsBytes six (told r) i (omega (arith, told-length)) old (omega (arith, told-length))
+  pub boxes-long : (i : ℕ) → i ≤ r .boxes → (old : List ℕ) → 6 * r .boxes ≤ length old
+      → length (filled 6 itsBytes (take i (told r)) old) ≡ length old
+  boxes-long i l old h =
+      length-filled-part 6 itsBytes six (told r) i (omega (arith, told-length)) old (omega (arith, told-length))
 
-  pub spreads-long : (i : ℕ) → i ≤ r .boxes → (old : List Float) → r .boxes ≤ length old → length (filled 1 spreadOf (take i (told r)) old) ≡ length old
-  spreads-long i l old h = length-filled-part 1 spreadOf one (told r) i (omega (arith, told-length)) old (omega (arith, told-length))
+  pub spreads-long : (i : ℕ) → i ≤ r .boxes → (old : List Float) → r .boxes ≤ length old
+      → length (filled 1 spreadOf (take i (told r)) old) ≡ length old
+  spreads-long i l old h =
+      length-filled-part 1 spreadOf one (told r) i (omega (arith, told-length)) old (omega (arith, told-length))

@@ -32,7 +32,8 @@ hasRoom k boxes spreads = leb (6 * k) boxes && leb k spreads
 
 -- no "lent length is wrong": those that every cut is lent are right, and there is room for the boxes
 unfoldable pub allLong : Grid → ℕ → ℕ → Lent → Bool
-allLong g k table l = longEnough g k table (lengthsOf (l .buffers)) && hasRoom k (length (l .boxes)) (length (l .spreads))
+allLong g k table l =
+    longEnough g k table (lengthsOf (l .buffers)) && hasRoom k (length (l .boxes)) (length (l .spreads))
 
 -- the number of the call on an accepted grid: that of a cut, where 5 is any of its lengths
 unfoldable pub callNumberOn : Grid → ℕ → Table → Lent → ℕ

@@ -240,7 +240,8 @@ module _ {g : Grid} {t w : Table} {r gr b : ℕ} (ready : Ready g t w r gr b) wh
           table = ready .before .tables .table;
           is-sound = ready .before .tables .is-sound;
           work =
-              subst (λ (x : Table). Sized x (binsOf g)) (sym u) (put-sized (ready .before .tables .work) (placeOf g r gr b) cell);
+              subst (λ (x : Table). Sized x (binsOf g)) (sym u)
+              (put-sized (ready .before .tables .work) (placeOf g r gr b) cell);
         };
         made =
             record {

@@ -1,10 +1,11 @@
 -- `lines::text::cut_text` meets its contract: a cut into 16 boxes finds no more, and for these there is room.
 -- Assumes nothing.
+use mathlib.Core.Path.{ap, _∙_}
 use native.Mathlib.Omega.{arith}
 use Rattle.cutter.proofs.RecordSize.{few}
 use borrow.Author.Needs.{needs}
-use Rattle.lines.specs.Listing.{lentZeros}
-use Rattle.lines.proofs.Texts.{cut-refused, cut-listed}
+use Rattle.cutter.specs.Cut.{cutRecord, cutLater}
+use Rattle.lines.proofs.Texts.{lent-zeros, cut-refused, cut-listed}
 use Rattle.lines.proofs.text.cut_text.Statement.{statement}
 use Rattle.lines.proofs.text.cut_text.Tie as tie
 
@@ -30,10 +31,10 @@ same-length : tie.Need-same-length
 same-length c = search needs
 
 returns : tie.Need-returns
-unfolding lentZeros
 returns c =
     let cut = c .before .before .before .before .before .before .before .before .before .before .cut in
-    rw (cut-refused _ (cut .ensures .0) (c .before .before .before .before .if1 .taken))
+    rw (cut-refused _ (cut .ensures .0 ∙ ap (cutRecord 8 8 8 16 _) lent-zeros)
+    (c .before .before .before .before .if1 .taken))
     (c .before .before .refused .ensures)
 
 slice-aggregate-listing : tie.Need-slice-aggregate-listing
@@ -52,10 +53,11 @@ same-length-2 : tie.Need-same-length-2
 same-length-2 c = search needs
 
 returns-2 : tie.Need-returns-2
-unfolding lentZeros
 returns-2 c =
     let cut = c .before .before .before .before .before .before .before .before .before .before .before .before .cut in
-    rw (cut-listed _ (cut .ensures .0) (cut .ensures .1) (c .before .before .before .before .before .before .if1 .left))
+    rw (cut-listed _ (cut .ensures .0 ∙ ap (cutRecord 8 8 8 16 _) lent-zeros)
+    (cut .ensures .1 ∙ ap (cutLater 8 8 8 16 _) lent-zeros)
+    (c .before .before .before .before .before .before .if1 .left))
     (c .before .before .listing .ensures)
 
 pub cut-text-spec : {M : Type 1} → statement M

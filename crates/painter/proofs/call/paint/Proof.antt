@@ -22,7 +22,8 @@ grid k = k .before .g .given .0 .0
 abbrev start : tie.After-known-told → tie.Start
 start k = k .before .before .before .before .before .before .before
 
-on-grid : (k : tie.After-known-told) → gridOf (start k .args .b1) (start k .args .b2) (start k .args .b3) ≡ chosen.Accepted (grid k)
+on-grid : (k : tie.After-known-told)
+    → gridOf (start k .args .b1) (start k .args .b2) (start k .args .b3) ≡ chosen.Accepted (grid k)
 on-grid k = sym (k .before .before .before .grid-of .ensures) ∙ k .before .g .given .1
 
 accepted : (k : tie.After-known-told) → Accepted (grid k)

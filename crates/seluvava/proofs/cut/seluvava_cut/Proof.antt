@@ -1,4 +1,5 @@
--- `seluvava::cut::seluvava_cut` meets its contract: without the room nothing is cut, and else the boxes of the record are written.
+-- `seluvava::cut::seluvava_cut` meets its contract: without the room nothing is cut, and else the boxes of the record
+-- are written.
 -- Assumes nothing.
 use mathlib.Core.Path.{sym, _∙_}
 use native.Mathlib.Omega.{arith}
@@ -24,18 +25,30 @@ room-number-requires c κs = search needs
 returns : tie.Need-returns
 returns c =
     let s = c .before .before .before .before .before .before .before .before .before in
-    call-refused (s .args .b1) (s .args .b2) (s .args .b3) (s .args .k) (now (s .args .table)) (all s) (c .before .room-number .ensures) (c .if1 .taken)
+    call-refused (s .args .b1) (s .args .b2) (s .args .b3) (s .args .k) (now (s .args .table)) (all s)
+    (c .before .room-number .ensures) (c .if1 .taken)
 
 cut-requires : tie.Need-cut-requires
 cut-requires c κs = search needs
 
 put-boxes-requires : tie.Need-put-boxes-requires
 put-boxes-requires c κs =
-    let s = c .before .before .before .before .before .before .before .before .before .before .before .before .before .before .before .before .before .before .before .before .before .before .before .before in
-    let r = roomy (s .args .b1) (s .args .b2) (s .args .b3) (s .args .k) (length (now (s .args .boxes))) (length (now (s .args .spreads))) (sym (c .before .before .before .before .before .before .before .before .before .before .before .before .before .before .before .before .room-number .ensures) ∙ c .before .before .before .before .before .before .before .before .before .before .before .before .before .before .before .if1 .left) in
+    let s = c .before .before .before .before .before .before .before .before .before .before .before .before .before
+    .before .before .before .before .before .before .before .before .before .before .before in
+    let r = roomy (s .args .b1) (s .args .b2) (s .args .b3) (s .args .k) (length (now (s .args .boxes)))
+    (length (now (s .args .spreads)))
+    (sym (c .before .before .before .before .before .before .before .before .before .before .before .before .before
+    .before .before .before .room-number .ensures)
+    ∙ c .before .before .before .before .before .before .before .before .before .before .before .before .before
+    .before .before .if1 .left) in
     let e = c .before .before .before .before .before .before .before .before .before .before .cut .ensures .0 in
-    let n = few (s .args .k) (r .least) (r .most) (now (s .args .table)) (s .args .b1) (s .args .b2) (s .args .b3) (four s) e in
-    (all-places (s .args .k) (now (s .args .table)) (s .args .b1) (s .args .b2) (s .args .b3) (four s) e, omega (arith, n, r .most), omega (arith, n, r .boxes-fit), omega (arith, n, r .spreads-fit))
+    let n = few (s .args .k) (r .least) (r .most) (now (s .args .table)) (s .args .b1) (s .args .b2) (s .args .b3)
+    (four s) e in (
+      all-places (s .args .k) (now (s .args .table)) (s .args .b1) (s .args .b2) (s .args .b3) (four s) e,
+      omega (arith, n, r .most),
+      omega (arith, n, r .boxes-fit),
+      omega (arith, n, r .spreads-fit),
+    )
 
 same-length : tie.Need-same-length
 same-length c = search needs
@@ -57,9 +70,18 @@ same-length-6 c = search needs
 
 returns-2 : tie.Need-returns-2
 returns-2 c =
-    let s = c .before .before .before .before .before .before .before .before .before .before .before .before .before .before .before .before .before .before .before .before .before .before .before .before .before .before .before .before .before in
-    let e = c .before .before .before .before .before .before .before .before .before .before .before .before .before .before .before .cut .ensures in
-    call-done (s .args .b1) (s .args .b2) (s .args .b3) (s .args .k) (now (s .args .table)) (all s) (c .before .before .before .before .before .before .before .before .before .before .before .before .before .before .before .before .before .before .before .before .before .room-number .ensures) (c .before .before .before .before .before .before .before .before .before .before .before .before .before .before .before .before .before .before .before .before .if1 .left) (e .0) (e .1) (c .before .before .before .before .put-boxes .ensures .0) (c .before .before .before .before .put-boxes .ensures .1)
+    let s = c .before .before .before .before .before .before .before .before .before .before .before .before .before
+    .before .before .before .before .before .before .before .before .before .before .before .before .before .before
+    .before .before in
+    let e = c .before .before .before .before .before .before .before .before .before .before .before .before .before
+    .before .before .cut .ensures in
+    call-done (s .args .b1) (s .args .b2) (s .args .b3) (s .args .k) (now (s .args .table)) (all s)
+    (c .before .before .before .before .before .before .before .before .before .before .before .before .before
+    .before .before .before .before .before .before .before .before .room-number .ensures)
+    (c .before .before .before .before .before .before .before .before .before .before .before .before .before
+    .before .before .before .before .before .before .before .if1 .left) (e .0) (e .1)
+    (c .before .before .before .before .put-boxes .ensures .0)
+    (c .before .before .before .before .put-boxes .ensures .1)
 
 pub seluvava-cut-spec : {M : Type 1} → statement M
 seluvava-cut-spec =

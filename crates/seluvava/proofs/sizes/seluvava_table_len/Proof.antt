@@ -9,7 +9,9 @@ use borrow.Author.Needs.{needs}
 use Rattle.seluvava.proofs.sizes.seluvava_table_len.Statement.{statement}
 use Rattle.seluvava.proofs.sizes.seluvava_table_len.Tie as tie
 
-on-grid : (k : tie.After-known-told) → gridOf (k .before .before .before .before .args .b1) (k .before .before .before .before .args .b2) (k .before .before .before .before .args .b3) ≡ chosen.Accepted (k .before .g .given .0 .0)
+on-grid : (k : tie.After-known-told)
+    → gridOf (k .before .before .before .before .args .b1) (k .before .before .before .before .args .b2)
+    (k .before .before .before .before .args .b3) ≡ chosen.Accepted (k .before .g .given .0 .0)
 on-grid k = sym (k .before .before .before .grid-of .ensures) ∙ k .before .g .given .1
 
 grid-of-requires : tie.Need-grid-of-requires
@@ -24,7 +26,8 @@ enum-told c = search needs
 returns : tie.Need-returns
 returns c =
     let s = c .before .before .before in
-    sym (len-refused (s .args .b1) (s .args .b2) (s .args .b3) (sym (c .before .before .grid-of .ensures) ∙ c .enum-told .given .1))
+    sym (len-refused (s .args .b1) (s .args .b2) (s .args .b3)
+    (sym (c .before .before .grid-of .ensures) ∙ c .enum-told .given .1))
 
 table-len-requires : tie.Need-table-len-requires
 table-len-requires c κs = chose _ _ _ (c .before .g .given .0 .0) (on-grid c) .accepted

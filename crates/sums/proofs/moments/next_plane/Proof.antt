@@ -63,7 +63,8 @@ loop-again c =
 
 same-length : tie.Need-same-length Inv-loop μ-loop
 same-length c =
-    same-size (c .before .before .loop .inv .1 .tables .work) (c .before .before .before .before .before .pre .before .tables .work)
+    same-size (c .before .before .loop .inv .1 .tables .work)
+    (c .before .before .before .before .before .pre .before .tables .work)
 
 returns : tie.Need-returns Inv-loop μ-loop
 returns c =
