@@ -62,7 +62,7 @@ use Rattle.cutter.proofs.call.cut as cut
 use Rattle.seluvava.specs.declared.cut.CutAnswer.{CutAnswer}
 use Rattle.seluvava.specs.Cut.{Lent, lent}
 use Rattle.seluvava.proofs.sizes.seluvava_bins as exported-bins
-use Rattle.seluvava.proofs.sizes.seluvava_table_len as exported-table-len
+use Rattle.seluvava.proofs.tables.seluvava_table_len as exported-table-len
 use Rattle.seluvava.proofs.tables.seluvava_load as exported-load
 use Rattle.seluvava.proofs.tables.seluvava_merge as exported-merge
 use Rattle.seluvava.proofs.cut.seluvava_cut as exported-cut

@@ -1,4 +1,4 @@
--- `seluvava::sizes::seluvava_table_len` meets its contract.
+-- `seluvava::tables::seluvava_table_len` meets its contract.
 -- Assumes nothing.
 use mathlib.Core.Path.{_≡_, sym, _∙_}
 use Rattle.grid.specs.declared.place.Chosen.the-variants as chosen
@@ -6,8 +6,8 @@ use Rattle.grid.specs.Grid.{gridOf}
 use Rattle.grid.proofs.Places.{chose}
 use Rattle.seluvava.proofs.Calls.{len-refused, len-on}
 use borrow.Author.Needs.{needs}
-use Rattle.seluvava.proofs.sizes.seluvava_table_len.Statement.{statement}
-use Rattle.seluvava.proofs.sizes.seluvava_table_len.Tie as tie
+use Rattle.seluvava.proofs.tables.seluvava_table_len.Statement.{statement}
+use Rattle.seluvava.proofs.tables.seluvava_table_len.Tie as tie
 
 on-grid : (k : tie.After-known-told)
     → gridOf (k .before .before .before .before .args .b1) (k .before .before .before .before .args .b2)
