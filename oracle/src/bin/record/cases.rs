@@ -1,4 +1,4 @@
-//! The cases: those that document 01 works out, one for each easy slip, each size in each dimension, and a sample of the
+//! The cases: those that document 01 works out, one for each mutant, each size in each dimension, and a sample of the
 //! runner's classes.
 use oracle::{
     case,
@@ -91,8 +91,8 @@ fn worked() -> Vec<Case> {
     ]
 }
 
-/// A small case for each slip that no worked one shows.
-fn slips() -> Vec<Case> {
+/// A small case for each mutant that no worked one shows.
+fn mutants() -> Vec<Case> {
     let corners = [BLACK, [0, 0, 255], [0, 255, 0], [0, 255, 255]].map(|c| (c, 1));
     let near = [(BLACK, 1), ([255, 127, 0], 1), ([255, 128, 0], 1)];
     let crowded = [
@@ -107,30 +107,30 @@ fn slips() -> Vec<Case> {
     let late = [(BLACK, u32::MAX - 1), ([64; 3], 1), (WHITE, 1)];
     let one_bin = [BLACK, [100, 0, 0], [0, 0, 128], [0, 128, 0], [128, 0, 0]].map(|c| (c, 1));
     vec![
-        whole("slip: a tie to the left child", CUBE, 5, &corners),
+        whole("mutant: a tie to the left child", CUBE, 5, &corners),
         whole(
-            "slip: an early stop, at a spread of one half",
+            "mutant: an early stop, at a spread of one half",
             CUBE,
             3,
             &near,
         ),
         whole(
-            "slip: one box cannot be cut, another can",
+            "mutant: one box cannot be cut, another can",
             CUBE,
             4,
             &crowded,
         ),
         whole(
-            "slip: a negative spread clamped or exact",
+            "mutant: a negative spread clamped or exact",
             CUBE,
             3,
             &negative,
         ),
-        whole("slip: a falsely positive spread", CUBE, 3, &positive),
-        whole("slip: sums of 32 bits", CUBE, 2, &wide),
-        whole("slip: a box of one bin with two colours", CUBE, 4, &one_bin),
-        whole("slip: half a batch", CUBE, 4, &late).in_loads(&[1, 3], false),
-        whole("slip: half a merge", CUBE, 4, &late).in_loads(&[1, 3], true),
+        whole("mutant: a falsely positive spread", CUBE, 3, &positive),
+        whole("mutant: sums of 32 bits", CUBE, 2, &wide),
+        whole("mutant: a box of one bin with two colours", CUBE, 4, &one_bin),
+        whole("mutant: half a batch", CUBE, 4, &late).in_loads(&[1, 3], false),
+        whole("mutant: half a merge", CUBE, 4, &late).in_loads(&[1, 3], true),
     ]
 }
 
@@ -257,7 +257,7 @@ fn loaded_at_random(of: &str, made: &case::Case, r: &mut Random) -> Case {
 pub fn all(seed: u64) -> Vec<Case> {
     let mut r = Random(seed);
     let mut cases = worked();
-    cases.extend(slips());
+    cases.extend(mutants());
     cases.extend(sizes(&mut r));
     for sample in SAMPLES {
         for made in sample.made(seed) {
