@@ -71,7 +71,7 @@ extern "C" {
 size_t seluvava_bins(size_t b1, size_t b2, size_t b3);
 
 /* How many numbers a table of a grid has: 5 * bins, or 0 where a size is not among the seven. */
-size_t seluvava_numbers(size_t b1, size_t b2, size_t b3);
+size_t seluvava_table_len(size_t b1, size_t b2, size_t b3);
 
 /*
  * Load: adds colours to a table. A colour c1, c2, c3 of weight w adds, in its bin, w to n, w * c to each sum and
@@ -141,16 +141,16 @@ seluvava_cut(size_t b1, size_t b2, size_t b3, size_t k,
  * Map: writes the index of each pixel of a band, which is the map's byte at the pixel's bin. The band is the
  * `pixels` pixels from pixel `first` on. It must end inside the frame or at its end, and may have no pixels.
  *
- *   map       bins bytes, all of them below `colours`, used by the band or not.
- *   colours   the palette's length in colours; after a cut the number of boxes. Outside 1..256 it gives 5.
- *   frame     three bytes per pixel.
- *   indices   one byte per pixel of the frame. Changed in the band; the rest stays.
+ *   map               bins bytes, all of them below `palette_colours`, used by the band or not.
+ *   palette_colours   the palette's length in colours; after a cut the number of boxes. Outside 1..256 it gives 5.
+ *   frame             three bytes per pixel.
+ *   indices           one byte per pixel of the frame. Changed in the band; the rest stays.
  *
  * Answers 0, 1, 3, 5, 9.
  */
 uint8_t seluvava_map(size_t b1, size_t b2, size_t b3,
                      const uint8_t *map, size_t map_len,
-                     size_t colours,
+                     size_t palette_colours,
                      const uint8_t *frame, size_t frame_len,
                      uint8_t *indices, size_t indices_len,
                      size_t first, size_t pixels);

@@ -605,7 +605,7 @@ static void ask_sizes(void)
         const size_t bins = x < 7 && y < 7 && z < 7 ? sizes[x] * sizes[y] * sizes[z] : 0;
         now("sizes %zu, %zu, %zu", sizes[x], sizes[y], sizes[z]);
         check(seluvava_bins(sizes[x], sizes[y], sizes[z]) == bins, "the bins are not %zu", bins);
-        check(seluvava_numbers(sizes[x], sizes[y], sizes[z]) == 5 * bins, "the numbers are not %zu", 5 * bins);
+        check(seluvava_table_len(sizes[x], sizes[y], sizes[z]) == 5 * bins, "the numbers are not %zu", 5 * bins);
     }
 }
 

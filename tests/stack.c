@@ -39,7 +39,7 @@ static void bins(struct lent *l)
 
 static void numbers(struct lent *l)
 {
-    l->answer = seluvava_numbers(B1, B2, B3);
+    l->answer = seluvava_table_len(B1, B2, B3);
 }
 
 static void load(struct lent *l)

@@ -4,7 +4,7 @@ mod calls;
 
 use crate::side::{Answer, Lent, MOST, Operation, Side, Sizes, touch};
 use calls::{
-    seluvava_bins, seluvava_cut, seluvava_load, seluvava_map, seluvava_merge, seluvava_numbers,
+    seluvava_bins, seluvava_cut, seluvava_load, seluvava_map, seluvava_merge, seluvava_table_len,
     seluvava_paint,
 };
 
@@ -58,7 +58,7 @@ struct Cut {
 
 impl Cut {
     fn new([b1, b2, b3]: Sizes) -> Self {
-        let (numbers, bins) = unsafe { (seluvava_numbers(b1, b2, b3), seluvava_bins(b1, b2, b3)) };
+        let (numbers, bins) = unsafe { (seluvava_table_len(b1, b2, b3), seluvava_bins(b1, b2, b3)) };
         Self {
             work: vec![0; numbers],
             palette: vec![0; 3 * MOST],

@@ -74,7 +74,20 @@ pub struct Grids {
 
 impl Grids {
     pub fn of_judge() -> Self {
-        let all = grids(usize::MAX);
+        Self::of(grids(usize::MAX))
+    }
+
+    /// Those of all sizes, whether the judge is built with them or not.
+    pub fn all() -> Self {
+        let sizes = |i: usize| 2 << i;
+        Self::of(
+            (0..343)
+                .map(|i| [i / 49, i / 7 % 7, i % 7].map(sizes))
+                .collect(),
+        )
+    }
+
+    fn of(all: Vec<Grid>) -> Self {
         let chosen = |f: fn(&Grid) -> bool| all.iter().copied().filter(f).collect();
         Self {
             light: chosen(|g| bins(*g) <= 4096),

@@ -1,5 +1,5 @@
 //! A port in plain Rust, from document 01's section "Steps": a box's sum is the sum over its bins, the heap is a list.
-//! It stands in the library's place where a slip is to be caught, and shows whether a difference is the document's.
+//! It stands in the library's place where a mutant is to be caught, and shows whether a difference is the document's.
 use crate::{
     numbers::{self, Lengths, added, bins, place},
     port::{Band, Grid, Lent, Port},

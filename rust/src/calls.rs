@@ -12,7 +12,7 @@ pub struct CutAnswer {
 unsafe extern "C" {
     pub fn seluvava_bins(b1: usize, b2: usize, b3: usize) -> usize;
 
-    pub fn seluvava_numbers(b1: usize, b2: usize, b3: usize) -> usize;
+    pub fn seluvava_table_len(b1: usize, b2: usize, b3: usize) -> usize;
 
     pub fn seluvava_load(
         b1: usize,
@@ -64,7 +64,7 @@ unsafe extern "C" {
         b3: usize,
         map: *const u8,
         map_len: usize,
-        colours: usize,
+        palette_colours: usize,
         frame: *const u8,
         frame_len: usize,
         indices: *mut u8,

@@ -12,7 +12,7 @@ mod calls;
 
 use crate::{Grid, Refused};
 use calls::{
-    seluvava_bins, seluvava_cut, seluvava_load, seluvava_map, seluvava_merge, seluvava_numbers,
+    seluvava_bins, seluvava_cut, seluvava_load, seluvava_map, seluvava_merge, seluvava_table_len,
     seluvava_paint,
 };
 
@@ -25,7 +25,7 @@ pub fn bins([b1, b2, b3]: [usize; 3]) -> usize {
 /// The numbers of a table, or 0 where its grid is refused.
 pub fn numbers([b1, b2, b3]: [usize; 3]) -> usize {
     // SAFETY: nothing is lent.
-    unsafe { seluvava_numbers(b1, b2, b3) }
+    unsafe { seluvava_table_len(b1, b2, b3) }
 }
 
 /// Adds a batch of colours to a table, with weights where they are given.
@@ -127,7 +127,7 @@ pub struct Band {
 pub fn map(
     grid: Grid,
     map: &[u8],
-    colours: usize,
+    palette_colours: usize,
     frame: &[u8],
     indices: &mut [u8],
     band: Band,
@@ -141,7 +141,7 @@ pub fn map(
             b3,
             map.as_ptr(),
             map.len(),
-            colours,
+            palette_colours,
             frame.as_ptr(),
             frame.len(),
             indices.as_mut_ptr(),

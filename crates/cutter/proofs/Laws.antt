@@ -1,29 +1,33 @@
--- What a caller of cut may use without seeing inside its definitions: a refusal hands back its number with no boxes and leaves all
--- as it was, and where the number is 0 the grid is accepted, the table is sound, and record and buffers are those of the boxes found.
+-- What a caller of cut may use without seeing inside its definitions: a refusal hands back its number with no boxes and
+-- leaves all as it was, and where the number is 0 the grid is accepted, the table is sound, and record and buffers are
+-- those of the boxes found.
 -- Assumes nothing.
 use mathlib.Core.Path.{_≡_, refl, sym, ap, _∙_}
+use mathlib.Core.Bool.{Bool, true}
 use mathlib.Core.List.{List}
 use Prim.Native.Nat.{ℕ, zero, suc}
 use native.Mathlib.Omega.{arith}
-use borrow.Author.Tests.{eq-eqb}
 use lib.ListN.{length}
-use Rattle.grid.specs.declared.Grid.{Grid}
-use Rattle.grid.specs.declared.Chosen.{Chosen}
-use Rattle.grid.specs.declared.Chosen.the-variants as chosen
-use Rattle.grid.specs.Answer.{whenDone}
+use Rattle.grid.specs.declared.place.Grid.{Grid}
+use Rattle.grid.specs.declared.place.Chosen.{Chosen}
+use Rattle.grid.specs.declared.place.Chosen.the-variants as chosen
+use Rattle.basics.specs.Answer.{whenDone}
 use Rattle.grid.specs.Grid.{gridOf, gridAnswer, onGrid, numberOn, Accepted}
 use Rattle.grid.proofs.Places.{chose}
-use Rattle.table.specs.Cell.{wide}
+use Rattle.table.specs.Cell.{View}
+use Rattle.table.specs.Table.{viewOf}
 use Rattle.table.specs.Sound.{limit}
 use Rattle.rounds.specs.Loop.{boxesOf}
-use Rattle.cutter.specs.declared.CutRecord.{CutRecord}
-use Rattle.cutter.specs.Cut.{Buffers, Lengths, lengthsOf, cutNumberOn, cutNumber, refusedRecord, doneRecord, recordOn, cutRecord, laterOn, cutLater, CanCut}
-use Rattle.cutter.proofs.Refusals.{only-map, accepts, can-cut}
+use Rattle.cutter.specs.declared.call.CutRecord.{CutRecord}
+use Rattle.cutter.specs.Cut.{Buffers, lengthsOf, lengthsRight, cutNumberOn, cutNumber, CanCut, LengthsFit}
+use Rattle.cutter.specs.Cut.{refusedRecord, doneRecord, recordOn, cutRecord, laterOn, cutLater}
+use Rattle.cutter.proofs.Refusals.{accepts, lengths-fit, fit-lengths, can-cut}
 
--- nothing refuses a cut of a sound table with a total above 0, k in 1..256, where the lengths are right
-pub nothing-refuses : {g : Grid} {k : ℕ} {t : List ℕ} {l : Lengths} → CanCut g k t l → cutNumberOn limit g k t l ≡ 0
-nothing-refuses {g} {k} {t} {l} c =
-    accepts g k t l (c .least) (c .most) (only-map g k (length t) l (c .table) (c .work) (c .palette) (c .counts) ∙ eq-eqb _ _ (c .map)) (c .is-sound) (λ e. omega (arith, c .some))
+-- nothing refuses a cut of a sound table with a total above 0, k in 1..256, where the lengths fit
+pub nothing-refuses : {limit : ℕ} {g : Grid} {k : ℕ} {fit : Bool} {v : View} → CanCut limit g k v → fit ≡ true
+    → cutNumberOn limit g k fit v ≡ 0
+nothing-refuses {limit} {g} {k} {fit} {v} c e =
+    accepts limit g k fit v (c .least) (c .most) e (c .is-sound) (λ z. omega (arith, c .some))
 
 module _ (b1 b2 b3 k : ℕ) (t : List ℕ) (b : Buffers) where
   -- the number of the record
@@ -35,44 +39,62 @@ module _ (b1 b2 b3 k : ℕ) (t : List ℕ) (b : Buffers) where
       of zero r e = e
       of (suc n) r e = refl
 
-      go : (c : Chosen) → onGrid c (refusedRecord (gridAnswer c .number)) (λ g. whenDone (cutNumberOn limit g k t (lengthsOf b)) (doneRecord (boxesOf g (wide t) k)) (refusedRecord (cutNumberOn limit g k t (lengthsOf b)))) .number
-          ≡ onGrid c (gridAnswer c .number) (λ g. cutNumberOn limit g k t (lengthsOf b))
-      go (chosen.Of g) = of (cutNumberOn limit g k t (lengthsOf b)) (doneRecord (boxesOf g (wide t) k)) refl
+      go : (c : Chosen)
+          → onGrid c (refusedRecord (gridAnswer c .number))
+          (λ g. whenDone (cutNumberOn limit g k (lengthsRight g k t b) (viewOf t)) (doneRecord (boxesOf g (viewOf t) k))
+          (refusedRecord (cutNumberOn limit g k (lengthsRight g k t b) (viewOf t)))) .number
+          ≡ onGrid c (gridAnswer c .number) (λ g. cutNumberOn limit g k (lengthsRight g k t b) (viewOf t))
+      go (chosen.Accepted g) =
+          of (cutNumberOn limit g k (lengthsRight g k t b) (viewOf t)) (doneRecord (boxesOf g (viewOf t) k)) refl
       go chosen.Refused = refl
 
   -- "A refusal returns its number and, from a cut, zero boxes and box places all zero, and writes nothing"
-  pub cut-refuses : {n : ℕ} → cutNumber b1 b2 b3 k t b ≡ suc n → (cutRecord b1 b2 b3 k t b ≡ refusedRecord (suc n)) × (cutLater b1 b2 b3 k t b ≡ b)
+  pub cut-refuses : {n : ℕ} → cutNumber b1 b2 b3 k t b ≡ suc n
+      → (cutRecord b1 b2 b3 k t b ≡ refusedRecord (suc n)) × (cutLater b1 b2 b3 k t b ≡ b)
   unfolding cutRecord cutLater cutNumber recordOn numberOn onGrid gridAnswer whenDone
   cut-refuses {n} = go (gridOf b1 b2 b3)
     where
       of : {A : Type 0} (m : ℕ) (x y : A) → m ≡ suc n → whenDone m x y ≡ y
       of m x y e = rw e refl
 
-      go : (c : Chosen) → onGrid c (gridAnswer c .number) (λ g. cutNumberOn limit g k t (lengthsOf b)) ≡ suc n
-          → (onGrid c (refusedRecord (gridAnswer c .number)) (λ g. whenDone (cutNumberOn limit g k t (lengthsOf b)) (doneRecord (boxesOf g (wide t) k)) (refusedRecord (cutNumberOn limit g k t (lengthsOf b)))) ≡ refusedRecord (suc n))
-          × (onGrid c b (λ g. whenDone (cutNumberOn limit g k t (lengthsOf b)) (laterOn g k t b) b) ≡ b)
-      go (chosen.Of g) e = (of (cutNumberOn limit g k t (lengthsOf b)) _ _ e ∙ ap refusedRecord e, of (cutNumberOn limit g k t (lengthsOf b)) _ _ e)
+      go : (c : Chosen) → onGrid c (gridAnswer c .number) (λ g. cutNumberOn limit g k (lengthsRight g k t b) (viewOf t))
+          ≡ suc n
+          → (onGrid c (refusedRecord (gridAnswer c .number))
+          (λ g. whenDone (cutNumberOn limit g k (lengthsRight g k t b) (viewOf t)) (doneRecord (boxesOf g (viewOf t) k))
+          (refusedRecord (cutNumberOn limit g k (lengthsRight g k t b) (viewOf t)))) ≡ refusedRecord (suc n))
+          × (onGrid c b
+          (λ g. whenDone (cutNumberOn limit g k (lengthsRight g k t b) (viewOf t)) (laterOn g (viewOf t) k b) b)
+          ≡ b)
+      go (chosen.Accepted g) e = (
+        of (cutNumberOn limit g k (lengthsRight g k t b) (viewOf t)) _ _ e
+            ∙ ap refusedRecord e,
+        of (cutNumberOn limit g k (lengthsRight g k t b) (viewOf t)) _ _ e,
+      )
       go chosen.Refused e = (ap refusedRecord e, refl)
 
   -- what a cut that is done tells
   pub record CutDone (g : Grid) : Type 0 where
     pub accepted : Accepted g
-    pub can : CanCut g k t (lengthsOf b)
-    pub hands : cutRecord b1 b2 b3 k t b ≡ doneRecord (boxesOf g (wide t) k)
-    pub leaves : cutLater b1 b2 b3 k t b ≡ laterOn g k t b
+    pub can : CanCut limit g k (viewOf t)
+    pub fit : LengthsFit g k (length t) (lengthsOf b)
+    pub hands : cutRecord b1 b2 b3 k t b ≡ doneRecord (boxesOf g (viewOf t) k)
+    pub leaves : cutLater b1 b2 b3 k t b ≡ laterOn g (viewOf t) k b
 
-  pub cut-says : {g : Grid} → gridOf b1 b2 b3 ≡ chosen.Of g → cutNumber b1 b2 b3 k t b ≡ 0 → CutDone g
+  pub cut-says : {g : Grid} → gridOf b1 b2 b3 ≡ chosen.Accepted g → cutNumber b1 b2 b3 k t b ≡ 0 → CutDone g
   unfolding cutNumber cutRecord cutLater recordOn numberOn onGrid whenDone
   cut-says {g} e n =
-      let m : cutNumberOn limit g k t (lengthsOf b) ≡ 0 = sym (rw e refl) ∙ n in
+      let m : cutNumberOn limit g k (lengthsRight g k t b) (viewOf t) ≡ 0 = sym (rw e refl) ∙ n in
       record {
         accepted = chose b1 b2 b3 g e .accepted;
-        can = can-cut m;
+        can = can-cut m .0;
+        fit = lengths-fit (can-cut m .1);
         hands = rw (e, m) refl;
         leaves = rw (e, m) refl;
       }
 
   -- "none is given otherwise"
-  pub cut-accepts : {g : Grid} → gridOf b1 b2 b3 ≡ chosen.Of g → CanCut g k t (lengthsOf b) → cutNumber b1 b2 b3 k t b ≡ 0
+  pub cut-accepts : {g : Grid} → gridOf b1 b2 b3 ≡ chosen.Accepted g → CanCut limit g k (viewOf t)
+      → LengthsFit g k (length t) (lengthsOf b)
+      → cutNumber b1 b2 b3 k t b ≡ 0
   unfolding cutNumber numberOn onGrid
-  cut-accepts e c = rw e (nothing-refuses c)
+  cut-accepts e c f = rw e (nothing-refuses c (fit-lengths f))

@@ -1,5 +1,4 @@
 pub mod Fronts
-pub mod Held
 pub mod Filled
 pub mod Maps
 pub mod Colours
@@ -7,6 +6,6 @@ pub mod Worked
 pub mod Listed
 pub mod Refusals
 pub mod Tiling
-pub mod Finding
+pub mod RecordBoxes
 pub mod Laws
-pub mod Few
+pub mod RecordSize

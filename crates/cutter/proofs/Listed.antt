@@ -6,31 +6,33 @@ use Prim.Native.Nat.{ℕ, _<_}
 use native.Mathlib.Omega.{arith}
 use lib.ListN.{length, getD, take, length-map, List·getD-map}
 use lib.Seq.{take-all, length-take-le, getD-take}
-use lib.Ieee.{nan}
-use Rattle.grid.specs.declared.Grid.{Grid}
-use Rattle.sums.specs.declared.Bounds.{Bounds}
-use Rattle.rounds.specs.declared.BoxSpread.{BoxSpread}
-use Rattle.rounds.specs.declared.Boxes.{Boxes}
-use Rattle.rounds.specs.Loop.{noBox}
-use Rattle.cutter.specs.Cut.{boundsOf, listOf, Placed}
-
--- what the places read past their end
-abbrev pub pastPlaces : BoxSpread
-pastPlaces = record { r0 = 0; r1 = 0; g0 = 0; g1 = 0; b0 = 0; b1 = 0; spread = nan }
+use Rattle.rounds.specs.Loop.{noItem}
+use Rattle.grid.specs.declared.place.Grid.{Grid}
+use Rattle.boxes.specs.declared.sides.Bounds.{Bounds}
+use Rattle.rounds.specs.declared.gather.BoxSpread.{BoxSpread}
+use Rattle.rounds.specs.declared.gather.Boxes.{Boxes}
+use Rattle.boxes.specs.Box.{noBox}
+use Rattle.cutter.specs.Cut.{listOf}
+use Rattle.cutter.specs.Inner.{Placed}
 
 module _ {g : Grid} {b : Boxes} (f : Placed g b) where
   abbrev boxes : List Bounds
-  boxes = listOf (b .found) (b .places)
+  boxes = listOf (b .boxes) (b .places)
 
-  pub list-length : length boxes ≡ b .found
+  pub list-length : length boxes ≡ b .boxes
   unfolding listOf
-  list-length = length-map (take (b .found) (b .places)) boundsOf ∙ length-take-le (b .found) (b .places) (omega (arith, f .few, f .long))
+  list-length =
+      length-map (take (b .boxes) (b .places)) (λ (x : BoxSpread). x .bounds)
+      ∙ length-take-le (b .boxes) (b .places) (omega (arith, f .few, f .long))
 
   -- box i is the one at place i
-  pub list-item : (i : ℕ) → i < b .found → {x : Bounds} → x ≡ boundsOf (getD (b .places) i pastPlaces) → x ≡ getD boxes i noBox
-  unfolding listOf boundsOf
-  list-item i l e = e ∙ sym (List·getD-map boundsOf (take (b .found) (b .places)) i pastPlaces ∙ ap boundsOf (getD-take (b .found) (b .places) i pastPlaces l))
+  pub list-item : (i : ℕ) → i < b .boxes → {x : Bounds} → x ≡ getD (b .places) i noItem .bounds → x ≡ getD boxes i noBox
+  unfolding listOf
+  list-item i l e =
+      e
+      ∙ sym (List·getD-map (λ (x : BoxSpread). x .bounds) (take (b .boxes) (b .places)) i noItem
+      ∙ ap (λ (x : BoxSpread). x .bounds) (getD-take (b .boxes) (b .places) i noItem l))
 
   -- all of them
-  pub take-listed : {i : ℕ} → i ≡ b .found → take i boxes ≡ boxes
+  pub take-listed : {i : ℕ} → i ≡ b .boxes → take i boxes ≡ boxes
   take-listed {i} e = take-all i boxes (omega (arith, list-length))

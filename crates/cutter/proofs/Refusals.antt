@@ -7,31 +7,32 @@ use Prim.Native.Nat.{ℕ, _*_, _≤_, _<_}
 use native.Mathlib.Omega.{arith}
 use borrow.Author.Tests.{eq-eqb, ne-eqb, le-leb, lt-leb, leb-true, eqb-true, eqb-false, not-false}
 use lib.Dec.{eqb}
-use lib.ListN.{length}
-use Rattle.grid.specs.declared.Grid.{Grid}
-use Rattle.grid.specs.declared.Chosen.the-variants as chosen
-use Rattle.grid.specs.Answer.{refuse, whenDone}
+use Rattle.grid.specs.declared.place.Grid.{Grid}
+use Rattle.grid.specs.declared.place.Chosen.the-variants as chosen
+use Rattle.basics.specs.Answer.{refuse, whenDone}
 use Rattle.grid.specs.Grid.{gridOf, gridAnswer, onGrid, binsOf}
-use Rattle.grid.proofs.Range.{and-left, and-right}
-use Rattle.grid.proofs.Ends.{refused-keeps, passed}
-use Rattle.table.specs.Cell.{wide}
+use Rattle.basics.proofs.Range.{and-left, and-right}
+use Rattle.basics.proofs.Ends.{refused-keeps, passed}
+use Rattle.table.specs.Cell.{View}
+use Rattle.table.specs.Table.{tableLen, viewOf}
 use Rattle.table.specs.Sound.{limit, total, sound}
 use Rattle.rounds.specs.Loop.{boxesOf}
-use Rattle.cutter.specs.declared.CutRecord.{CutRecord}
-use Rattle.cutter.specs.Cut.{Buffers, Lengths, lengthsOf, longEnough, cutNumberOn, refusedRecord, doneRecord, recordOn, cutRecord, laterOn, cutLater, CanCut}
+use Rattle.cutter.specs.declared.call.CutRecord.{CutRecord}
+use Rattle.cutter.specs.Cut.{Buffers, Lengths, lengthsRight, longEnough, cutNumberOn, CanCut, LengthsFit}
+use Rattle.cutter.specs.Cut.{refusedRecord, doneRecord, recordOn, cutRecord, laterOn, cutLater}
 
 -- ---- the lengths
 module _ (g : Grid) (k table : ℕ) (l : Lengths) where
-  pub table-wrong : (table ≡ 5 * binsOf g → ⊥) → longEnough g k table l ≡ false
+  pub table-wrong : (table ≡ tableLen (binsOf g) → ⊥) → longEnough g k table l ≡ false
   unfolding longEnough
   table-wrong n = simp (ne-eqb _ _ n)
 
-  module _ (t : table ≡ 5 * binsOf g) where
-    pub work-wrong : (l .work ≡ 5 * binsOf g → ⊥) → longEnough g k table l ≡ false
+  module _ (t : table ≡ tableLen (binsOf g)) where
+    pub work-wrong : (l .work ≡ tableLen (binsOf g) → ⊥) → longEnough g k table l ≡ false
     unfolding longEnough
     work-wrong n = simp (eq-eqb _ _ t, ne-eqb _ _ n)
 
-    module _ (w : l .work ≡ 5 * binsOf g) where
+    module _ (w : l .work ≡ tableLen (binsOf g)) where
       pub palette-short : l .palette < 3 * k → longEnough g k table l ≡ false
       unfolding longEnough
       palette-short n = simp (eq-eqb _ _ t, eq-eqb _ _ w, lt-leb _ _ n)
@@ -46,31 +47,31 @@ module _ (g : Grid) (k table : ℕ) (l : Lengths) where
         only-map c = simp (eq-eqb _ _ t, eq-eqb _ _ w, le-leb _ _ p, le-leb _ _ c)
 
 -- ---- the chain
-module _ (g : Grid) (k : ℕ) (t : List ℕ) (l : Lengths) where
-  pub k-low : k < 1 → cutNumberOn limit g k t l ≡ 2
+module _ (limit : ℕ) (g : Grid) (k : ℕ) (fit : Bool) (v : View) where
+  pub k-low : k < 1 → cutNumberOn limit g k fit v ≡ 2
   unfolding cutNumberOn refuse
   k-low n = simp (lt-leb _ _ n)
 
-  pub k-high : 256 < k → cutNumberOn limit g k t l ≡ 2
+  pub k-high : 256 < k → cutNumberOn limit g k fit v ≡ 2
   unfolding cutNumberOn refuse
   k-high n = simp (le-leb 1 k (omega arith), lt-leb _ _ n)
 
   module _ (a : 1 ≤ k) (b : k ≤ 256) where
-    pub too-short : longEnough g k (length t) l ≡ false → cutNumberOn limit g k t l ≡ 5
+    pub too-short : fit ≡ false → cutNumberOn limit g k fit v ≡ 5
     unfolding cutNumberOn refuse
     too-short n = simp (le-leb _ _ a, le-leb _ _ b, n)
 
-    module _ (e : longEnough g k (length t) l ≡ true) where
-      pub not-sound : sound limit g (wide t) ≡ false → cutNumberOn limit g k t l ≡ 6
+    module _ (e : fit ≡ true) where
+      pub not-sound : sound limit g v ≡ false → cutNumberOn limit g k fit v ≡ 6
       unfolding cutNumberOn refuse
       not-sound n = simp (le-leb _ _ a, le-leb _ _ b, e, n)
 
-      module _ (s : sound limit g (wide t) ≡ true) where
-        pub no-total : total g (wide t) ≡ 0 → cutNumberOn limit g k t l ≡ 8
+      module _ (s : sound limit g v ≡ true) where
+        pub no-total : total g v ≡ 0 → cutNumberOn limit g k fit v ≡ 8
         unfolding cutNumberOn refuse
         no-total n = simp (le-leb _ _ a, le-leb _ _ b, e, s, eq-eqb _ _ n)
 
-        pub accepts : (total g (wide t) ≡ 0 → ⊥) → cutNumberOn limit g k t l ≡ 0
+        pub accepts : (total g v ≡ 0 → ⊥) → cutNumberOn limit g k fit v ≡ 0
         unfolding cutNumberOn refuse
         accepts n = simp (le-leb _ _ a, le-leb _ _ b, e, s, ne-eqb _ _ n)
 
@@ -78,34 +79,42 @@ module _ (g : Grid) (k : ℕ) (t : List ℕ) (l : Lengths) where
 both-true : (a b : Bool) → (a && b) ≡ true → (a ≡ true) × (b ≡ true)
 both-true a b e = (and-left a b e, and-right a b e)
 
-pub lent-table : (g : Grid) (k table : ℕ) (l : Lengths) → longEnough g k table l ≡ true → table ≡ 5 * binsOf g
+pub lengths-fit : {g : Grid} {k n : ℕ} {l : Lengths} → longEnough g k n l ≡ true → LengthsFit g k n l
 unfolding longEnough
-lent-table g k table l e = eqb-true _ _ (both-true _ _ e .0)
-
-pub can-cut : {g : Grid} {k : ℕ} {t : List ℕ} {l : Lengths} → cutNumberOn limit g k t l ≡ 0 → CanCut g k t l
-unfolding cutNumberOn longEnough
-can-cut {g} {k} {t} {l} e =
-    let size = passed _ 1 _ e in
-    let long = passed _ 4 _ (size .1) in
-    let good = passed _ 5 _ (long .1) in
-    let some = passed _ 7 _ (good .1) in
-    let bounds = both-true _ _ (not-false _ (size .0)) in
-    let one = both-true _ _ (not-false _ (long .0)) in
+lengths-fit e =
+    let one = both-true _ _ e in
     let two = both-true _ _ (one .1) in
     let three = both-true _ _ (two .1) in
     let four = both-true _ _ (three .1) in
-    let weight = eqb-false _ _ (some .0) in
     record {
-      least = leb-true _ _ (bounds .0);
-      most = leb-true _ _ (bounds .1);
       table = eqb-true _ _ (one .0);
       work = eqb-true _ _ (two .0);
       palette = leb-true _ _ (three .0);
       counts = leb-true _ _ (four .0);
       map = eqb-true _ _ (four .1);
-      is-sound = not-false _ (good .0);
-      some = positive _ weight;
     }
+
+pub fit-lengths : {g : Grid} {k n : ℕ} {l : Lengths} → LengthsFit g k n l → longEnough g k n l ≡ true
+fit-lengths {g} {k} {n} {l} f =
+    only-map g k n l (f .table) (f .work) (f .palette) (f .counts) ∙ eq-eqb _ _ (f .map)
+
+pub can-cut : {limit : ℕ} {g : Grid} {k : ℕ} {fit : Bool} {v : View} → cutNumberOn limit g k fit v ≡ 0
+    → CanCut limit g k v × (fit ≡ true)
+unfolding cutNumberOn
+can-cut e =
+    let size = passed _ 1 _ e in
+    let long = passed _ 4 _ (size .1) in
+    let good = passed _ 5 _ (long .1) in
+    let some = passed _ 7 _ (good .1) in
+    let bounds = both-true _ _ (not-false _ (size .0)) in (
+      record {
+        least = leb-true _ _ (bounds .0);
+        most = leb-true _ _ (bounds .1);
+        is-sound = not-false _ (good .0);
+        some = positive _ (eqb-false _ _ (some .0));
+      },
+      not-false _ (long .0),
+    )
   where
     positive : (n : ℕ) → (n ≡ 0 → ⊥) → 0 < n
     positive n h = omega arith
@@ -119,11 +128,15 @@ module _ (b1 b2 b3 k : ℕ) (t : List ℕ) (b : Buffers) where
   unfolding cutRecord cutLater onGrid gridAnswer
   cut-no-grid e q = (q ∙ rw e refl, rw e refl)
 
-  module _ {g : Grid} (e : gridOf b1 b2 b3 ≡ chosen.Of g) where
-    pub cut-refused : {n : ℕ} → n ≡ cutNumberOn limit g k t (lengthsOf b) → (n ≡ 0 → ⊥) → {r : CutRecord} → r ≡ refusedRecord n → Ends r b
+  module _ {g : Grid} (e : gridOf b1 b2 b3 ≡ chosen.Accepted g) where
+    pub cut-refused : {n : ℕ} → n ≡ cutNumberOn limit g k (lengthsRight g k t b) (viewOf t) → (n ≡ 0 → ⊥)
+        → {r : CutRecord}
+        → r ≡ refusedRecord n → Ends r b
     unfolding cutRecord cutLater recordOn onGrid
-    cut-refused {n} p h {r} q = (q ∙ rw (e, ← p) (refused-keeps n h (refusedRecord n) _), rw (e, ← p) (refused-keeps n h b _))
+    cut-refused {n} p h {r} q =
+        (q ∙ rw (e, ← p) (refused-keeps n h (refusedRecord n) _), rw (e, ← p) (refused-keeps n h b _))
 
-    pub cut-done : cutNumberOn limit g k t (lengthsOf b) ≡ 0 → {r : CutRecord} → r ≡ doneRecord (boxesOf g (wide t) k) → {l : Buffers} → l ≡ laterOn g k t b → Ends r l
+    pub cut-done : cutNumberOn limit g k (lengthsRight g k t b) (viewOf t) ≡ 0 → {r : CutRecord}
+        → r ≡ doneRecord (boxesOf g (viewOf t) k) → {l : Buffers} → l ≡ laterOn g (viewOf t) k b → Ends r l
     unfolding cutRecord cutLater recordOn onGrid whenDone
     cut-done p q s = (q ∙ rw (e, p) refl, s ∙ rw (e, p) refl)

@@ -1,92 +1,89 @@
--- The boxes of a loop as a list: each bin of the grid lies in exactly one of them, none is empty, and their counts add up to the total.
+-- The boxes of a loop as a list: each bin of the grid lies in exactly one of them, none is empty, and their counts add
+-- up to the total.
 -- Assumes nothing.
 use mathlib.Core.Path.{_≡_, refl, sym, ap, _∙_}
-use mathlib.Core.Bool.{Bool, cond, _&&_, and-true}
+use mathlib.Core.Bool.{cond}
 use mathlib.Core.List.{List, [], _∷_, map}
 use Prim.Native.Nat.{ℕ, zero, suc, _+_, _-_, _≤_, _<_}
 use native.Mathlib.Decide.{ℕ-discrete}
-use native.Mathlib.Nat.{pos-of-ne-zero, le-of-lt}
+use native.Mathlib.Nat.{pos-of-ne-zero}
 use native.Mathlib.Omega.{arith}
-use lib.Dec.{leb, ltb}
 use lib.ListN.{length, getD, take, length-map, List·getD-map}
 use lib.Seq.{getD-take, length-take-le}
-use Rattle.grid.specs.declared.Grid.{Grid}
-use Rattle.grid.specs.declared.Rgb.{Rgb}
-use Rattle.grid.specs.Range.{sumFrom, allFrom}
-use Rattle.grid.specs.Size.{binOf}
-use Rattle.grid.specs.Grid.{Accepted, choose, sizeAt, shiftAt, componentAt, binsOf, placeOf, binAt, colourPlace}
-use Rattle.grid.proofs.Range.{sum-shift, sum-same, hit, hit-yes, hit-no, sum-hit}
-use Rattle.grid.proofs.Places.{Bytes, place-lt, place-of-bins, bins-inside, colour-bin}
+use Rattle.rounds.specs.declared.gather.BoxSpread.{BoxSpread}
+use Rattle.grid.specs.declared.place.Grid.{Grid}
+use Rattle.basics.specs.Range.{sumFrom}
+use Rattle.grid.specs.Grid.{Accepted, binsOf, placeOf}
+use Rattle.basics.proofs.Range.{sum-shift, sum-same, hit, hit-yes, hit-no, sum-hit}
+use Rattle.grid.proofs.Places.{place-lt, place-of-bins, bins-inside}
 use Rattle.table.specs.Cell.{View}
 use Rattle.table.specs.Sound.{total}
 use Rattle.table.proofs.Soundness.{total-is}
-use Rattle.sums.specs.declared.Bounds.{Bounds}
-use Rattle.sums.specs.Box.{minAt, maxAt, binSum, boxSum, Within}
+use Rattle.boxes.specs.declared.sides.Bounds.{Bounds}
+use Rattle.boxes.specs.Box.{Within}
+use Rattle.sums.specs.Box.{binSum, boxSum}
 use Rattle.sums.proofs.Boxes.{sum3-same, sum3-plus, sum3-zero}
-use Rattle.sums.proofs.Corners.{sides}
+use Rattle.boxes.proofs.Within.{sides}
 use Rattle.sums.proofs.Laws.{cut-sum}
-use Rattle.sums.proofs.Loaded.{among, hit-box}
-use Rattle.heap.specs.Heap.{Item, Room, item, sumItems}
-use Rattle.rounds.specs.Loop.{noBox, noItem, wholeOf, heapOf}
+use Rattle.sums.proofs.Hits.{hit-box}
+use Rattle.heap.specs.Heap.{item, sumItems}
+use Rattle.boxes.specs.Box.{noBox}
+use Rattle.rounds.specs.Loop.{noItem, heapOf}
 use Rattle.rounds.proofs.Grids.{whole-sum}
 use Rattle.rounds.proofs.Filled.{heap-fit, heap-in-use}
 use Rattle.rounds.proofs.Cover.{over, over-heap}
-use Rattle.cutter.specs.Palette.{countOf, Occupied}
-use Rattle.cutter.specs.Map.{lies, holds, holding, Tiles}
-use Rattle.cutter.proofs.Held.{whole-holds, cut-holding}
+use Rattle.cutter.specs.Palette.{countOf}
+use Rattle.cutter.specs.Inner.{Occupied}
+use Rattle.boxes.specs.Holds.{holdsAt, holding, Tiles}
+use Rattle.boxes.proofs.Held.{whole-holds, cut-holding}
 
 -- the boxes of the first n places of a room
-abbrev pub boxesIn : Room Bounds → ℕ → List Bounds
-boxesIn h n = map (λ (i : Item Bounds). i .box) (take n h)
+abbrev pub boxesIn : List BoxSpread → ℕ → List Bounds
+boxesIn h n = map (λ (i : BoxSpread). i .bounds) (take n h)
 
 -- "Box i is the heap's place i": the boxes of a loop
 abbrev pub boxesFound : Grid → View → ℕ → List Bounds
-boxesFound g v k = boxesIn (heapOf g v k .room) (heapOf g v k .used)
+boxesFound g v k = boxesIn (heapOf g v k .room) (heapOf g v k .boxes)
 
 -- ---- one box after the other
-holding-sum : (g : Grid) (p : ℕ) (h : Room Bounds) → holding g (map (λ (i : Item Bounds). i .box) h) p ≡ sumItems (λ i. cond (holds g (i .box) p) 1 0) h
+holding-sum : (g : Grid) (p : ℕ) (h : List BoxSpread)
+    → holding g (map (λ (i : BoxSpread). i .bounds) h) p ≡ sumItems (λ i. cond (holdsAt g (i .bounds) p) 1 0) h
 unfolding holding sumItems
 holding-sum g p [] = refl
-holding-sum g p (x ∷ h) = ap (λ (n : ℕ). cond (holds g (x .box) p) 1 0 + n) (holding-sum g p h)
+holding-sum g p (x ∷ h) = ap (λ (n : ℕ). cond (holdsAt g (x .bounds) p) 1 0 + n) (holding-sum g p h)
 
-counts-sum : (g : Grid) (v : View) (h : Room Bounds)
-    → sumFrom 0 (length h) (λ i. countOf g v (getD (map (λ (x : Item Bounds). x .box) h) i noBox)) ≡ sumItems (λ x. boxSum g v (x .box) 0) h
+counts-sum : (g : Grid) (v : View) (h : List BoxSpread)
+    → sumFrom 0 (length h) (λ i. countOf g v (getD (map (λ (x : BoxSpread). x .bounds) h) i noBox))
+    ≡ sumItems (λ x. boxSum g v (x .bounds) 0) h
 unfolding countOf sumFrom sumItems
 counts-sum g v [] = refl
-counts-sum g v (x ∷ h) = ap (λ (n : ℕ). boxSum g v (x .box) 0 + n) (sum-shift 1 0 (length h) count ∙ (λ j. sumFrom 0 (length h) (λ i. count (next i j))) ∙ counts-sum g v h)
+counts-sum g v (x ∷ h) =
+    ap (λ (n : ℕ). boxSum g v (x .bounds) 0 + n)
+    (sum-shift 1 0 (length h) count ∙ (λ j. sumFrom 0 (length h) (λ i. count (next i j))) ∙ counts-sum g v h)
   where
     count : ℕ → ℕ
-    count i = countOf g v (getD (map (λ (y : Item Bounds). y .box) (x ∷ h)) i noBox)
+    count i = countOf g v (getD (map (λ (y : BoxSpread). y .bounds) (x ∷ h)) i noBox)
 
     next : (i : ℕ) → 1 + i ≡ suc i
     next i = omega arith
 
--- ---- the whole grid
-whole-low : (g : Grid) (d : ℕ) → minAt (wholeOf g) d ≡ 0
-unfolding minAt wholeOf choose
-whole-low g zero = refl
-whole-low g (suc zero) = refl
-whole-low g (suc (suc d)) = refl
-
-whole-high : (g : Grid) (d : ℕ) → maxAt (wholeOf g) d ≡ sizeAt g d
-unfolding maxAt wholeOf sizeAt
-whole-high g d = refl
-
 module _ (g : Grid) (v : View) (k : ℕ) (most : k ≤ 256) where
-  abbrev room : Room Bounds
+  abbrev room : List BoxSpread
   room = heapOf g v k .room
 
-  abbrev used : ℕ
-  used = heapOf g v k .used
+  abbrev many : ℕ
+  many = heapOf g v k .boxes
 
-  in-room : used ≤ length room
+  in-room : many ≤ length room
   in-room = let u = heap-in-use g v k most in omega (arith, u .long, u .most)
 
-  pub boxes-long : length (boxesFound g v k) ≡ used
-  boxes-long = length-map (take used room) (λ (i : Item Bounds). i .box) ∙ length-take-le used room in-room
+  pub boxes-long : length (boxesFound g v k) ≡ many
+  boxes-long = length-map (take many room) (λ (i : BoxSpread). i .bounds) ∙ length-take-le many room in-room
 
-  pub box-at : (i : ℕ) → i < used → getD (boxesFound g v k) i noBox ≡ item noItem room i .box
-  box-at i h = List·getD-map (λ (x : Item Bounds). x .box) (take used room) i noItem ∙ ap (λ (x : Item Bounds). x .box) (getD-take used room i noItem h)
+  pub box-at : (i : ℕ) → i < many → getD (boxesFound g v k) i noBox ≡ item noItem room i .bounds
+  box-at i h =
+      List·getD-map (λ (x : BoxSpread). x .bounds) (take many room) i noItem
+      ∙ ap (λ (x : BoxSpread). x .bounds) (getD-take many room i noItem h)
 
   -- each bin of the grid lies in exactly one box
   pub tiles : Accepted g → Tiles g (boxesFound g v k)
@@ -94,69 +91,45 @@ module _ (g : Grid) (v : View) (k : ℕ) (most : k ≤ 256) where
   tiles a =
       record {
         once = λ p h.
-            holding-sum g p (take used room)
-            ∙ over-heap {f = λ x. cond (holds g x p) 1 0} (record { adds = λ x d c l m. cut-holding g x d c l m p }) g v k most
-            ∙ rw (whole-holds a (wholeOf g) (whole-low g) (whole-high g) p h) refl;
+            holding-sum g p (take many room)
+            ∙ over-heap {f = λ x. cond (holdsAt g x p) 1 0} (record { adds = λ x d c l m. cut-holding g x d c l m p }) g
+            v k most
+            ∙ rw (whole-holds a p h) refl;
       }
 
   -- no box is empty
-  pub all-occupied : Accepted g → 0 < total g v → (i : ℕ) → i < used → Occupied g v (getD (boxesFound g v k) i noBox)
+  pub all-occupied : Accepted g → 0 < total g v → (i : ℕ) → i < many → Occupied g v (getD (boxesFound g v k) i noBox)
   all-occupied a some i h =
       let fit = heap-fit a some k most .each i h in
       rw (box-at i h) (record { within = fit .within; some = pos-of-ne-zero (fit .some) })
 
   -- the counts add up to the total
-  pub counts-total : sumFrom 0 used (λ i. countOf g v (getD (boxesFound g v k) i noBox)) ≡ total g v
+  pub counts-total : sumFrom 0 many (λ i. countOf g v (getD (boxesFound g v k) i noBox)) ≡ total g v
   unfolding over
   counts-total =
-      ap (λ (n : ℕ). sumFrom 0 n (λ i. countOf g v (getD (boxesFound g v k) i noBox))) (sym (length-take-le used room in-room))
-      ∙ counts-sum g v (take used room)
+      ap (λ (n : ℕ). sumFrom 0 n (λ i. countOf g v (getD (boxesFound g v k) i noBox)))
+      (sym (length-take-le many room in-room))
+      ∙ counts-sum g v (take many room)
       ∙ over-heap {f = λ x. boxSum g v x 0} (record { adds = λ x d c h l. cut-sum g v x d c 0 h l }) g v k most
       ∙ whole-sum g v 0
       ∙ sym (total-is g v)
 
--- ---- a bin lies in a box where the box holds its place
-run-lies : (low end n : ℕ) → low ≤ end → lies low end n ≡ among low (end - low) n
-unfolding lies
-run-lies low end n h = ap (λ (m : ℕ). leb low n && ltb n m) there
-  where
-    there : end ≡ low + (end - low)
-    there = omega arith
-
-holds-bins : {g : Grid} {x : Bounds} → Within g x → (p : ℕ)
-    → holds g x p
-    ≡ (among (x .r0) (x .r1 - x .r0) (binAt g 0 p) && (among (x .g0) (x .g1 - x .g0) (binAt g 1 p) && among (x .b0) (x .b1 - x .b0) (binAt g 2 p)))
-unfolding holds allFrom minAt maxAt choose
-holds-bins {g} {x} w p =
-    let s = sides w in
-    λ i.
-    run-lies (x .r0) (x .r1) (binAt g 0 p) (le-of-lt (s .one)) i
-    && (run-lies (x .g0) (x .g1) (binAt g 1 p) (le-of-lt (s .two)) i
-    && (and-true (lies (x .b0) (x .b1) (binAt g 2 p)) ∙ run-lies (x .b0) (x .b1) (binAt g 2 p) (le-of-lt (s .three))) i)
-
-pub holds-colour : {g : Grid} {x : Bounds} → Within g x → {c : Rgb} → Bytes c
-    → holds g x (colourPlace g c)
-    ≡ (among (x .r0) (x .r1 - x .r0) (binOf (g .s1) (c .c1)) && (among (x .g0) (x .g1 - x .g0) (binOf (g .s2) (c .c2)) && among (x .b0) (x .b1 - x .b0) (binOf (g .s3) (c .c3))))
-unfolding shiftAt componentAt choose
-holds-colour {g} {x} w {c} b =
-    let bin = colour-bin (w .accepted) b in
-    holds-bins w (colourPlace g c)
-    ∙ (λ i. among (x .r0) (x .r1 - x .r0) (bin 0 i) && (among (x .g0) (x .g1 - x .g0) (bin 1 i) && among (x .b0) (x .b1 - x .b0) (bin 2 i)))
-
 -- ---- the sum of a box is that over the places which it holds
 module _ {g : Grid} {x : Bounds} (w : Within g x) (v : View) (j : ℕ) where
   abbrev held : ℕ → ℕ
-  held q = cond (holds g x q) (v q j) 0
+  held q = cond (holdsAt g x q) (v q j) 0
 
   one-place : (q : ℕ) → q < binsOf g → boxSum g (λ p i. hit q p (v q j)) x j ≡ held q
+  unfolding holdsAt
   one-place q h =
       ap (λ (s : ℕ). boxSum g (λ p i. hit s p (v q j)) x j) (sym (place-of-bins g q))
       ∙ hit-box w (bins-inside (w .accepted) q h) (v q j) j
-      ∙ ap (λ (b : Bool). cond b (v q j) 0) (sym (holds-bins w q))
 
-  some-places : (i n : ℕ) → i + n ≤ binsOf g → boxSum g (λ p k. sumFrom i n (λ q. hit q p (v q j))) x j ≡ sumFrom i n held
+  some-places : (i n : ℕ) → i + n ≤ binsOf g
+      → boxSum g (λ p k. sumFrom i n (λ q. hit q p (v q j))) x j ≡ sumFrom i n held
   unfolding boxSum binSum sumFrom
-  some-places i zero h = sum3-zero (x .r0) (x .r1 - x .r0) (x .g0) (x .g1 - x .g0) (x .b0) (x .b1 - x .b0) _ (λ r gr z a b c d e f. refl)
+  some-places i zero h =
+      sum3-zero (x .r0) (x .r1 - x .r0) (x .g0) (x .g1 - x .g0) (x .b0) (x .b1 - x .b0) _ (λ r gr z a b c d e f. refl)
   some-places i (suc n) h =
       sum3-plus (x .r0) (x .r1 - x .r0) (x .g0) (x .g1 - x .g0) (x .b0) (x .b1 - x .b0)
       (λ r gr z. hit i (placeOf g r gr z) (v i j)) (λ r gr z. sumFrom (suc i) n (λ q. hit q (placeOf g r gr z) (v q j)))
@@ -172,12 +145,20 @@ module _ {g : Grid} {x : Bounds} (w : Within g x) (v : View) (j : ℕ) where
       turned q (yes e) = hit-yes p q (v p j) e ∙ ap (λ (r : ℕ). v r j) e ∙ sym (hit-yes q p (v q j) (sym e))
       turned q (no n) = hit-no p q (v p j) n ∙ sym (hit-no q p (v q j) (λ e. n (sym e)))
 
-  pub sum-of-held : boxSum g v x j ≡ sumFrom 0 (binsOf g) (λ p. cond (holds g x p) (v p j) 0)
+  pub sum-of-held : boxSum g v x j ≡ sumFrom 0 (binsOf g) (λ p. cond (holdsAt g x p) (v p j) 0)
   unfolding boxSum binSum
   sum-of-held =
       let e = sides w in
-      sum3-same (x .r0) (x .r1 - x .r0) (x .g0) (x .g1 - x .g0) (x .b0) (x .b1 - x .b0) (λ r gr z. v (placeOf g r gr z) j) (λ r gr z. sumFrom 0 (binsOf g) (λ q. hit q (placeOf g r gr z) (v q j)))
+      sum3-same (x .r0) (x .r1 - x .r0) (x .g0) (x .g1 - x .g0) (x .b0) (x .b1 - x .b0)
+      (λ r gr z. v (placeOf g r gr z) j) (λ r gr z. sumFrom 0 (binsOf g) (λ q. hit q (placeOf g r gr z) (v q j)))
       (λ r gr z h k l.
       at-place (placeOf g r gr z)
-      (place-lt (record { accepted = w .accepted; one = omega (arith, e .one, e .one-fits); two = omega (arith, e .two, e .two-fits); three = omega (arith, e .three, e .three-fits) })))
+      (place-lt
+      (record {
+        accepted = w .accepted;
+        one = omega (arith, e .one, e .one-fits);
+        two = omega
+            (arith, e .two, e .two-fits);
+        three = omega (arith, e .three, e .three-fits);
+      })))
       ∙ some-places 0 (binsOf g) (omega arith)

@@ -2,3 +2,4 @@ pub mod Fronts
 pub mod Palette
 pub mod Map
 pub mod Cut
+pub mod Inner

@@ -1,16 +1,15 @@
 -- Palette and counts of a list of boxes (document 01, "Results"). Definitions only.
 use mathlib.Core.Bool.{cond}
 use mathlib.Core.List.{List, [], _∷_}
-use Prim.Native.Nat.{ℕ, _*_, _/_, _≤_, _<_}
+use Prim.Native.Nat.{ℕ, _*_, _/_}
 use lib.Dec.{ltb}
 use lib.ListN.{length, take}
-use Rattle.grid.specs.declared.Grid.{Grid}
-use Rattle.grid.specs.declared.Rgb.{Rgb}
+use Rattle.grid.specs.declared.place.Grid.{Grid}
+use Rattle.pixels.specs.declared.colour.Rgb.{Rgb}
 use Rattle.table.specs.Cell.{View}
-use Rattle.sums.specs.declared.Bounds.{Bounds}
-use Rattle.sums.specs.declared.Stats.{Stats}
-use Rattle.sums.specs.Box.{boxSum, Within}
-use Rattle.cutter.specs.Fronts.{flat, filled, putFrom}
+use Rattle.boxes.specs.declared.sides.Bounds.{Bounds}
+use Rattle.sums.specs.Box.{boxSum}
+use Rattle.cutter.specs.Fronts.{joinAll, filled}
 
 -- a "sum divided by n, rounded down"
 unfoldable pub meanOf : ℕ → ℕ → ℕ
@@ -42,7 +41,7 @@ itsCount g v x = countOf g v x ∷ []
 
 -- the colours of boxes, one after the other
 unfoldable pub coloursOf : Grid → View → List Bounds → List ℕ
-coloursOf g v xs = flat (itsColour g v) xs
+coloursOf g v xs = joinAll (itsColour g v) xs
 
 -- "Places past the filled front of palette and counts stay"
 unfoldable pub paletteLater : Grid → View → List Bounds → List ℕ → List ℕ
@@ -51,32 +50,7 @@ paletteLater g v xs old = filled 3 (itsColour g v) xs old
 unfoldable pub countsLater : Grid → View → List Bounds → List ℕ → List ℕ
 countsLater g v xs old = filled 1 (itsCount g v) xs old
 
--- "the filled front of the lent palette as a part of it; if the palette is too short for that number, the part is empty"
+-- "the filled front of the lent palette as a part of it; if the palette is too short for that number, the part is
+-- empty"
 unfoldable pub frontOf : List ℕ → ℕ → List ℕ
 frontOf palette boxes = cond (ltb (length palette) (3 * boxes)) [] (take (3 * boxes) palette)
-
--- ---- one box
--- the colour of a box with these statistics
-unfoldable pub statsColour : Stats → Rgb
-statsColour s =
-    record {
-      c1 = meanOf (s .sum1) (s .weight);
-      c2 = meanOf (s .sum2) (s .weight);
-      c3 = meanOf (s .sum3) (s .weight);
-    }
-
--- statistics with some weight, whose means are bytes
-pub record Coloured (s : Stats) : Type 0 where
-  pub some : 0 < s .weight
-  pub one : s .sum1 ≤ 255 * s .weight
-  pub two : s .sum2 ≤ 255 * s .weight
-  pub three : s .sum3 ≤ 255 * s .weight
-
--- a box of the grid with some weight
-pub record Occupied (g : Grid) (v : View) (x : Bounds) : Type 0 where
-  pub within : Within g x
-  pub some : 0 < boxSum g v x 0
-
--- a palette with a colour at place i
-unfoldable pub withColourAt : List ℕ → ℕ → Rgb → List ℕ
-withColourAt palette i c = putFrom palette (3 * i) (bytesOf c)

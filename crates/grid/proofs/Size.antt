@@ -4,14 +4,15 @@ use mathlib.Core.Path.{_≡_, refl, sym, ap, _∙_}
 use mathlib.Core.Bool.{Bool, true, false, cond, _&&_}
 use mathlib.Core.List.{List, [], _∷_}
 use Prim.Native.Nat.{ℕ, suc, _+_, _-_, _*_, _%_, _^_, _≤_, _<_}
-use native.Mathlib.Nat.{mul-le-mul-left, mul-le-mul-right, div-lt-iff-lt-mul, div-mul-le-self, lt-div-mul-add, div-eq-of-lt-le, suc-mul, add-mul, one-mul, mod-eq-of-lt, lt-of-mul-lt-mul-right}
+use native.Mathlib.Nat.{mul-le-mul-left, mul-le-mul-right, div-lt-iff-lt-mul, div-mul-le-self, lt-div-mul-add}
+use native.Mathlib.Nat.{div-eq-of-lt-le, suc-mul, add-mul, one-mul, mod-eq-of-lt, lt-of-mul-lt-mul-right}
 use native.Mathlib.Omega.{arith}
 use borrow.Author.Tests.{eqb-true, leb-true}
 use lib.Dec.{eqb, leb}
 use lib.Pow.{pow-pos, pow-mono, pow-add, pow-lt}
-use Rattle.grid.specs.declared.Shift.the-variants.{By, Refused}
+use Rattle.grid.specs.declared.dimension.Shift.the-variants.{By, Refused}
 use Rattle.grid.specs.Size.{choices, shiftIn, shiftOf, binOf, spanOf, InSize}
-use Rattle.grid.proofs.Range.{and-left, and-right}
+use Rattle.basics.proofs.Range.{and-left, and-right}
 
 pub record Sized (size shift : ℕ) : Type 0 where
   pub whole : size * 2 ^ shift ≡ 256
@@ -45,7 +46,8 @@ sized-in [] t size shift e = absurd (never e)
 sized-in (c ∷ cs) t size shift e =
     go (eqb size (c .0)) refl e (sized-in cs (and-right (fair c) (right cs) t) size shift)
   where
-    go : (b : Bool) → eqb size (c .0) ≡ b → cond b (By (c .1)) (shiftIn cs size) ≡ By shift → (shiftIn cs size ≡ By shift → Sized size shift) → Sized size shift
+    go : (b : Bool) → eqb size (c .0) ≡ b → cond b (By (c .1)) (shiftIn cs size) ≡ By shift
+        → (shiftIn cs size ≡ By shift → Sized size shift) → Sized size shift
     go true q p later =
         let s : shift ≡ c .1 = cc in
         rw (s, eqb-true size (c .0) q) (fair-sized c (and-left (fair c) (right cs) t))
@@ -81,7 +83,14 @@ module _ {size shift : ℕ} (s : Sized size shift) where
   in-size bin h =
       record {
         shift-below = omega arith;
-        bin-below = omega (arith, mul-le-mul-right {m = suc bin} {n = size} (2 ^ shift) h, suc-mul bin (2 ^ shift), s .whole, width-low);
+        bin-below =
+            omega (
+              arith,
+              mul-le-mul-right {m = suc bin} {n = size} (2 ^ shift) h,
+              suc-mul bin (2 ^ shift),
+              s .whole,
+              width-low,
+            );
       }
 
 -- no value of a byte's bin is above 255
@@ -91,7 +100,12 @@ span-byte shift bin h =
     let split : 2 ^ (8 - shift) * 2 ^ shift ≡ 256 =
     sym (pow-add 2 (8 - shift) shift) ∙ ap (λ (k : ℕ). 2 ^ k) (eight shift (h .shift-below)) in
     let below : bin < 2 ^ (8 - shift) = lt-of-mul-lt-mul-right (2 ^ shift) (rw split (h .bin-below)) in
-    omega (arith, mul-le-mul-right {m = suc bin} {n = 2 ^ (8 - shift)} (2 ^ shift) below, suc-mul bin (2 ^ shift), pow-pos shift)
+    omega (
+      arith,
+      mul-le-mul-right {m = suc bin} {n = 2 ^ (8 - shift)} (2 ^ shift) below,
+      suc-mul bin (2 ^ shift),
+      pow-pos shift,
+    )
   where
     eight : (s : ℕ) → s < 8 → (8 - s) + s ≡ 8
     eight s l = omega arith

@@ -1,37 +1,28 @@
 -- Grids, bins and their places (document 01, "Grid and table"). Definitions only.
 use mathlib.Core.Path.{_≡_}
 use mathlib.Core.List.{List, [], _∷_}
-use Prim.Native.Nat.{ℕ, zero, suc, _+_, _*_, _/_, _%_, _<_}
-use lib.ListN.{getD}
-use Rattle.grid.specs.declared.Grid.{Grid}
-use Rattle.grid.specs.declared.Rgb.{Rgb}
-use Rattle.grid.specs.declared.Shift.{Shift}
-use Rattle.grid.specs.declared.Chosen.{Chosen}
-use Rattle.grid.specs.Range.{listFrom}
-use Rattle.grid.specs.Answer.{Answer}
+use Prim.Native.Nat.{ℕ, _+_, _*_, _/_, _%_, _<_}
+use Rattle.grid.specs.declared.place.Grid.{Grid}
+use Rattle.pixels.specs.declared.colour.Rgb.{Rgb}
+use Rattle.grid.specs.declared.dimension.Shift.{Shift}
+use Rattle.grid.specs.declared.place.Chosen.{Chosen}
+use Rattle.basics.specs.Range.{listFrom}
+use Rattle.basics.specs.Answer.{Answer}
+use Rattle.basics.specs.Dimension.{choose}
 use Rattle.grid.specs.Size.{shiftOf, binOf}
-use Rattle.grid.specs.declared.Shift.the-variants as shift
-use Rattle.grid.specs.declared.Chosen.the-variants as chosen
-
--- of three, the one of dimension 0, 1 or 2
-unfoldable pub choose : {A : Type 0} → ℕ → A → A → A → A
-choose zero x y z = x
-choose (suc zero) x y z = y
-choose (suc (suc d)) x y z = z
+use Rattle.grid.specs.declared.dimension.Shift.the-variants as shift
+use Rattle.grid.specs.declared.place.Chosen.the-variants as chosen
 
 unfoldable pub sizeAt : Grid → ℕ → ℕ
-sizeAt g d = choose d (g .b1) (g .b2) (g .b3)
+sizeAt g d = choose d (g .size1) (g .size2) (g .size3)
 
 unfoldable pub shiftAt : Grid → ℕ → ℕ
-shiftAt g d = choose d (g .s1) (g .s2) (g .s3)
-
-unfoldable pub componentAt : Rgb → ℕ → ℕ
-componentAt x d = choose d (x .c1) (x .c2) (x .c3)
+shiftAt g d = choose d (g .shift1) (g .shift2) (g .shift3)
 
 -- three sizes with their shifts, or the refusal
 unfoldable pub gridWith : ℕ → ℕ → ℕ → Shift → Shift → Shift → Chosen
 gridWith b1 b2 b3 (shift.By s1) (shift.By s2) (shift.By s3) =
-    chosen.Of (record { s1 = s1; s2 = s2; s3 = s3; b1 = b1; b2 = b2; b3 = b3 })
+    chosen.Accepted (record { shift1 = s1; shift2 = s2; shift3 = s3; size1 = b1; size2 = b2; size3 = b3 })
 gridWith b1 b2 b3 (shift.By s1) (shift.By s2) shift.Refused = chosen.Refused
 gridWith b1 b2 b3 (shift.By s1) shift.Refused t = chosen.Refused
 gridWith b1 b2 b3 shift.Refused t u = chosen.Refused
@@ -42,17 +33,17 @@ gridOf b1 b2 b3 = gridWith b1 b2 b3 (shiftOf b1) (shiftOf b2) (shiftOf b3)
 
 -- "`rgb()` is 16, 32, 16": the grid that gridOf answers for these (`rgb-accepted`)
 unfoldable pub rgbGrid : Grid
-rgbGrid = record { s1 = 4; s2 = 3; s3 = 4; b1 = 16; b2 = 32; b3 = 16 }
+rgbGrid = record { shift1 = 4; shift2 = 3; shift3 = 4; size1 = 16; size2 = 32; size3 = 16 }
 
 -- the number and the values of each case
 unfoldable pub gridAnswer : Chosen → Answer
-gridAnswer (chosen.Of g) =
-    record { number = 0; values = g .s1 ∷ g .s2 ∷ g .s3 ∷ g .b1 ∷ g .b2 ∷ g .b3 ∷ [] }
+gridAnswer (chosen.Accepted g) =
+    record { number = 0; values = g .shift1 ∷ g .shift2 ∷ g .shift3 ∷ g .size1 ∷ g .size2 ∷ g .size3 ∷ [] }
 gridAnswer chosen.Refused = record { number = 1; values = [] }
 
 -- what a call gives on an accepted grid, and what it gives where the grid is refused
 unfoldable pub onGrid : {A : Type 0} → Chosen → A → (Grid → A) → A
-onGrid (chosen.Of g) refused f = f g
+onGrid (chosen.Accepted g) refused f = f g
 onGrid chosen.Refused refused f = refused
 
 -- the number of a call: the grid's refusal first
@@ -64,35 +55,30 @@ pub record Accepted (g : Grid) : Type 0 where
   pub size : (d : ℕ) → shiftOf (sizeAt g d) ≡ shift.By (shiftAt g d)
 
 unfoldable pub binsOf : Grid → ℕ
-binsOf g = g .b1 * g .b2 * g .b3
+binsOf g = g .size1 * g .size2 * g .size3
 
 -- "Bin (r, g, b) stands at place (r·B2 + g)·B3 + b"
 unfoldable pub placeOf : Grid → ℕ → ℕ → ℕ → ℕ
-placeOf g r gr b = (r * g .b2 + gr) * g .b3 + b
+placeOf g r gr b = (r * g .size2 + gr) * g .size3 + b
 
 -- the bin at a place, in dimension d
 unfoldable pub binAt : Grid → ℕ → ℕ → ℕ
-binAt g d p = choose d (p / g .b3 / g .b2) (p / g .b3 % g .b2) (p % g .b3)
+binAt g d p = choose d (p / g .size3 / g .size2) (p / g .size3 % g .size2) (p % g .size3)
 
 -- an accepted grid, and a bin of it
 pub record Inside (g : Grid) (r gr b : ℕ) : Type 0 where
   pub accepted : Accepted g
-  pub one : r < g .b1
-  pub two : gr < g .b2
-  pub three : b < g .b3
+  pub one : r < g .size1
+  pub two : gr < g .size2
+  pub three : b < g .size3
 
 -- the place of a colour's bin
 unfoldable pub colourPlace : Grid → Rgb → ℕ
-colourPlace g x = placeOf g (binOf (g .s1) (x .c1)) (binOf (g .s2) (x .c2)) (binOf (g .s3) (x .c3))
-
--- colour i of a row of bytes
-unfoldable pub colourAt : List ℕ → ℕ → Rgb
-colourAt bytes i =
-    record { c1 = getD bytes (3 * i) 0; c2 = getD bytes (3 * i + 1) 0; c3 = getD bytes (3 * i + 2) 0 }
+colourPlace g x = placeOf g (binOf (g .shift1) (x .c1)) (binOf (g .shift2) (x .c2)) (binOf (g .shift3) (x .c3))
 
 -- what one bin more in dimension d adds to the place
 unfoldable pub strideAt : Grid → ℕ → ℕ
-strideAt g d = choose d (g .b2 * g .b3) (g .b3) 1
+strideAt g d = choose d (g .size2 * g .size3) (g .size3) 1
 
 -- for each value of a component, what its bin in dimension d adds to the place
 unfoldable pub stepsOf : Grid → ℕ → List ℕ

@@ -3,10 +3,10 @@ use mathlib.Core.Bool.{cond}
 use mathlib.Core.List.{List, [], _∷_}
 use Prim.Native.Nat.{ℕ, _+_, _-_, _*_, _/_, _^_, _<_}
 use lib.Dec.{eqb}
-use Rattle.grid.specs.declared.Shift.{Shift}
-use Rattle.grid.specs.declared.Shift.the-variants.{By, Refused}
-use Rattle.grid.specs.declared.Span.{Span}
-use Rattle.grid.specs.Answer.{Answer}
+use Rattle.grid.specs.declared.dimension.Shift.{Shift}
+use Rattle.grid.specs.declared.dimension.Shift.the-variants.{By, Refused}
+use Rattle.grid.specs.declared.dimension.Span.{Span}
+use Rattle.basics.specs.Answer.{Answer}
 
 -- "each chosen by cases from 2, 4, 8, 16, 32, 64, 128", and the shift that goes with each
 unfoldable pub choices : List (ℕ × ℕ)

@@ -1,6 +1,6 @@
 pub mod Cases
 pub mod Steps
-pub mod Lent
+pub mod TwoArrays
 pub mod Keeps
 pub mod View
 pub mod Order

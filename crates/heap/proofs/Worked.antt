@@ -1,4 +1,5 @@
--- Worked examples, computed on the definitions: ties, a lone left child, an element that climbs back, numbers that are none.
+-- Worked examples, computed on the definitions: ties, a lone left child, an element that climbs back, numbers that are
+-- none.
 -- Assumes nothing.
 use mathlib.Core.Path.{_≡_, refl}
 use mathlib.Core.Bool.{false}
@@ -6,29 +7,29 @@ use mathlib.Core.List.{List, [], _∷_, map}
 use Prim.Native.Nat.{ℕ, suc, _-_}
 use lib.IntN.{pos}
 use lib.Ieee.{Float, nan, fin, lt, eq, le}
-use Rattle.heap.specs.Heap.{Item, Room, climb, putIn, sink, enter, takeOut}
-use Rattle.heap.specs.Lent.{noItem}
+use Rattle.heap.specs.Heap.{climb, putIn, sink, enter, takeOut}
+use Rattle.heap.specs.TwoArrays.{PackedBox, bySpread, noItem}
 
 -- a whole number as a spread
 number : ℕ → Float
 number n = fin false n (pos 0)
 
 -- a box is a number of its own, so that equal spreads can be told apart
-of : ℕ → Float → Item ℕ
+of : ℕ → Float → PackedBox
 of box spread = record { spread = spread; box = box }
 
 data Step : Type 0 where
-  put : Item ℕ → Step
+  put : PackedBox → Step
   take : Step
 
 -- the room after some steps, from n places in use
-after : Room ℕ → ℕ → List Step → Room ℕ
+after : List PackedBox → ℕ → List Step → List PackedBox
 after h n [] = h
-after h n (put x ∷ steps) = after (putIn noItem h n x) (suc n) steps
-after h n (take ∷ steps) = after (takeOut noItem h n) (n - 1) steps
+after h n (put x ∷ steps) = after (putIn bySpread noItem h n x) (suc n) steps
+after h n (take ∷ steps) = after (takeOut bySpread noItem h n) (n - 1) steps
 
 record Case : Type 0 where
-  room : Room ℕ
+  room : List PackedBox
   used : ℕ
   steps : List Step
   expected : List ℕ
@@ -58,7 +59,8 @@ cases =
     }
     -- the hole sinks past smaller elements, and the carried one climbs back over one of them
     ∷ record {
-      room = of 1 (number 9) ∷ of 2 (number 7) ∷ of 3 (number 5) ∷ of 4 (number 1) ∷ of 5 (number 1) ∷ of 6 (number 3) ∷ [];
+      room = of 1 (number 9) ∷ of 2 (number 7) ∷ of 3 (number 5) ∷ of 4 (number 1) ∷ of 5 (number 1) ∷ of 6
+          (number 3) ∷ [];
       used = 6;
       steps = take ∷ [];
       expected = 2 ∷ 6 ∷ 3 ∷ 4 ∷ 5 ∷ 6 ∷ [];

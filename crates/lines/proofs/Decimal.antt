@@ -48,7 +48,8 @@ same = by-tenths (λ n. (j k : ℕ) → n < j → n < k → digitsWithin j n ≡
         → (j k : ℕ) → n < j → n < k → digitsWithin j n ≡ digitsWithin k n
     large n h front (suc j) (suc k) a b =
         let t = tenth h in
-        more j n h ∙ ap (λ (l : List ℕ). l ++ (48 + n % 10) ∷ []) (front j k (omega arith) (omega arith)) ∙ sym (more k n h)
+        more j n h ∙ ap (λ (l : List ℕ). l ++ (48 + n % 10) ∷ []) (front j k (omega arith) (omega arith))
+        ∙ sym (more k n h)
     large n h front zero k a b = absurd (omega arith)
     large n h front (suc j) zero a b = absurd (omega arith)
 
@@ -72,7 +73,8 @@ decimal-length = by-tenths (λ n. (k : ℕ) → n < 10 ^ suc k → length (decim
         → (k : ℕ) → n < 10 ^ suc k → length (decimalOf n) ≤ suc k
     large n h front zero l = absurd (omega arith)
     large n h front (suc k) l =
-        let f = front k (div-lt-iff-lt-mul {k = 10} {x = n} {y = 10 ^ suc k} (omega arith) .1 (rw (pow-suc 10 (suc k)) at l)) in
+        let f = front k
+        (div-lt-iff-lt-mul {k = 10} {x = n} {y = 10 ^ suc k} (omega arith) .1 (rw (pow-suc 10 (suc k)) at l)) in
         rw (decimal-more n h, length-append) (omega arith)
 
 -- no u64 has more than 20
@@ -86,7 +88,8 @@ decimal-fewest = by-tenths (λ n. 0 < n → 10 ^ length (decimalOf n) ≤ 10 * n
     small : (n : ℕ) → n < 10 → 0 < n → 10 ^ length (decimalOf n) ≤ 10 * n
     small n h some = rw (decimal-one n h) (omega arith)
 
-    large : (n : ℕ) → 10 ≤ n → (0 < n / 10 → 10 ^ length (decimalOf (n / 10)) ≤ 10 * (n / 10)) → 0 < n → 10 ^ length (decimalOf n) ≤ 10 * n
+    large : (n : ℕ) → 10 ≤ n → (0 < n / 10 → 10 ^ length (decimalOf (n / 10)) ≤ 10 * (n / 10)) → 0 < n
+        → 10 ^ length (decimalOf n) ≤ 10 * n
     large n h front some =
         let d = div-add-mod' n 10 in
         let m = mod-lt n {m = 10} (omega arith) in

@@ -7,7 +7,7 @@ use native.Mathlib.Omega.{arith}
 use lib.ListN.{length, drop, set, length-append}
 use lib.Seq.{sets, sets-eq, length-sets}
 use Rattle.lines.specs.Text.{withText}
-use Rattle.lines.specs.Put.{Put}
+use Rattle.lines.specs.Inner.{Put}
 
 sets-append : (a : List ℕ) (i : ℕ) (xs ys : List ℕ) → sets (sets a i xs) (i + length xs) ys ≡ sets a i (xs ++ ys)
 sets-append a i [] ys = ap (λ (k : ℕ). sets a k ys) (omega arith)
@@ -32,7 +32,8 @@ pub put-length : {a : List ℕ} {i : ℕ} {xs b : List ℕ} {j : ℕ} → Put a 
 put-length {a} {i} {xs} p = ap length (p .later) ∙ length-sets a i xs
 
 -- a text put at the start of a buffer that has room for it
-pub put-whole : {a xs b : List ℕ} {j : ℕ} → Put a 0 xs b j → j ≤ length a → (j ≡ length xs) × ((b ≡ withText xs a) × (j ≤ length b))
+pub put-whole : {a xs b : List ℕ} {j : ℕ} → Put a 0 xs b j → j ≤ length a
+    → (j ≡ length xs) × ((b ≡ withText xs a) × (j ≤ length b))
 unfolding withText
 put-whole {a} {xs} {b} {j} p h =
     let e : 0 + length xs ≡ length xs = omega arith in

@@ -1,12 +1,14 @@
 -- Laws of what the program says: the lower of two numbers, and the text by the number so far and that of the cut.
 -- Assumes nothing.
-use mathlib.Core.Path.{_≡_, refl, sym}
+use mathlib.Core.Path.{_≡_, refl, sym, ap}
 use mathlib.Core.List.{List}
-use Prim.Native.Nat.{ℕ, zero, suc, _≤_, _<_}
+use Prim.Native.Nat.{ℕ, zero, suc, _*_, _≤_, _<_}
 use native.Mathlib.Omega.{arith}
-use Rattle.grid.specs.Answer.{whenDone}
-use Rattle.cutter.specs.declared.CutRecord.{CutRecord}
-use Rattle.cutter.specs.Cut.{Buffers, cutRecord, cutLater}
+use lib.ListN.{replicate}
+use Rattle.basics.specs.Answer.{whenDone}
+use Rattle.table.proofs.Tables.{wide-empty}
+use Rattle.cutter.specs.declared.call.CutRecord.{CutRecord}
+use Rattle.cutter.specs.Cut.{Buffers, buffers, cutRecord, cutLater}
 use Rattle.lines.specs.Text.{listingOf, refusedOf}
 use Rattle.lines.specs.Listing.{lowerOf, lentZeros, cutText, textOf}
 
@@ -54,12 +56,20 @@ pub text-cut : (n : ℕ) (t : List ℕ) → n ≡ 0 → textOf n t ≡ cutText t
 unfolding textOf
 text-cut n t e = when-done n _ _ e
 
+-- what the code lends
+pub lent-zeros : buffers (replicate 2560 0) (replicate 48 0) (replicate 16 0) (replicate 512 0) ≡ lentZeros
+unfolding lentZeros
+lent-zeros =
+    ap (λ (work : List ℕ). buffers work (replicate 48 0) (replicate 16 0) (replicate 512 0))
+    (sym (wide-empty (8 * 8 * 8)))
+
 -- where the cut was refused, and where it is done
 module _ (t : List ℕ) {r : CutRecord} (e : r ≡ cutRecord 8 8 8 16 t lentZeros) where
   pub cut-refused : (r .number ≡ 0 → ⊥) → cutText t ≡ refusedOf (r .number)
   unfolding cutText
   cut-refused h = rw (← e) (when-refused (r .number) _ _ h)
 
-  pub cut-listed : {later : Buffers} → later ≡ cutLater 8 8 8 16 t lentZeros → r .number ≡ 0 → cutText t ≡ listingOf (r .boxes) (later .palette) (later .counts)
+  pub cut-listed : {later : Buffers} → later ≡ cutLater 8 8 8 16 t lentZeros → r .number ≡ 0
+      → cutText t ≡ listingOf (r .boxes) (later .results .palette) (later .results .counts)
   unfolding cutText
   cut-listed l h = rw (← e, ← l) (when-done (r .number) _ _ h)

@@ -1,4 +1,4 @@
 pub mod Text
-pub mod Put
+pub mod Inner
 pub mod Listing
 pub mod Reading

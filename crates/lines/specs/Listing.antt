@@ -5,15 +5,16 @@ use mathlib.Core.List.{List, []}
 use Prim.Native.Nat.{ℕ, zero, suc, _*_, _%_, _≤_, _<_, min}
 use lib.Dec.{eqb}
 use lib.ListN.{length, take, replicate}
-use Rattle.grid.specs.Answer.{whenDone}
+use Rattle.basics.specs.Answer.{whenDone}
+use Rattle.table.specs.Table.{Table, emptyOf}
 use Rattle.loader.specs.Load.{loadNumber, loadLater}
 use Rattle.cutter.specs.Cut.{Buffers, buffers, cutRecord, cutLater}
-use Rattle.lines.specs.declared.Loaded.{Loaded}
+use Rattle.lines.specs.declared.batches.Loaded.{Loaded}
 use Rattle.lines.specs.Text.{listingOf, refusedOf}
 
 -- ---- "It reads RGB triples from standard input in batches, grid 8,8,8"
-unfoldable pub emptyTable : List ℕ
-emptyTable = replicate (5 * (8 * 8 * 8)) 0
+unfoldable pub emptyTable : Table
+emptyTable = emptyOf (8 * 8 * 8)
 
 -- the number of a load of some bytes without weights, and the table then
 unfoldable pub partNumber : List ℕ → List ℕ → ℕ
@@ -39,13 +40,14 @@ batchLater t batch filled = partLater t (take filled batch)
 -- ---- ".. k=16": the text for the table that was loaded
 -- what a cut is lent, as long as it has to be
 unfoldable pub lentZeros : Buffers
-lentZeros = buffers (replicate (5 * (8 * 8 * 8)) 0) (replicate (3 * 16) 0) (replicate 16 0) (replicate (8 * 8 * 8) 0)
+lentZeros = buffers (emptyOf (8 * 8 * 8)) (replicate (3 * 16) 0) (replicate 16 0) (replicate (8 * 8 * 8) 0)
 
 unfoldable pub cutText : List ℕ → List ℕ
 cutText t =
     let r = cutRecord 8 8 8 16 t lentZeros in
     let later = cutLater 8 8 8 16 t lentZeros in
-    whenDone (r .number) (listingOf (r .boxes) (later .palette) (later .counts)) (refusedOf (r .number))
+    whenDone (r .number) (listingOf (r .boxes) (later .results .palette) (later .results .counts))
+    (refusedOf (r .number))
 
 -- "On a refusal it writes only `refused N`": the lowest number of the loads, or else that of the cut
 unfoldable pub textOf : ℕ → List ℕ → List ℕ

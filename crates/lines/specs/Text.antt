@@ -1,10 +1,10 @@
 -- The text that the listing program writes (document 01, "The listing program"), as a list of bytes. Definitions only.
 use mathlib.Core.Bool.{cond}
 use mathlib.Core.List.{List, [], _∷_, _++_}
-use Prim.Native.Nat.{ℕ, zero, suc, _+_, _*_, _/_, _%_, _≤_}
+use Prim.Native.Nat.{ℕ, zero, suc, _+_, _*_, _/_, _%_}
 use lib.Dec.{ltb}
 use lib.ListN.{length, getD, drop}
-use Rattle.grid.specs.Range.{sumFrom}
+use Rattle.basics.specs.Range.{sumFrom}
 
 -- ---- decimals
 -- the digits of a number in ASCII, the most significant first, where it has no more than so many
@@ -70,15 +70,3 @@ refusedOf number = refusedWord ++ decimalOf number ++ newline
 -- a lent buffer with a text at its start, and after it what stood there
 unfoldable pub withText : List ℕ → List ℕ → List ℕ
 withText text old = text ++ drop (length text) old
-
--- ---- what the code is given
--- every line has room in so many bytes
-abbrev pub lineRoom : ℕ
-lineRoom = 128
-
--- boxes as a cut finds them, each with its colour and its count, and room for the lines
-pub record Lent (boxes : ℕ) (palette counts out : List ℕ) : Type 0 where
-  pub most : boxes ≤ 256
-  pub colours : 3 * boxes ≤ length palette
-  pub counted : boxes ≤ length counts
-  pub room : lineRoom * (boxes + 1) ≤ length out

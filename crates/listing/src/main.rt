@@ -59,11 +59,12 @@ struct Progress {
 
 // Loads the next 16,384 pixels. A batch that is not full is the last one, and so is one whose reading failed.
 fn load_next(table: &mut [u64], lowest: u8) -> Progress
-    ensures { λ r. ⌜ Came (progress lowest (now (table .entry))) (progress (r .number) (now (table .exit))) (r .more) ⌝ }
+    ensures { λ r. ⌜ Came (progress lowest (now (table .entry))) (progress (r .number) (now (table .exit)))
+        (r .more) ⌝ }
 {
     let mut space = [0; 49152];
     let batch = fill(&mut space);
-    let loaded = lines::load_batch(table, &space, batch.bytes, lowest);
+    let loaded = lines::batches::load_batch(table, &space, batch.bytes, lowest);
     Progress {
         number: loaded.number,
         more: loaded.more,
@@ -104,13 +105,13 @@ fn write(text: &[u8]) {
 }
 
 fn main() {
-    let mut table = lines::empty_table();
+    let mut table = lines::batches::empty_table();
     let input = load_all(&mut table);
     if input.failed {
         complain(b"standard input could not be read");
         return;
     }
     let mut text = [0; 2176];
-    let n = lines::text(&table, input.number, &mut text);
+    let n = lines::text::text(&table, input.number, &mut text);
     write(&text[0..n]);
 }

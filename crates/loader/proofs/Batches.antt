@@ -1,5 +1,5 @@
--- Loading without weights, batch by batch: the colours of a list that is taken apart where a pixel ends, and how a load into the table
--- of some colours ends.
+-- Loading without weights, batch by batch: the colours of a list that is taken apart where a pixel ends, and how a load
+-- into the table of some colours ends.
 -- Assumes nothing.
 use mathlib.Core.Path.{_≡_, refl, sym, ap, _∙_}
 use mathlib.Core.Bool.{false, true≢false}
@@ -10,11 +10,12 @@ use native.Mathlib.Decide.{decLe}
 use native.Mathlib.Omega.{arith}
 use lib.ListN.{length, getD, length-append, List·getD-append}
 use lib.Seq.{getD-append-add}
-use Rattle.grid.specs.declared.Grid.{Grid}
-use Rattle.grid.specs.declared.Chosen.the-variants as chosen
-use Rattle.grid.specs.Range.{listFrom}
-use Rattle.grid.specs.Grid.{gridOf, Accepted, colourAt}
-use Rattle.grid.proofs.Range.{length-list, list-at, list-is}
+use Rattle.grid.specs.declared.place.Grid.{Grid}
+use Rattle.grid.specs.declared.place.Chosen.the-variants as chosen
+use Rattle.basics.specs.Range.{listFrom}
+use Rattle.grid.specs.Grid.{gridOf, Accepted}
+use Rattle.pixels.specs.Colour.{colourAt}
+use Rattle.basics.proofs.Range.{length-list, list-at, list-is}
 use Rattle.grid.proofs.Places.{chose}
 use Rattle.table.specs.Sound.{limit}
 use Rattle.loader.specs.Load.{Weighted, weightOf, weightedAt, batchOf, loadNumber, loadLater, tableOf}
@@ -40,7 +41,17 @@ module _ (xs ys weights : List ℕ) (whole : length xs % 3 ≡ 0) where
 
   at-first : (k : ℕ) → k < here → weightedAt xs false weights k ≡ at k
   unfolding weightedAt colourAt
-  at-first k h = λ i. record { colour = record { c1 = byte (3 * k) (omega (arith, three)) i; c2 = byte (3 * k + 1) (omega (arith, three)) i; c3 = byte (3 * k + 2) (omega (arith, three)) i }; weight = 1 }
+  at-first k h =
+      λ i. record {
+        colour =
+            record {
+              c1 = byte (3 * k) (omega (arith, three)) i;
+              c2 = byte (3 * k + 1) (omega (arith, three)) i;
+              c3 =
+                  byte (3 * k + 2) (omega (arith, three)) i;
+            };
+        weight = 1;
+      }
     where
       byte : (n : ℕ) → n < length xs → getD xs n 0 ≡ getD (xs ++ ys) n 0
       byte n l = sym (List·getD-append xs ys 0 n l)
@@ -48,7 +59,17 @@ module _ (xs ys weights : List ℕ) (whole : length xs % 3 ≡ 0) where
   at-later : (k : ℕ) → weightedAt ys false weights k ≡ at (here + k)
   unfolding weightedAt colourAt
   at-later k =
-      λ i. record { colour = record { c1 = byte (3 * (here + k)) (3 * k) (omega (arith, three)) i; c2 = byte (3 * (here + k) + 1) (3 * k + 1) (omega (arith, three)) i; c3 = byte (3 * (here + k) + 2) (3 * k + 2) (omega (arith, three)) i }; weight = 1 }
+      λ i. record {
+        colour =
+            record {
+              c1 = byte (3 * (here + k)) (3 * k) (omega (arith, three)) i;
+              c2 =
+                  byte (3 * (here + k) + 1) (3 * k + 1) (omega (arith, three)) i;
+              c3 =
+                  byte (3 * (here + k) + 2) (3 * k + 2) (omega (arith, three)) i;
+            };
+        weight = 1;
+      }
     where
       byte : (n m : ℕ) → n ≡ length xs + m → getD ys m 0 ≡ getD (xs ++ ys) n 0
       byte n m e = sym (getD-append-add xs ys m 0) ∙ ap (λ (k : ℕ). getD (xs ++ ys) k 0) (sym e)
@@ -92,16 +113,20 @@ module _ (xs ys weights : List ℕ) (whole : length xs % 3 ≡ 0) where
   unfolding batchOf
   batch-append =
       ap (λ (n : ℕ). listFrom 0 n at) pixels
-      ∙ sym (list-is (here + length ys / 3) at (first ++ later) (at 0) (length-append first later ∙ (λ i. size-first i + size-later i)) item)
+      ∙ sym (list-is (here + length ys / 3) at (first ++ later) (at 0)
+      (length-append first later ∙ (λ i. size-first i + size-later i)) item)
     where
       pixels : length (xs ++ ys) / 3 ≡ here + length ys / 3
       pixels = omega (arith, length-append xs ys, three)
 
 -- ---- a load into the table of some colours
-module _ (b1 b2 b3 : ℕ) {g : Grid} (e : gridOf b1 b2 b3 ≡ chosen.Of g) (cs : List Weighted) (y : AllBytes cs) (few : weightOf cs ≤ limit) (bytes weights : List ℕ) where
+module _ (b1 b2 b3 : ℕ) {g : Grid} (e : gridOf b1 b2 b3 ≡ chosen.Accepted g) (cs : List Weighted) (y : AllBytes cs)
+    (few : weightOf cs ≤ limit) (bytes weights : List ℕ) where
   -- its number, and the colours of the table that it leaves
   abbrev Loads : ℕ → List Weighted → Type 0
-  Loads n ds = (loadNumber b1 b2 b3 (tableOf g cs) bytes false weights ≡ n) × (loadLater b1 b2 b3 (tableOf g cs) bytes false weights ≡ tableOf g ds)
+  Loads n ds =
+      (loadNumber b1 b2 b3 (tableOf g cs) bytes false weights ≡ n)
+      × (loadLater b1 b2 b3 (tableOf g cs) bytes false weights ≡ tableOf g ds)
 
   a : Accepted g
   a = chose b1 b2 b3 g e .accepted
@@ -115,10 +140,13 @@ module _ (b1 b2 b3 : ℕ) {g : Grid} (e : gridOf b1 b2 b3 ≡ chosen.Of g) (cs :
   module _ (whole : length bytes % 3 ≡ 0) where
     pub load-fits : weightOf cs + length bytes / 3 ≤ limit → Loads 0 (cs ++ batchOf bytes false weights)
     load-fits h =
-        let l = load-done b1 b2 b3 (tableOf g cs) bytes false weights e whole refl (table-holds g cs .lent) (table-sound g a cs y few) (omega (arith, table-total g a cs y, weighs)) (sym (load-table g cs (batchOf bytes false weights))) in
+        let l = load-done b1 b2 b3 (tableOf g cs) bytes false weights e whole refl (table-holds g cs .lent)
+        (table-sound g a cs y few) (omega (arith, table-total g a cs y, weighs))
+        (sym (load-table g cs (batchOf bytes false weights))) in
         (sym (l .0), sym (l .1))
 
     pub load-passes : limit < weightOf cs + length bytes / 3 → Loads 7 cs
     load-passes h =
-        let l = load-over b1 b2 b3 (tableOf g cs) bytes false weights e whole refl (table-holds g cs .lent) (table-sound g a cs y few) (omega (arith, table-total g a cs y, weighs)) in
+        let l = load-over b1 b2 b3 (tableOf g cs) bytes false weights e whole refl (table-holds g cs .lent)
+        (table-sound g a cs y few) (omega (arith, table-total g a cs y, weighs)) in
         (sym (l .0), sym (l .1))

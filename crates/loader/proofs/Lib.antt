@@ -1,11 +1,11 @@
 pub mod Loading
 pub mod Parts
-pub mod Packing
+pub mod StepTables
 pub mod Merging
 pub mod Calls
 pub mod Laws
 pub mod Order
-pub mod Worked
-pub mod Ran
+pub mod Plans
 pub mod Weightless
 pub mod Batches
+pub mod Worked

@@ -11,18 +11,22 @@ use native.Mathlib.Decide.{ℕ-discrete, decLe}
 use native.Mathlib.Omega.{arith}
 use borrow.Author.Tests.{eq-eqb, ne-eqb, le-leb, lt-leb}
 use lib.Dec.{eqb, leb}
-use Rattle.grid.specs.declared.Grid.{Grid}
-use Rattle.grid.specs.Range.{listFrom, sumFrom}
+use Rattle.grid.specs.declared.place.Grid.{Grid}
+use Rattle.basics.specs.Range.{listFrom, sumFrom}
 use Rattle.grid.specs.Size.{spanOf, binOf}
-use Rattle.grid.specs.Grid.{Accepted, binsOf, shiftAt, componentAt, colourPlace, choose}
-use Rattle.grid.proofs.Range.{sum-plus, sum-zero, sum-hit, hit}
+use Rattle.grid.specs.Grid.{Accepted, binsOf, shiftAt, colourPlace}
+use Rattle.pixels.specs.Colour.{componentAt}
+use Rattle.basics.specs.Dimension.{choose}
+use Rattle.basics.proofs.Range.{sum-plus, sum-zero, sum-hit, hit}
 use Rattle.grid.proofs.Size.{span-low, span-high}
 use Rattle.grid.proofs.Places.{Bytes, colour-bin, colour-place-lt}
-use Rattle.table.specs.Cell.{View, wide}
+use Rattle.table.specs.Cell.{View}
+use Rattle.table.specs.Table.{Table, viewOf}
 use Rattle.table.specs.Sound.{spanAt, total}
 use Rattle.loader.specs.Load.{Weighted, share, adds, sumOver, weightOf, loaded}
-use Rattle.table.proofs.Soundness.{Keeps, keeps-zero, keeps-plus, Sound, sound-by, sound-keeps, sound-same, total-is, total-same, span-is}
-use Rattle.table.proofs.Cells.{Holds}
+use Rattle.table.proofs.Soundness.{Keeps, keeps-zero, keeps-plus, Sound, sound-by, sound-keeps, sound-same, total-is}
+use Rattle.table.proofs.Soundness.{total-same, span-is}
+use Rattle.table.proofs.Tables.{Holds}
 
 -- a test of a rest is one of a sum
 pub rest-test : (m had n : ℕ) → had ≤ m → leb n (m - had) ≡ leb (had + n) m
@@ -36,9 +40,11 @@ rest-test m had n h = go (decLe (had + n) m)
 pub over-append : (cs ds : List Weighted) (f : Weighted → ℕ) → sumOver (cs ++ ds) f ≡ sumOver cs f + sumOver ds f
 unfolding sumOver
 over-append [] ds f = sym (zero-add (sumOver ds f))
-over-append (c ∷ cs) ds f = ap (λ (x : ℕ). f c + x) (over-append cs ds f) ∙ sym (add-assoc (f c) (sumOver cs f) (sumOver ds f))
+over-append (c ∷ cs) ds f =
+    ap (λ (x : ℕ). f c + x) (over-append cs ds f) ∙ sym (add-assoc (f c) (sumOver cs f) (sumOver ds f))
 
-pub over-list : (i n : ℕ) (c : ℕ → Weighted) (f : Weighted → ℕ) → sumOver (listFrom i n c) f ≡ sumFrom i n (λ k. f (c k))
+pub over-list : (i n : ℕ) (c : ℕ → Weighted) (f : Weighted → ℕ)
+    → sumOver (listFrom i n c) f ≡ sumFrom i n (λ k. f (c k))
 unfolding sumOver sumFrom listFrom
 over-list i zero c f = refl
 over-list i (suc n) c f = ap (λ (x : ℕ). f (c i) + x) (over-list (suc i) n c f)
@@ -47,12 +53,14 @@ over-permᴰ : {cs ds : List Weighted} (f : Weighted → ℕ) → List·Permᴰ 
 unfolding sumOver
 over-permᴰ f L.List·Permᴰ·nil = refl
 over-permᴰ f (L.List·Permᴰ·cons e p) = λ i. f (e i) + over-permᴰ f p i
-over-permᴰ f (L.List·Permᴰ·swap {a = a} {b = b} {l = l} e d) = add-left-comm (f a) (f b) (sumOver l f) ∙ (λ i. f (d i) + (f (e i) + sumOver l f))
+over-permᴰ f (L.List·Permᴰ·swap {a = a} {b = b} {l = l} e d) =
+    add-left-comm (f a) (f b) (sumOver l f) ∙ (λ i. f (d i) + (f (e i) + sumOver l f))
 over-permᴰ f (L.List·Permᴰ·trans p q) = over-permᴰ f p ∙ over-permᴰ f q
 
 -- the order of the colours does not matter
 pub over-perm : {cs ds : List Weighted} (f : Weighted → ℕ) → Perm cs ds → sumOver cs f ≡ sumOver ds f
-over-perm {cs} {ds} f p = mathlib.Core.Logic.∥∥₁-elim p (hedberg ℕ-discrete (sumOver cs f) (sumOver ds f)) (λ d. over-permᴰ f d)
+over-perm {cs} {ds} f p =
+    mathlib.Core.Logic.∥∥₁-elim p (hedberg ℕ-discrete (sumOver cs f) (sumOver ds f)) (λ d. over-permᴰ f d)
 
 -- ---- what one colour adds is in the bounds of its bin
 pub times-high : (m n a b : ℕ) → a ≤ m → b ≤ n → a * b ≤ m * n
@@ -74,30 +82,43 @@ pub share-weight : (c : Weighted) → share c 0 ≡ c .weight
 unfolding share
 share-weight c = refl
 
-pub share-squares : (c : Weighted) → share c 4 ≡ c .weight * (c .colour .c1 * c .colour .c1 + c .colour .c2 * c .colour .c2 + c .colour .c3 * c .colour .c3)
+pub share-squares : (c : Weighted)
+    → share c 4 ≡ c .weight *
+    (c .colour .c1 * c .colour .c1 + c .colour .c2 * c .colour .c2 + c .colour .c3 * c .colour .c3)
 unfolding share
 share-squares c = refl
 
 module _ {g : Grid} (a : Accepted g) (c : Weighted) (b : Bytes (c .colour)) where
-  own : (d : ℕ) → spanAt g (colourPlace g (c .colour)) d ≡ spanOf (shiftAt g d) (binOf (shiftAt g d) (componentAt (c .colour) d))
+  own : (d : ℕ) → spanAt g (colourPlace g (c .colour)) d
+      ≡ spanOf (shiftAt g d) (binOf (shiftAt g d) (componentAt (c .colour) d))
   own d = span-is g (colourPlace g (c .colour)) d ∙ ap (spanOf (shiftAt g d)) (colour-bin a b d)
 
   share-keeps : Keeps (spanAt g (colourPlace g (c .colour))) (share c)
   unfolding share
   share-keeps =
       record {
-        low = λ d h. rw (share-sum c d h, own d) (mul-le-mul-left (c .weight) (span-low (shiftAt g d) (componentAt (c .colour) d)));
-        high = λ d h. rw (share-sum c d h, own d) (mul-le-mul-left (c .weight) (span-high (shiftAt g d) (componentAt (c .colour) d)));
+        low =
+            λ d h. rw (share-sum c d h, own d)
+            (mul-le-mul-left (c .weight) (span-low (shiftAt g d) (componentAt (c .colour) d)));
+        high =
+            λ d h. rw (share-sum c d h, own d)
+            (mul-le-mul-left (c .weight) (span-high (shiftAt g d) (componentAt (c .colour) d)));
         squares = rw (mul-comm 195075 (c .weight))
             (mul-le-mul-left (c .weight)
-            (omega (arith, square-byte (c .colour .c1) (b .one), square-byte (c .colour .c2) (b .two), square-byte (c .colour .c3) (b .three))));
+            (omega (
+              arith,
+              square-byte (c .colour .c1) (b .one),
+              square-byte (c .colour .c2) (b .two),
+              square-byte (c .colour .c3) (b .three),
+            )));
       }
 
   adds-keeps : (p : ℕ) → Keeps (spanAt g p) (adds g c p)
   unfolding adds
   adds-keeps p = go (ℕ-discrete (colourPlace g (c .colour)) p)
     where
-      go : Dec (colourPlace g (c .colour) ≡ p) → Keeps (spanAt g p) (λ j. cond (eqb (colourPlace g (c .colour)) p) (share c j) 0)
+      go : Dec (colourPlace g (c .colour) ≡ p)
+          → Keeps (spanAt g p) (λ j. cond (eqb (colourPlace g (c .colour)) p) (share c j) 0)
       go (yes e) = rw (eq-eqb (colourPlace g (c .colour)) p e, ← e) share-keeps
       go (no n) = rw (ne-eqb (colourPlace g (c .colour)) p n) (keeps-zero (spanAt g p))
 
@@ -112,13 +133,15 @@ module _ {g : Grid} (a : Accepted g) where
   over-keeps [] b p = keeps-zero (spanAt g p)
   over-keeps (c ∷ cs) b p = keeps-plus (adds-keeps a c (b .0) p) (over-keeps cs (b .1) p)
 
-  over-total : (cs : List Weighted) → AllBytes cs → sumFrom 0 (binsOf g) (λ p. sumOver cs (λ c. adds g c p 0)) ≡ weightOf cs
+  over-total : (cs : List Weighted) → AllBytes cs
+      → sumFrom 0 (binsOf g) (λ p. sumOver cs (λ c. adds g c p 0)) ≡ weightOf cs
   unfolding sumOver weightOf adds share
   over-total [] b = sum-zero 0 (binsOf g)
   over-total (c ∷ cs) b =
       sum-plus 0 (binsOf g) (λ p. hit (colourPlace g (c .colour)) p (c .weight)) (λ p. sumOver cs (λ d. adds g d p 0))
       ∙ (λ i.
-      sum-hit 0 (binsOf g) (colourPlace g (c .colour)) (c .weight) (omega arith) (omega (arith, colour-place-lt a (b .0))) i
+      sum-hit 0 (binsOf g) (colourPlace g (c .colour)) (c .weight) (omega arith)
+      (omega (arith, colour-place-lt a (b .0))) i
       + over-total cs (b .1) i)
 
   -- the total after is the sum
@@ -130,22 +153,26 @@ module _ {g : Grid} (a : Accepted g) where
       ∙ (λ i. sym (total-is g v) i + over-total cs b i)
 
   -- loading keeps a table sound
-  pub load-sound : {most : ℕ} {v : View} (cs : List Weighted) → AllBytes cs → Sound most g v → total g v + weightOf cs ≤ most → Sound most g (loaded g cs v)
+  pub load-sound : {most : ℕ} {v : View} (cs : List Weighted) → AllBytes cs → Sound most g v
+      → total g v + weightOf cs ≤ most → Sound most g (loaded g cs v)
   unfolding loaded
   load-sound {most} {v} cs b s l =
       sound-by most g (loaded g cs v) (λ p h. keeps-plus (sound-keeps s p h) (over-keeps cs b p))
       (omega (arith, load-total cs b v))
 
 -- ---- a table that holds what was there with colours loaded
-module _ {g : Grid} (a : Accepted g) (cs : List Weighted) (b : AllBytes cs) (v : View) {s : List ℕ} (holds : Holds (binsOf g) s (loaded g cs v)) where
-  pub held-sound : {most : ℕ} → Sound most g v → total g v + weightOf cs ≤ most → Sound most g (wide s)
-  held-sound {most} k u = record { holds = sound-same g (wide s) (loaded g cs v) (holds .at) most ∙ load-sound a cs b k u .holds }
+module _ {g : Grid} (a : Accepted g) (cs : List Weighted) (b : AllBytes cs) (v : View) {s : Table}
+    (holds : Holds (binsOf g) s (loaded g cs v)) where
+  pub held-sound : {most : ℕ} → Sound most g v → total g v + weightOf cs ≤ most → Sound most g (viewOf s)
+  held-sound {most} k u =
+      record { holds = sound-same g (viewOf s) (loaded g cs v) (holds .at) most ∙ load-sound a cs b k u .holds }
 
-  pub held-total : total g (wide s) ≡ total g v + weightOf cs
-  held-total = total-same g (wide s) (loaded g cs v) (holds .at) ∙ load-total a cs b v
+  pub held-total : total g (viewOf s) ≡ total g v + weightOf cs
+  held-total = total-same g (viewOf s) (loaded g cs v) (holds .at) ∙ load-total a cs b v
 
 -- number j of place p, after a load and by what one colour adds to it
-pub loaded-at : (g : Grid) (cs : List Weighted) (v : View) (p j : ℕ) → loaded g cs v p j ≡ v p j + sumOver cs (λ c. adds g c p j)
+pub loaded-at : (g : Grid) (cs : List Weighted) (v : View) (p j : ℕ)
+    → loaded g cs v p j ≡ v p j + sumOver cs (λ c. adds g c p j)
 unfolding loaded
 loaded-at g cs v p j = refl
 

@@ -2,33 +2,34 @@
 -- Assumes nothing.
 use mathlib.Core.Path.{_≡_, refl, sym, ap, _∙_}
 use mathlib.Core.Bool.{Bool, cond}
-use mathlib.Core.List.{List}
-use Prim.Native.Nat.{ℕ, _+_, _*_, _^_, _≤_, _<_}
-use native.Mathlib.Nat.{add-zero}
+use Prim.Native.Nat.{ℕ, _+_, _≤_, _<_}
+use native.Mathlib.Nat.{add-zero, lt-trans}
 use native.Mathlib.Decide.{ℕ-discrete, decLe}
 use native.Mathlib.Omega.{arith}
 use borrow.Author.Tests.{eq-eqb, ne-eqb, lt-ltb, le-ltb}
-use lib.Dec.{eqb, ltb}
-use lib.ListN.{length}
-use Rattle.grid.specs.declared.Grid.{Grid}
-use Rattle.grid.specs.Grid.{binsOf}
-use Rattle.grid.proofs.Range.{sum-plus}
-use Rattle.table.specs.declared.Cell.{Cell}
-use Rattle.table.specs.Cell.{View, numberOf, cellOf, wide, wideList, putAt, plusCell}
-use Rattle.table.specs.Sound.{total}
+use lib.Dec.{eqb, ltb, lit<}
+use Rattle.grid.specs.declared.place.Grid.{Grid}
+use Rattle.grid.specs.Grid.{Accepted, binsOf}
+use Rattle.basics.proofs.Range.{sum-plus}
+use Rattle.table.specs.declared.cell.Cell.{Cell}
+use Rattle.table.specs.Cell.{View, numberOf, cellOf, plusCell}
+use Rattle.table.specs.Table.{Table, Sized, viewOf, written, putAt}
+use Rattle.table.specs.Sound.{limit, total}
 use Rattle.loader.specs.Merge.{merged}
-use Rattle.loader.specs.Step.{Adds}
-use Rattle.table.proofs.Cells.{Holds, holds-same, holds-list, holds-itself, add-holds, number-cell}
-use Rattle.table.proofs.Soundness.{keeps-plus, Sound, sound-by, sound-keeps, total-is}
+use Rattle.loader.specs.Inner.{CellFits}
+use Rattle.table.proofs.Tables.{has-cell, Holds, holds-same, holds-list, holds-itself, add-holds}
+use Rattle.table.proofs.Cells.{number-cell, number-plus}
+use Rattle.table.proofs.Soundness.{keeps-plus, Sound, sound-by, sound-keeps, total-is, number-below, sound-held}
 
 -- the cells before place p are added
 abbrev pub partly : ℕ → View → View → View
 partly p v u q j = v q j + cond (ltb q p) (u q j) 0
 
-pub none-added : (n : ℕ) (t : List ℕ) (u : View) → length t ≡ 5 * n → Holds n t (partly 0 (wide t) u)
+pub none-added : (n : ℕ) (t : Table) (u : View) → Sized t n → Holds n t (partly 0 (viewOf t) u)
 none-added n t u e =
     holds-same (holds-itself n t e)
-    (λ q j h k. sym (ap (λ (b : Bool). wide t q j + cond b (u q j) 0) (le-ltb q 0 (omega arith)) ∙ add-zero (wide t q j)))
+    (λ q j h k. sym (ap (λ (b : Bool). viewOf t q j + cond b (u q j) 0) (le-ltb q 0 (omega arith))
+    ∙ add-zero (viewOf t q j)))
 
 one-more : (p q x y : ℕ) → (x + cond (ltb q p) y 0) + cond (eqb p q) y 0 ≡ x + cond (ltb q (p + 1)) y 0
 one-more p q x y = go (ℕ-discrete p q) (decLe p q)
@@ -38,7 +39,8 @@ one-more p q x y = go (ℕ-discrete p q) (decLe p q)
     go (no e) (yes l) = rw (le-ltb q p l, ne-eqb p q e, le-ltb q (p + 1) (omega arith)) (omega arith)
     go (no e) (no l) = rw (lt-ltb q p (omega arith), ne-eqb p q e, lt-ltb q (p + 1) (omega arith)) (omega arith)
 
-module _ {n : ℕ} {t : List ℕ} (v u : View) (p : ℕ) (h : Holds n t (partly p v u)) (l : p < n) {c : Cell} (e : c ≡ cellOf (u p)) where
+module _ {n : ℕ} {t : Table} (v u : View) (p : ℕ) (h : Holds n t (partly p v u)) (l : p < n) {c : Cell}
+    (e : c ≡ cellOf (u p)) where
   number : (j : ℕ) → j < 5 → numberOf c j ≡ u p j
   number j k = ap (λ (x : Cell). numberOf x j) e ∙ number-cell (u p) j k
 
@@ -49,21 +51,34 @@ module _ {n : ℕ} {t : List ℕ} (v u : View) (p : ℕ) (h : Holds n t (partly 
       go (yes d) = rw (eq-eqb p q d, ← d) (number j k)
       go (no d) = rw (ne-eqb p q d) refl
 
-  pub one-added : Holds n (putAt t p (plusCell (cellOf (wide t p)) c)) (partly (p + 1) v u)
+  pub one-added : Holds n (putAt t p (plusCell (cellOf (viewOf t p)) c)) (partly (p + 1) v u)
   one-added =
       holds-same (add-holds h p c l)
       (λ q j a k.
       ap (λ (x : ℕ). (v q j + cond (ltb q p) (u q j) 0) + x) (hit-number q j k) ∙ one-more p q (v q j) (u q j))
 
-  pub can-add : ((j : ℕ) → j < 5 → v p j + u p j < 2 ^ 64) → Adds t p c
-  can-add f =
+  -- a cell of it can be added where the tables merge to a sound one
+  pub can-add : {most : ℕ} {g : Grid} → Accepted g → Sound most g (merged v u) → most ≤ limit → p < binsOf g
+      → CellFits t p c
+  unfolding merged
+  can-add a s m b =
       record {
-        cell = omega (arith, h .lent);
-        fits = λ j k.
-            rw (h .at p j l k, number j k, le-ltb p p (omega arith)) (omega (arith, f j k));
+        cell = has-cell (h .lent) p l;
+        sums = record { fits = λ j k. rw (sum j k) (lt-trans (number-below a s p b m j k) (lit< tt)) };
+        held = sound-held a s p b m (λ j k. number-plus (cellOf (viewOf t p)) c j k ∙ sum j k);
       }
+    where
+      old : (j : ℕ) → j < 5 → numberOf (cellOf (viewOf t p)) j ≡ v p j
+      old j k =
+          number-cell (viewOf t p) j k
+          ∙ h .at p j l k
+          ∙ ap (λ (x : Bool). v p j + cond x (u p j) 0) (le-ltb p p (omega arith))
+          ∙ add-zero (v p j)
 
-pub all-added : {n : ℕ} {t : List ℕ} (v u : View) → Holds n t (partly n v u) → t ≡ wideList n (merged v u)
+      sum : (j : ℕ) → j < 5 → numberOf (cellOf (viewOf t p)) j + numberOf c j ≡ v p j + u p j
+      sum j k = λ i. old j k i + number j k i
+
+pub all-added : {n : ℕ} {t : Table} (v u : View) → Holds n t (partly n v u) → t ≡ written n (merged v u)
 unfolding merged
 all-added {n} v u h =
     holds-list (holds-same h (λ q j a k. ap (λ (b : Bool). v q j + cond b (u q j) 0) (lt-ltb q n a)))
@@ -72,9 +87,12 @@ all-added {n} v u h =
 pub merge-total : (g : Grid) (v u : View) → total g (merged v u) ≡ total g v + total g u
 unfolding merged
 merge-total g v u =
-    total-is g (merged v u) ∙ sum-plus 0 (binsOf g) (λ p. v p 0) (λ p. u p 0) ∙ (λ i. sym (total-is g v) i + sym (total-is g u) i)
+    total-is g (merged v u) ∙ sum-plus 0 (binsOf g) (λ p. v p 0) (λ p. u p 0)
+    ∙ (λ i. sym (total-is g v) i + sym (total-is g u) i)
 
-pub merge-sound : {most : ℕ} {g : Grid} {v u : View} → Sound most g v → Sound most g u → total g v + total g u ≤ most → Sound most g (merged v u)
+pub merge-sound : {most : ℕ} {g : Grid} {v u : View} → Sound most g v → Sound most g u → total g v + total g u ≤ most
+    → Sound most g (merged v u)
 unfolding merged
 merge-sound {most} {g} {v} {u} s r l =
-    sound-by most g (merged v u) (λ p h. keeps-plus (sound-keeps s p h) (sound-keeps r p h)) (omega (arith, merge-total g v u))
+    sound-by most g (merged v u) (λ p h. keeps-plus (sound-keeps s p h) (sound-keeps r p h))
+    (omega (arith, merge-total g v u))

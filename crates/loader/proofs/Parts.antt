@@ -1,5 +1,5 @@
--- Laws of a part of a batch: what colours that are one add, that a part can be added after another, and that colours that are
--- one can be added at once.
+-- Laws of a part of a batch: what colours that are one add, that a part can be added after another, and that colours
+-- that are one can be added at once.
 -- Assumes nothing.
 use mathlib.Core.Path.{_≡_, refl, sym, ap, subst, _∙_}
 use mathlib.Core.Bool.{Bool, true, false, cond}
@@ -10,18 +10,21 @@ use native.Mathlib.Omega.{arith}
 use borrow.Author.Tests.{eq-eqb}
 use lib.Dec.{eqb, lit<}
 use lib.ListN.{length, getD}
-use Rattle.grid.specs.declared.Grid.{Grid}
-use Rattle.grid.specs.declared.Rgb.{Rgb}
-use Rattle.grid.specs.Range.{listFrom, sumFrom}
-use Rattle.grid.specs.Grid.{binsOf, colourPlace, colourAt}
-use Rattle.grid.proofs.Range.{sum-append, sum-grow, sum-equal}
+use Rattle.grid.specs.declared.place.Grid.{Grid}
+use Rattle.pixels.specs.declared.colour.Rgb.{Rgb}
+use Rattle.basics.specs.Range.{listFrom, sumFrom}
+use Rattle.grid.specs.Grid.{binsOf, colourPlace}
+use Rattle.pixels.specs.Colour.{colourAt}
+use Rattle.basics.proofs.Range.{sum-append, sum-grow, sum-equal}
 use Rattle.grid.proofs.Places.{Bytes, colour-place-lt}
-use Rattle.table.specs.Cell.{View, wide, numberOf, cellOf}
+use Rattle.table.specs.Cell.{View, numberOf, cellOf}
+use Rattle.table.specs.Table.{Table, Sized, viewOf}
 use Rattle.table.specs.Sound.{limit}
 use Rattle.loader.specs.Load.{Weighted, share, adds, sumOver, weightOf, loaded, weightedAt, batchOf}
-use Rattle.loader.specs.Step.{partOf, withPart, withColour, Adds, Fits}
-use Rattle.table.proofs.Soundness.{number-below}
-use Rattle.table.proofs.Cells.{Holds, holds-same, holds-itself, list-holds, add-holds, number-cell}
+use Rattle.loader.specs.Inner.{partOf, withPart, withColour, CellFits, PartFits}
+use Rattle.table.proofs.Soundness.{number-below, sound-held}
+use Rattle.table.proofs.Tables.{has-cell, Holds, holds-same, holds-itself, list-holds, add-holds}
+use Rattle.table.proofs.Cells.{number-cell, number-plus}
 use Rattle.loader.proofs.Loading.{over-list, AllBytes, load-sound, held-sound, held-total}
 
 -- ---- colours that are one
@@ -33,7 +36,9 @@ share-none x (suc (suc zero)) = zero-mul (x .c2)
 share-none x (suc (suc (suc zero))) = zero-mul (x .c3)
 share-none x (suc (suc (suc (suc j)))) = zero-mul (x .c1 * x .c1 + x .c2 * x .c2 + x .c3 * x .c3)
 
-share-plus : (x : Rgb) (a b j : ℕ) → share (record { colour = x; weight = a + b }) j ≡ share (record { colour = x; weight = a }) j + share (record { colour = x; weight = b }) j
+share-plus : (x : Rgb) (a b j : ℕ)
+    → share (record { colour = x; weight = a + b }) j
+    ≡ share (record { colour = x; weight = a }) j + share (record { colour = x; weight = b }) j
 unfolding share
 share-plus x a b zero = refl
 share-plus x a b (suc zero) = add-mul a b (x .c1)
@@ -58,12 +63,16 @@ module _ (g : Grid) (x : Rgb) (c : ℕ → Weighted) (p j : ℕ) where
   unfolding here adds
   here-plus a b = go (eqb (colourPlace g x) p)
     where
-      go : (t : Bool) → cond t (share (record { colour = x; weight = a }) j) 0 + cond t (share (record { colour = x; weight = b }) j) 0 ≡ cond t (share (record { colour = x; weight = a + b }) j) 0
+      go : (t : Bool) → cond t (share (record { colour = x; weight = a }) j) 0
+          + cond t (share (record { colour = x; weight = b }) j) 0
+          ≡ cond t (share (record { colour = x; weight = a + b }) j) 0
       go true = sym (share-plus x a b j)
       go false = refl
 
   -- any number of colours that are one add what it adds with the sum of their weights
-  run-adds : (i n : ℕ) → ((k : ℕ) → k < n → c (i + k) .colour ≡ x) → sumOver (listFrom i n c) (λ d. adds g d p j) ≡ adds g (record { colour = x; weight = weightOf (listFrom i n c) }) p j
+  run-adds : (i n : ℕ) → ((k : ℕ) → k < n → c (i + k) .colour ≡ x)
+      → sumOver (listFrom i n c) (λ d. adds g d p j)
+      ≡ adds g (record { colour = x; weight = weightOf (listFrom i n c) }) p j
   unfolding here listFrom sumOver weightOf
   run-adds i zero same = here-none
   run-adds i (suc n) same =
@@ -80,35 +89,43 @@ module _ (g : Grid) (x : Rgb) (c : ℕ → Weighted) (p j : ℕ) where
       rest k h = at (suc-add i k ∙ sym (add-suc i k)) ∙ same (suc k) (omega arith)
 
 -- ---- one part of a run of colours after another
-over-part : (i n m : ℕ) (c : ℕ → Weighted) (f : Weighted → ℕ) → sumOver (listFrom i n c) f + sumOver (listFrom (i + n) m c) f ≡ sumOver (listFrom i (n + m) c) f
+over-part : (i n m : ℕ) (c : ℕ → Weighted) (f : Weighted → ℕ)
+    → sumOver (listFrom i n c) f + sumOver (listFrom (i + n) m c) f ≡ sumOver (listFrom i (n + m) c) f
 over-part i n m c f =
     (λ k. over-list i n c f k + over-list (i + n) m c f k)
     ∙ sym (sum-append i n m (λ d. f (c d)))
     ∙ sym (over-list i (n + m) c f)
 
 -- more colours loaded into a table that holds what was there with some loaded
-held-more : (g : Grid) (v : View) (s e : List ℕ) (i n m : ℕ) (c : ℕ → Weighted) → Holds (binsOf g) s (loaded g (listFrom i n c) v) → Holds (binsOf g) e (loaded g (listFrom (i + n) m c) (wide s)) → Holds (binsOf g) e (loaded g (listFrom i (n + m) c) v)
+held-more : (g : Grid) (v : View) (s e : Table) (i n m : ℕ) (c : ℕ → Weighted)
+    → Holds (binsOf g) s (loaded g (listFrom i n c) v) → Holds (binsOf g) e (loaded g (listFrom (i + n) m c) (viewOf s))
+    → Holds (binsOf g) e (loaded g (listFrom i (n + m) c) v)
 unfolding loaded
 held-more g v s e i n m c first then =
     holds-same then
     (λ p j h k.
     ap (λ (x : ℕ). x + sumOver (listFrom (i + n) m c) (λ d. adds g d p j)) (first .at p j h k)
-    ∙ add-assoc (v p j) (sumOver (listFrom i n c) (λ d. adds g d p j)) (sumOver (listFrom (i + n) m c) (λ d. adds g d p j))
+    ∙ add-assoc (v p j) (sumOver (listFrom i n c) (λ d. adds g d p j))
+    (sumOver (listFrom (i + n) m c) (λ d. adds g d p j))
     ∙ ap (λ (x : ℕ). v p j + x) (over-part i n m c (λ d. adds g d p j)))
 
 -- ---- the colours of a batch
 -- their weight, by whether weights are given
-pub part-weight : (colours : List ℕ) (given : Bool) (weights : List ℕ) (i n : ℕ) → weightOf (partOf colours given weights i n) ≡ cond given (sumFrom i n (λ k. getD weights k 0)) n
+pub part-weight : (colours : List ℕ) (weighted : Bool) (weights : List ℕ) (i n : ℕ)
+    → weightOf (partOf colours weighted weights i n) ≡ cond weighted (sumFrom i n (λ k. getD weights k 0)) n
 unfolding weightOf partOf weightedAt
 part-weight colours true weights i n = over-list i n (weightedAt colours true weights) (λ d. d .weight)
 part-weight colours false weights i n =
     over-list i n (weightedAt colours false weights) (λ d. d .weight) ∙ sum-equal i n 1 ∙ mul-one n
 
-pub batch-weight : (colours : List ℕ) (given : Bool) (weights : List ℕ) → (given ≡ true → length weights ≡ length colours / 3)
-    → weightOf (batchOf colours given weights) ≡ cond given (sumFrom 0 (length weights) (λ i. getD weights i 0)) (length colours / 3)
+pub batch-weight : (colours : List ℕ) (weighted : Bool) (weights : List ℕ)
+    → (weighted ≡ true → length weights ≡ length colours / 3)
+    → weightOf (batchOf colours weighted weights)
+    ≡ cond weighted (sumFrom 0 (length weights) (λ i. getD weights i 0)) (length colours / 3)
 unfolding batchOf partOf
 batch-weight colours true weights e =
-    part-weight colours true weights 0 (length colours / 3) ∙ ap (λ (n : ℕ). sumFrom 0 n (λ i. getD weights i 0)) (sym (e refl))
+    part-weight colours true weights 0 (length colours / 3)
+    ∙ ap (λ (n : ℕ). sumFrom 0 n (λ i. getD weights i 0)) (sym (e refl))
 batch-weight colours false weights e = part-weight colours false weights 0 (length colours / 3)
 
 -- they are of bytes
@@ -121,26 +138,34 @@ pub colour-bytes : (colours : List ℕ) → ((k : ℕ) → getD colours k 0 < 25
 unfolding colourAt
 colour-bytes colours bytes k = record { one = bytes (3 * k); two = bytes (3 * k + 1); three = bytes (3 * k + 2) }
 
-part-bytes : (colours : List ℕ) (given : Bool) (weights : List ℕ) → ((k : ℕ) → getD colours k 0 < 256) → (i n : ℕ) → AllBytes (partOf colours given weights i n)
+part-bytes : (colours : List ℕ) (weighted : Bool) (weights : List ℕ) → ((k : ℕ) → getD colours k 0 < 256) → (i n : ℕ)
+    → AllBytes (partOf colours weighted weights i n)
 unfolding partOf weightedAt
-part-bytes colours given weights bytes i n = run-bytes i n (weightedAt colours given weights) (colour-bytes colours bytes)
+part-bytes colours weighted weights bytes i n =
+    run-bytes i n (weightedAt colours weighted weights) (colour-bytes colours bytes)
 
-pub all-bytes-of : (colours : List ℕ) (given : Bool) (weights : List ℕ) → ((k : ℕ) → getD colours k 0 < 256) → AllBytes (batchOf colours given weights)
+pub all-bytes-of : (colours : List ℕ) (weighted : Bool) (weights : List ℕ) → ((k : ℕ) → getD colours k 0 < 256)
+    → AllBytes (batchOf colours weighted weights)
 unfolding batchOf partOf
-all-bytes-of colours given weights h = part-bytes colours given weights h 0 (length colours / 3)
+all-bytes-of colours weighted weights h = part-bytes colours weighted weights h 0 (length colours / 3)
 
 -- before the first of them
-pub held-none : (g : Grid) (t colours : List ℕ) (given : Bool) (weights : List ℕ) (i : ℕ) → length t ≡ 5 * binsOf g → Holds (binsOf g) t (loaded g (partOf colours given weights i 0) (wide t))
+pub held-none : (g : Grid) (t : Table) (colours : List ℕ) (weighted : Bool) (weights : List ℕ) (i : ℕ)
+    → Sized t (binsOf g) → Holds (binsOf g) t (loaded g (partOf colours weighted weights i 0) (viewOf t))
 unfolding loaded partOf listFrom sumOver
-held-none g t colours given weights i e = holds-same (holds-itself (binsOf g) t e) (λ p j h k. sym (add-zero (wide t p j)))
+held-none g t colours weighted weights i e =
+    holds-same (holds-itself (binsOf g) t e) (λ p j h k. sym (add-zero (viewOf t p j)))
 
 -- after the first m of n colours that fit, those that follow fit
-module _ {g : Grid} {t colours : List ℕ} {given : Bool} {weights : List ℕ} {i n : ℕ} (fits : Fits g t colours given weights i n) (bytes : (k : ℕ) → getD colours k 0 < 256)
-    {s : List ℕ} (m : ℕ) (holds : Holds (binsOf g) s (loaded g (partOf colours given weights i m) (wide t))) where
-  part-within : (l : ℕ) → m + l ≤ n → weightOf (partOf colours given weights i m) + weightOf (partOf colours given weights (i + m) l) ≤ weightOf (partOf colours given weights i n)
+module _ {most : ℕ} {g : Grid} {t : Table} {colours : List ℕ} {weighted : Bool} {weights : List ℕ} {i n : ℕ}
+    (fits : PartFits most g t colours weighted weights i n) (bytes : (k : ℕ) → getD colours k 0 < 256)
+    {s : Table} (m : ℕ) (holds : Holds (binsOf g) s (loaded g (partOf colours weighted weights i m) (viewOf t))) where
+  part-within : (l : ℕ) → m + l ≤ n
+      → weightOf (partOf colours weighted weights i m) + weightOf (partOf colours weighted weights (i + m) l)
+      ≤ weightOf (partOf colours weighted weights i n)
   unfolding partOf weightOf
   part-within l h =
-      let c = weightedAt colours given weights in
+      let c = weightedAt colours weighted weights in
       omega (
         arith,
         over-part i m l c (λ d. d .weight),
@@ -149,38 +174,47 @@ module _ {g : Grid} {t colours : List ℕ} {given : Bool} {weights : List ℕ} {
         sum-grow i (m + l) n (λ k. c k .weight) h,
       )
 
-  pub fits-later : (at l : ℕ) → at ≡ i + m → m + l ≤ n → Fits g s colours given weights at l
+  pub fits-later : (at l : ℕ) → at ≡ i + m → m + l ≤ n → PartFits most g s colours weighted weights at l
   fits-later at l e h =
       let a = fits .table .accepted in
-      let first = partOf colours given weights i m in
-      let b = part-bytes colours given weights bytes i m in
+      let first = partOf colours weighted weights i m in
+      let b = part-bytes colours weighted weights bytes i m in
       let within = part-within l h in
       record {
         table = record { accepted = a; lent = holds .lent };
-        is-sound = held-sound a first b (wide t) holds (record { holds = fits .is-sound }) (omega (arith, fits .under)) .holds;
+        is-sound =
+            held-sound a first b (viewOf t) holds (record { holds = fits .is-sound })
+            (omega (arith, fits .under)) .holds;
         there = omega (arith, fits .there);
         one-each = fits .one-each;
-        under = rw e (omega (arith, held-total a first b (wide t) holds, fits .under));
+        under = rw e (omega (arith, held-total a first b (viewOf t) holds, fits .under));
       }
 
-  pub held-later : (at l : ℕ) → at ≡ i + m → {e : List ℕ} → Holds (binsOf g) e (loaded g (partOf colours given weights at l) (wide s)) → Holds (binsOf g) e (loaded g (partOf colours given weights i (m + l)) (wide t))
+  pub held-later : (at l : ℕ) → at ≡ i + m → {e : Table}
+      → Holds (binsOf g) e (loaded g (partOf colours weighted weights at l) (viewOf s))
+      → Holds (binsOf g) e (loaded g (partOf colours weighted weights i (m + l)) (viewOf t))
   unfolding partOf
-  held-later at l q {e} more = held-more g (wide t) s e i m l (weightedAt colours given weights) holds (rw q at more)
+  held-later at l q {e} more =
+      held-more g (viewOf t) s e i m l (weightedAt colours weighted weights) holds (rw q at more)
 
 -- a table with colours added holds what was there with them loaded
-pub part-held : (g : Grid) (t colours : List ℕ) (given : Bool) (weights : List ℕ) (i n : ℕ) {e : List ℕ} → e ≡ withPart g t colours given weights i n → Holds (binsOf g) e (loaded g (partOf colours given weights i n) (wide t))
+pub part-held : (g : Grid) (t : Table) (colours : List ℕ) (weighted : Bool) (weights : List ℕ) (i n : ℕ) {e : Table}
+    → e ≡ withPart g t colours weighted weights i n
+    → Holds (binsOf g) e (loaded g (partOf colours weighted weights i n) (viewOf t))
 unfolding withPart
-part-held g t colours given weights i n r = rw r (list-holds (binsOf g) (loaded g (partOf colours given weights i n) (wide t)))
+part-held g t colours weighted weights i n r =
+    rw r (list-holds (binsOf g) (loaded g (partOf colours weighted weights i n) (viewOf t)))
 
 -- colours that fit and are one can be added at once
-module _ {g : Grid} {t colours : List ℕ} {given : Bool} {weights : List ℕ} {i n : ℕ} (fits : Fits g t colours given weights i n) (bytes : (k : ℕ) → getD colours k 0 < 256)
+module _ {most : ℕ} {g : Grid} {t : Table} {colours : List ℕ} {weighted : Bool} {weights : List ℕ} {i n : ℕ}
+    (fits : PartFits most g t colours weighted weights i n) (bytes : (k : ℕ) → getD colours k 0 < 256)
     (same : (k : ℕ) → k < n → colourAt colours (i + k) ≡ colourAt colours i)
-    {x : Rgb} (p : x ≡ colourAt colours i) {w : ℕ} (q : w ≡ cond given (sumFrom i n (λ k. getD weights k 0)) n) where
+    {x : Rgb} (p : x ≡ colourAt colours i) {w : ℕ} (q : w ≡ cond weighted (sumFrom i n (λ k. getD weights k 0)) n) where
   abbrev it : Weighted
   it = record { colour = x; weight = w }
 
   abbrev these : List Weighted
-  these = partOf colours given weights i n
+  these = partOf colours weighted weights i n
 
   abbrev place : ℕ
   place = colourPlace g x
@@ -191,34 +225,39 @@ module _ {g : Grid} {t colours : List ℕ} {given : Bool} {weights : List ℕ} {
   adds-it : (r j : ℕ) → adds g it r j ≡ sumOver these (λ d. adds g d r j)
   unfolding partOf weightedAt
   adds-it r j =
-      (λ m. adds g (record { colour = p m; weight = (q ∙ sym (part-weight colours given weights i n)) m }) r j)
-      ∙ sym (run-adds g (colourAt colours i) (weightedAt colours given weights) r j i n same)
+      (λ m. adds g (record { colour = p m; weight = (q ∙ sym (part-weight colours weighted weights i n)) m }) r j)
+      ∙ sym (run-adds g (colourAt colours i) (weightedAt colours weighted weights) r j i n same)
 
-  pub light : w ≤ limit
-  light = omega (arith, q, part-weight colours given weights i n, fits .under)
+  pub light : w ≤ most
+  light = omega (arith, q, part-weight colours weighted weights i n, fits .under)
 
-  pub has-room : Adds t (colourPlace g x) (cellOf (share (record { colour = x; weight = w })))
+  pub has-room : most ≤ limit → CellFits t (colourPlace g x) (cellOf (share (record { colour = x; weight = w })))
   unfolding adds loaded
-  has-room =
+  has-room m =
       let a = fits .table .accepted in
-      let after = load-sound a these (part-bytes colours given weights bytes i n) (record { holds = fits .is-sound }) (fits .under) in
+      let after =
+      load-sound a these (part-bytes colours weighted weights bytes i n) (record { holds = fits .is-sound })
+      (fits .under) in
+      let sums : (j : ℕ) → j < 5
+      → numberOf (cellOf (viewOf t place)) j + numberOf (cellOf (share it)) j ≡ loaded g these (viewOf t) place j =
+      λ j k.
+      (λ r. number-cell (viewOf t place) j k r + number-cell (share it) j k r)
+      ∙ ap (λ (y : ℕ). viewOf t place j + y)
+      (ap (λ (b : Bool). cond b (share it j) 0) (sym (eq-eqb place place refl)) ∙ adds-it place j) in
       record {
-        cell = omega (arith, fits .table .lent, inside);
-        fits = λ j k.
-            let sums : wide t place j + numberOf (cellOf (share it)) j ≡ loaded g these (wide t) place j =
-            ap (λ (y : ℕ). wide t place j + y)
-            (number-cell (share it) j k
-            ∙ ap (λ (b : Bool). cond b (share it j) 0) (sym (eq-eqb place place refl))
-            ∙ adds-it place j) in
-            rw sums (lt-trans (number-below a after place inside (omega arith) j k) (lit< tt));
+        cell = has-cell (fits .table .lent) place inside;
+        sums = record { fits = λ j k. rw (sums j k) (lt-trans (number-below a after place inside m j k) (lit< tt)) };
+        held = sound-held a after place inside m (λ j k. number-plus _ _ j k ∙ sums j k);
       }
 
-  pub at-once : {e : List ℕ} → e ≡ withColour g t (record { colour = x; weight = w }) → Holds (binsOf g) e (loaded g (partOf colours given weights i n) (wide t))
+  pub at-once : {e : Table} → e ≡ withColour g t (record { colour = x; weight = w })
+      → Holds (binsOf g) e (loaded g (partOf colours weighted weights i n) (viewOf t))
   unfolding withColour adds loaded
   at-once r =
       rw r
       (holds-same (add-holds (holds-itself (binsOf g) t (fits .table .lent)) place (cellOf (share it)) inside)
-      (λ q j l k. ap (λ (y : ℕ). wide t q j + y) (ap (λ (y : ℕ). cond (eqb place q) y 0) (number-cell (share it) j k) ∙ adds-it q j)))
+      (λ q j l k. ap (λ (y : ℕ). viewOf t q j + y)
+      (ap (λ (y : ℕ). cond (eqb place q) y 0) (number-cell (share it) j k) ∙ adds-it q j)))
 
 -- a colour by itself is one, with its own weight
 pub alone : (colours : List ℕ) (i k : ℕ) → k < 1 → colourAt colours (i + k) ≡ colourAt colours i
@@ -227,6 +266,7 @@ alone colours i k h = ap (colourAt colours) (there i k h)
     there : (i k : ℕ) → k < 1 → i + k ≡ i
     there i k h = omega arith
 
-pub own-weight : (given : Bool) (weights : List ℕ) (i : ℕ) → cond given (getD weights i 0) 1 ≡ cond given (sumFrom i 1 (λ k. getD weights k 0)) 1
+pub own-weight : (weighted : Bool) (weights : List ℕ) (i : ℕ)
+    → cond weighted (getD weights i 0) 1 ≡ cond weighted (sumFrom i 1 (λ k. getD weights k 0)) 1
 unfolding sumFrom
-own-weight given weights i = ap (λ (w : ℕ). cond given w 1) (sym (add-zero (getD weights i 0)))
+own-weight weighted weights i = ap (λ (w : ℕ). cond weighted w 1) (sym (add-zero (getD weights i 0)))

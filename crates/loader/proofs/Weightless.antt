@@ -11,15 +11,17 @@ use borrow.Author.Tests.{eq-eqb, ne-eqb}
 use lib.Dec.{eqb, ltb}
 use lib.ListN.{length, getD, length-append, List·getD-append}
 use lib.Seq.{getD-append-add}
-use Rattle.grid.specs.declared.Grid.{Grid}
-use Rattle.grid.specs.Answer.{refuse, whenDone}
-use Rattle.grid.specs.Range.{sumFrom, listFrom}
-use Rattle.grid.specs.Grid.{gridOf, onGrid, numberOn, binsOf, colourAt, colourPlace}
-use Rattle.grid.proofs.Range.{sum-same, sum-append, sum-shift}
-use Rattle.table.specs.Cell.{wide, wideList}
+use Rattle.grid.specs.declared.place.Grid.{Grid}
+use Rattle.basics.specs.Answer.{refuse, whenDone}
+use Rattle.basics.specs.Range.{sumFrom, listFrom}
+use Rattle.grid.specs.Grid.{gridOf, onGrid, numberOn, binsOf, colourPlace}
+use Rattle.pixels.specs.Colour.{colourAt}
+use Rattle.basics.proofs.Range.{sum-same, sum-append, sum-shift}
+use Rattle.table.specs.Table.{Table, isSized, viewOf, written}
 use Rattle.table.specs.Sound.{limit, total, sound, unsoundNumber}
-use Rattle.table.proofs.Cells.{holds-list, holds-itself, holds-same}
-use Rattle.loader.specs.Load.{Weighted, share, adds, sumOver, weightOf, loaded, weightedAt, batchOf, loadNumberOn, loadNumber, loadLater}
+use Rattle.table.proofs.Tables.{holds-list, holds-itself, holds-same}
+use Rattle.loader.specs.Load.{Weighted, share, adds, sumOver, weightOf, loaded, weightedAt, batchOf, loadNumberOn}
+use Rattle.loader.specs.Load.{loadNumber, loadLater}
 use Rattle.loader.proofs.Loading.{over-list}
 use Rattle.loader.proofs.Laws.{load-refused, load-says}
 
@@ -31,7 +33,8 @@ share-none c e (suc zero) = ap (λ (w : ℕ). w * c .colour .c1) e ∙ zero-mul 
 share-none c e (suc (suc zero)) = ap (λ (w : ℕ). w * c .colour .c2) e ∙ zero-mul (c .colour .c2)
 share-none c e (suc (suc (suc zero))) = ap (λ (w : ℕ). w * c .colour .c3) e ∙ zero-mul (c .colour .c3)
 share-none c e (suc (suc (suc (suc j)))) =
-    ap (λ (w : ℕ). w * (c .colour .c1 * c .colour .c1 + c .colour .c2 * c .colour .c2 + c .colour .c3 * c .colour .c3)) e
+    ap (λ (w : ℕ). w * (c .colour .c1 * c .colour .c1 + c .colour .c2 * c .colour .c2 + c .colour .c3 * c .colour .c3))
+    e
     ∙ zero-mul (c .colour .c1 * c .colour .c1 + c .colour .c2 * c .colour .c2 + c .colour .c3 * c .colour .c3)
 
 either-none : (b : Bool) (x : ℕ) → x ≡ 0 → cond b x 0 ≡ 0
@@ -43,24 +46,30 @@ unfolding adds
 adds-none g p j c e = either-none (eqb (colourPlace g (c .colour)) p) (share c j) (share-none c e j)
 
 -- ---- two batches whose sums are the same, of whatever is 0 at weight 0, load alike
-module _ (b1 b2 b3 : ℕ) (t : List ℕ) (given : Bool) (colours weights colours' weights' : List ℕ)
+module _ (b1 b2 b3 : ℕ) (t : Table) (weighted : Bool) (colours weights colours' weights' : List ℕ)
     (threes : length colours % 3 ≡ length colours' % 3)
     (paired : eqb (length weights) (length colours / 3) ≡ eqb (length weights') (length colours' / 3))
-    (sums : (f : Weighted → ℕ) → ((c : Weighted) → c .weight ≡ 0 → f c ≡ 0) → sumOver (batchOf colours given weights) f ≡ sumOver (batchOf colours' given weights') f) where
-  number-alike : (g : Grid) → loadNumberOn limit g t colours given weights ≡ loadNumberOn limit g t colours' given weights'
+    (sums : (f : Weighted → ℕ) → ((c : Weighted) → c .weight ≡ 0 → f c ≡ 0)
+    → sumOver (batchOf colours weighted weights) f ≡ sumOver (batchOf colours' weighted weights') f) where
+  number-alike : (g : Grid)
+      → loadNumberOn limit 7 g (isSized t (binsOf g)) (viewOf t) colours weighted weights
+      ≡ loadNumberOn limit 7 g (isSized t (binsOf g)) (viewOf t) colours' weighted weights'
   unfolding loadNumberOn weightOf
   number-alike g =
       λ i. refuse (not (eqb (threes i) 0)) 3
-      (refuse (given && not (paired i)) 4
-      (refuse (not (eqb (length t) (5 * binsOf g))) 5
-      (refuse (not (sound limit g (wide t))) unsoundNumber
-      (refuse (ltb limit (total g (wide t) + sums (λ c. c .weight) (λ c e. e) i)) 7 0))))
+      (refuse (weighted && not (paired i)) 4
+      (refuse (not (isSized t (binsOf g))) 5
+      (refuse (not (sound limit g (viewOf t))) unsoundNumber
+      (refuse (ltb limit (total g (viewOf t) + sums (λ c. c .weight) (λ c e. e) i)) 7 0))))
 
-  table-alike : (g : Grid) → wideList (binsOf g) (loaded g (batchOf colours given weights) (wide t)) ≡ wideList (binsOf g) (loaded g (batchOf colours' given weights') (wide t))
+  table-alike : (g : Grid)
+      → written (binsOf g) (loaded g (batchOf colours weighted weights) (viewOf t))
+      ≡ written (binsOf g) (loaded g (batchOf colours' weighted weights') (viewOf t))
   unfolding loaded
-  table-alike g = λ i. wideList (binsOf g) (λ p j. wide t p j + sums (λ c. adds g c p j) (adds-none g p j) i)
+  table-alike g = λ i. written (binsOf g) (λ p j. viewOf t p j + sums (λ c. adds g c p j) (adds-none g p j) i)
 
-  loads-alike : (loadNumber b1 b2 b3 t colours given weights ≡ loadNumber b1 b2 b3 t colours' given weights') × (loadLater b1 b2 b3 t colours given weights ≡ loadLater b1 b2 b3 t colours' given weights')
+  loads-alike : (loadNumber b1 b2 b3 t colours weighted weights ≡ loadNumber b1 b2 b3 t colours' weighted weights')
+      × (loadLater b1 b2 b3 t colours weighted weights ≡ loadLater b1 b2 b3 t colours' weighted weights')
   unfolding loadNumber loadLater
   loads-alike = (
     λ i. numberOn (gridOf b1 b2 b3) (λ g. number-alike g i),
@@ -92,9 +101,16 @@ module _ (xs ys us ws : List ℕ) (c1 c2 c3 : ℕ) (pairs : length xs ≡ 3 * le
   early : (k : ℕ) → k < length us → weightedAt more true (us ++ (0 ∷ ws)) k ≡ weightedAt fewer true (us ++ ws) k
   unfolding weightedAt colourAt
   early k h =
-      let colour : (d : ℕ) → d < 3 → getD more (3 * k + d) 0 ≡ getD fewer (3 * k + d) 0 = λ d l. before xs (c1 ∷ c2 ∷ c3 ∷ ys) ys (3 * k + d) (omega arith) in
+      let colour : (d : ℕ) → d < 3 → getD more (3 * k + d) 0 ≡ getD fewer (3 * k + d) 0 =
+      λ d l. before xs (c1 ∷ c2 ∷ c3 ∷ ys) ys (3 * k + d) (omega arith) in
       λ i. record {
-        colour = record { c1 = before xs (c1 ∷ c2 ∷ c3 ∷ ys) ys (3 * k) (omega arith) i; c2 = colour 1 (omega arith) i; c3 = colour 2 (omega arith) i };
+        colour =
+            record {
+              c1 = before xs (c1 ∷ c2 ∷ c3 ∷ ys) ys (3 * k) (omega arith) i;
+              c2 = colour 1 (omega arith) i;
+              c3 =
+                  colour 2 (omega arith) i;
+            };
         weight = before us (0 ∷ ws) ws k h i;
       }
 
@@ -131,18 +147,21 @@ module _ (xs ys us ws : List ℕ) (c1 c2 c3 : ℕ) (pairs : length xs ≡ 3 * le
       place : 0 + length us ≡ length us + 0
       place = omega arith
 
-  sums-alike : (f : Weighted → ℕ) → ((c : Weighted) → c .weight ≡ 0 → f c ≡ 0) → sumOver (batchOf more true (us ++ (0 ∷ ws))) f ≡ sumOver (batchOf fewer true (us ++ ws)) f
+  sums-alike : (f : Weighted → ℕ) → ((c : Weighted) → c .weight ≡ 0 → f c ≡ 0)
+      → sumOver (batchOf more true (us ++ (0 ∷ ws))) f ≡ sumOver (batchOf fewer true (us ++ ws)) f
   unfolding batchOf sumFrom
   sums-alike f none =
       let F : ℕ → ℕ = λ k. f (weightedAt more true (us ++ (0 ∷ ws)) k) in
       let G : ℕ → ℕ = λ k. f (weightedAt fewer true (us ++ ws) k) in
       let m = length us in
       let r = length ys / 3 in
-      let rest : sumFrom (suc (0 + m)) r F ≡ sumFrom (0 + m) r G = ap (λ (n : ℕ). sumFrom n r F) (next (0 + m)) ∙ sum-shift 1 (0 + m) r F ∙ sum-same (0 + m) r (λ k. F (1 + k)) G (λ k h l. ap f (late k (omega arith))) in
+      let rest : sumFrom (suc (0 + m)) r F ≡ sumFrom (0 + m) r G = ap (λ (n : ℕ). sumFrom n r F) (next (0 + m))
+      ∙ sum-shift 1 (0 + m) r F ∙ sum-same (0 + m) r (λ k. F (1 + k)) G (λ k h l. ap f (late k (omega arith))) in
       over-list 0 (length more / 3) (weightedAt more true (us ++ (0 ∷ ws))) f
       ∙ ap (λ (n : ℕ). sumFrom 0 n F) one-more
       ∙ sum-append 0 m (suc r) F
-      ∙ (λ i. sum-same 0 m F G (λ k h l. ap f (early k (omega arith))) i + (none (weightedAt more true (us ++ (0 ∷ ws)) (0 + m)) own-weight i + rest i))
+      ∙ (λ i. sum-same 0 m F G (λ k h l. ap f (early k (omega arith))) i
+      + (none (weightedAt more true (us ++ (0 ∷ ws)) (0 + m)) own-weight i + rest i))
       ∙ ap (λ (n : ℕ). sumFrom 0 m G + n) (zero-add (sumFrom (0 + m) r G))
       ∙ sym
       (over-list 0 (length fewer / 3) (weightedAt fewer true (us ++ ws)) f
@@ -153,7 +172,7 @@ module _ (xs ys us ws : List ℕ) (c1 c2 c3 : ℕ) (pairs : length xs ≡ 3 * le
       next n = omega arith
 
   -- "Weight 0 adds nothing": the number is the same, and so is the table
-  pub weightless : (b1 b2 b3 : ℕ) (t : List ℕ)
+  pub weightless : (b1 b2 b3 : ℕ) (t : Table)
       → (loadNumber b1 b2 b3 t more true (us ++ (0 ∷ ws)) ≡ loadNumber b1 b2 b3 t fewer true (us ++ ws))
       × (loadLater b1 b2 b3 t more true (us ++ (0 ∷ ws)) ≡ loadLater b1 b2 b3 t fewer true (us ++ ws))
   weightless b1 b2 b3 t =
@@ -174,21 +193,22 @@ module _ (xs ys us ws : List ℕ) (c1 c2 c3 : ℕ) (pairs : length xs ≡ 3 * le
           (omega (arith, length-append us (0 ∷ ws), length-append us ws)) (omega (arith, one-more, none-more))
 
 -- ---- an empty batch
-pub empty-weight : (given : Bool) (weights : List ℕ) → weightOf (batchOf [] given weights) ≡ 0
+pub empty-weight : (weighted : Bool) (weights : List ℕ) → weightOf (batchOf [] weighted weights) ≡ 0
 unfolding batchOf weightOf sumOver listFrom
-empty-weight given weights = refl
+empty-weight weighted weights = refl
 
-module _ (b1 b2 b3 : ℕ) (t : List ℕ) (given : Bool) (weights : List ℕ) where
+module _ (b1 b2 b3 : ℕ) (t : Table) (weighted : Bool) (weights : List ℕ) where
   -- "An empty batch changes nothing", refused or not
-  pub empty-kept : loadLater b1 b2 b3 t [] given weights ≡ t
+  pub empty-kept : loadLater b1 b2 b3 t [] weighted weights ≡ t
   unfolding loaded batchOf sumOver listFrom
-  empty-kept = go (loadNumber b1 b2 b3 t [] given weights) refl
+  empty-kept = go (loadNumber b1 b2 b3 t [] weighted weights) refl
     where
       nothing : (x : ℕ) → x + 0 ≡ x
       nothing x = omega arith
 
-      go : (n : ℕ) → loadNumber b1 b2 b3 t [] given weights ≡ n → loadLater b1 b2 b3 t [] given weights ≡ t
+      go : (n : ℕ) → loadNumber b1 b2 b3 t [] weighted weights ≡ n → loadLater b1 b2 b3 t [] weighted weights ≡ t
       go zero e =
-          let d = load-says b1 b2 b3 t [] given weights e in
-          holds-list (holds-same (d .holds) (λ p j h k. nothing (wide t p j))) ∙ sym (holds-list (holds-itself (binsOf (d .g)) t (d .lent)))
-      go (suc n) e = load-refused b1 b2 b3 t [] given weights e
+          let d = load-says b1 b2 b3 t [] weighted weights e in
+          holds-list (holds-same (d .holds) (λ p j h k. nothing (viewOf t p j)))
+          ∙ sym (holds-list (holds-itself (binsOf (d .g)) t (d .lent)))
+      go (suc n) e = load-refused b1 b2 b3 t [] weighted weights e

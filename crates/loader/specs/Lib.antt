@@ -1,4 +1,4 @@
 pub mod Load
 pub mod Merge
-pub mod Step
 pub mod Plan
+pub mod Inner

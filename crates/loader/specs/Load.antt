@@ -5,12 +5,14 @@ use mathlib.Core.List.{List, [], _∷_, List·Memᴰ}
 use Prim.Native.Nat.{ℕ, zero, suc, _+_, _*_, _/_, _%_, _<_}
 use lib.Dec.{eqb, ltb}
 use lib.ListN.{length, getD}
-use Rattle.grid.specs.declared.Grid.{Grid}
-use Rattle.grid.specs.declared.Rgb.{Rgb}
-use Rattle.grid.specs.Answer.{refuse, whenDone}
-use Rattle.grid.specs.Range.{listFrom}
-use Rattle.grid.specs.Grid.{gridOf, onGrid, numberOn, binsOf, colourAt, colourPlace}
-use Rattle.table.specs.Cell.{View, zeros, wide, wideList}
+use Rattle.grid.specs.declared.place.Grid.{Grid}
+use Rattle.pixels.specs.declared.colour.Rgb.{Rgb}
+use Rattle.basics.specs.Answer.{refuse, whenDone}
+use Rattle.basics.specs.Range.{listFrom}
+use Rattle.grid.specs.Grid.{gridOf, onGrid, numberOn, binsOf, colourPlace}
+use Rattle.pixels.specs.Colour.{colourAt}
+use Rattle.table.specs.Cell.{View, zeros}
+use Rattle.table.specs.Table.{Table, isSized, viewOf, written}
 use Rattle.table.specs.Sound.{limit, total, sound, unsoundNumber}
 
 -- a colour with a weight as large as wanted
@@ -43,8 +45,8 @@ unfoldable pub loaded : Grid → List Weighted → View → View
 loaded g cs v p j = v p j + sumOver cs (λ c. adds g c p j)
 
 -- the table of a list of colours: an empty one with them loaded
-unfoldable pub tableOf : Grid → List Weighted → List ℕ
-tableOf g cs = wideList (binsOf g) (loaded g cs zeros)
+unfoldable pub tableOf : Grid → List Weighted → Table
+tableOf g cs = written (binsOf g) (loaded g cs zeros)
 
 -- a colour of weight above 0 among them, at a place
 pub record ColourAt (g : Grid) (cs : List Weighted) (p : ℕ) : Type 0 where
@@ -55,30 +57,33 @@ pub record ColourAt (g : Grid) (cs : List Weighted) (p : ℕ) : Type 0 where
 
 -- colour i of a batch: "its weight (.. 1 when none is given, whatever list is lent)"
 unfoldable pub weightedAt : List ℕ → Bool → List ℕ → ℕ → Weighted
-weightedAt colours given weights i =
-    record { colour = colourAt colours i; weight = cond given (getD weights i 0) 1 }
+weightedAt colours weighted weights i =
+    record { colour = colourAt colours i; weight = cond weighted (getD weights i 0) 1 }
 
 -- the colours of a batch
 unfoldable pub batchOf : List ℕ → Bool → List ℕ → List Weighted
-batchOf colours given weights = listFrom 0 (length colours / 3) (weightedAt colours given weights)
+batchOf colours weighted weights = listFrom 0 (length colours / 3) (weightedAt colours weighted weights)
 
--- the number of a load on an accepted grid
-unfoldable pub loadNumberOn : ℕ → Grid → List ℕ → List ℕ → Bool → List ℕ → ℕ
-loadNumberOn most g t colours given weights =
+-- the number of a load on an accepted grid: a limit and the number given beyond it, whether the table's length fits,
+-- and what it holds
+unfoldable pub loadNumberOn : ℕ → ℕ → Grid → Bool → View → List ℕ → Bool → List ℕ → ℕ
+loadNumberOn most beyond g sized v colours weighted weights =
     refuse (not (eqb (length colours % 3) 0)) 3
-    (refuse (given && not (eqb (length weights) (length colours / 3))) 4
-    (refuse (not (eqb (length t) (5 * binsOf g))) 5
-    (refuse (not (sound most g (wide t))) unsoundNumber
-    (refuse (ltb most (total g (wide t) + weightOf (batchOf colours given weights))) 7 0))))
+    (refuse (weighted && not (eqb (length weights) (length colours / 3))) 4
+    (refuse (not sized) 5
+    (refuse (not (sound most g v)) unsoundNumber
+    (refuse (ltb most (total g v + weightOf (batchOf colours weighted weights))) beyond 0))))
 
-unfoldable pub loadNumber : ℕ → ℕ → ℕ → List ℕ → List ℕ → Bool → List ℕ → ℕ
-loadNumber b1 b2 b3 t colours given weights =
-    numberOn (gridOf b1 b2 b3) (λ g. loadNumberOn limit g t colours given weights)
+-- that of a table in the wide layout
+unfoldable pub loadNumber : ℕ → ℕ → ℕ → Table → List ℕ → Bool → List ℕ → ℕ
+loadNumber b1 b2 b3 t colours weighted weights =
+    numberOn (gridOf b1 b2 b3)
+    (λ g. loadNumberOn limit 7 g (isSized t (binsOf g)) (viewOf t) colours weighted weights)
 
 -- the table after a load: "A refusal .. writes nothing"
-unfoldable pub loadLater : ℕ → ℕ → ℕ → List ℕ → List ℕ → Bool → List ℕ → List ℕ
-loadLater b1 b2 b3 t colours given weights =
+unfoldable pub loadLater : ℕ → ℕ → ℕ → Table → List ℕ → Bool → List ℕ → Table
+loadLater b1 b2 b3 t colours weighted weights =
     onGrid (gridOf b1 b2 b3) t
-    (λ g. whenDone (loadNumberOn limit g t colours given weights)
-    (wideList (binsOf g) (loaded g (batchOf colours given weights) (wide t)))
+    (λ g. whenDone (loadNumberOn limit 7 g (isSized t (binsOf g)) (viewOf t) colours weighted weights)
+    (written (binsOf g) (loaded g (batchOf colours weighted weights) (viewOf t)))
     t)

@@ -1,31 +1,36 @@
 -- Merging (document 01, "Merge" and "Numbers a caller gets back"). Definitions only.
-use mathlib.Core.Bool.{not, _&&_}
-use mathlib.Core.List.{List}
-use Prim.Native.Nat.{ℕ, _+_, _*_}
-use lib.Dec.{eqb, ltb}
-use lib.ListN.{length}
-use Rattle.grid.specs.declared.Grid.{Grid}
-use Rattle.grid.specs.Answer.{refuse, whenDone}
+use mathlib.Core.Bool.{Bool, not, _&&_}
+use Prim.Native.Nat.{ℕ, _+_}
+use lib.Dec.{ltb}
+use Rattle.grid.specs.declared.place.Grid.{Grid}
+use Rattle.basics.specs.Answer.{refuse, whenDone}
 use Rattle.grid.specs.Grid.{gridOf, onGrid, numberOn, binsOf}
-use Rattle.table.specs.Cell.{View, wide, wideList}
+use Rattle.table.specs.Cell.{View}
+use Rattle.table.specs.Table.{Table, isSized, viewOf, written}
 use Rattle.table.specs.Sound.{limit, total, sound, unsoundNumber}
 
 -- "Merge adds a second table into a first, number by number"
 unfoldable pub merged : View → View → View
 merged v u p j = v p j + u p j
 
--- the number of a merge on an accepted grid; "either table unsound is 6"
-unfoldable pub mergeNumberOn : ℕ → Grid → List ℕ → List ℕ → ℕ
-mergeNumberOn most g t s =
-    refuse (not (eqb (length t) (5 * binsOf g) && eqb (length s) (5 * binsOf g))) 5
-    (refuse (not (sound most g (wide t) && sound most g (wide s))) unsoundNumber
-    (refuse (ltb most (total g (wide t) + total g (wide s))) 7 0))
+-- the number of a merge on an accepted grid: a limit and the number given beyond it, whether both lengths fit, and what
+-- the tables hold; "either table unsound is 6"
+unfoldable pub mergeNumberOn : ℕ → ℕ → Grid → Bool → View → View → ℕ
+mergeNumberOn most beyond g sized v u =
+    refuse (not sized) 5
+    (refuse (not (sound most g v && sound most g u)) unsoundNumber
+    (refuse (ltb most (total g v + total g u)) beyond 0))
 
-unfoldable pub mergeNumber : ℕ → ℕ → ℕ → List ℕ → List ℕ → ℕ
-mergeNumber b1 b2 b3 t s = numberOn (gridOf b1 b2 b3) (λ g. mergeNumberOn limit g t s)
+-- that of tables in the wide layout
+unfoldable pub mergeNumber : ℕ → ℕ → ℕ → Table → Table → ℕ
+mergeNumber b1 b2 b3 t s =
+    numberOn (gridOf b1 b2 b3)
+    (λ g. mergeNumberOn limit 7 g (isSized t (binsOf g) && isSized s (binsOf g)) (viewOf t) (viewOf s))
 
 -- the first table after a merge
-unfoldable pub mergeLater : ℕ → ℕ → ℕ → List ℕ → List ℕ → List ℕ
+unfoldable pub mergeLater : ℕ → ℕ → ℕ → Table → Table → Table
 mergeLater b1 b2 b3 t s =
     onGrid (gridOf b1 b2 b3) t
-    (λ g. whenDone (mergeNumberOn limit g t s) (wideList (binsOf g) (merged (wide t) (wide s))) t)
+    (λ g. whenDone (mergeNumberOn limit 7 g (isSized t (binsOf g) && isSized s (binsOf g)) (viewOf t) (viewOf s))
+    (written (binsOf g) (merged (viewOf t) (viewOf s)))
+    t)

@@ -1,4 +1,5 @@
--- "Where an answer is an enum, a definition sets out this paper's number and values for each of its cases. The promises use that
+-- "Where an answer is an enum, a definition sets out this paper's number and values for each of its cases. The promises
+-- use that
 -- definition": what a caller is told of a size, of three sizes, of a table and of the best position of a box.
 -- Assumes nothing.
 use mathlib.Core.Path.{_≡_, refl, ap, _∙_}
@@ -8,17 +9,17 @@ use mathlib.Core.List.{List, [], _∷_, List·Memᴰ, List·Memᴰ·head, List·
 use Prim.Native.Nat.{ℕ}
 use borrow.Author.Tests.{eqb-true}
 use lib.Dec.{eqb}
-use Rattle.grid.specs.declared.Grid.{Grid}
-use Rattle.grid.specs.declared.Shift.{Shift}
-use Rattle.grid.specs.declared.Shift.the-variants as shift
-use Rattle.grid.specs.declared.Chosen.the-variants as chosen
+use Rattle.grid.specs.declared.place.Grid.{Grid}
+use Rattle.grid.specs.declared.dimension.Shift.{Shift}
+use Rattle.grid.specs.declared.dimension.Shift.the-variants as shift
+use Rattle.grid.specs.declared.place.Chosen.the-variants as chosen
 use Rattle.grid.specs.Size.{choices, shiftIn, shiftOf, shiftAnswer}
 use Rattle.grid.specs.Grid.{gridWith, gridOf, gridAnswer}
 use Rattle.table.specs.Cell.{View}
-use Rattle.table.specs.Sound.{limit, total, sound, weighed, weighedAnswer}
-use Rattle.table.proofs.Scans.{total-told, unsound-told}
-use Rattle.sums.specs.declared.Bounds.{Bounds}
-use Rattle.sums.specs.Box.{Within}
+use Rattle.table.specs.Sound.{limit, total, sound, soundTotal, soundAnswer}
+use Rattle.table.proofs.Total.{total-told, unsound-told}
+use Rattle.boxes.specs.declared.sides.Bounds.{Bounds}
+use Rattle.boxes.specs.Box.{Within}
 use Rattle.spread.specs.Cut.{positionAnswer, bestCut}
 use Rattle.spread.specs.Best.{Candidate, Tells}
 use Rattle.spread.proofs.Least.{best-told}
@@ -35,7 +36,8 @@ unfolding shiftIn
 none-in [] size n = refl
 none-in (c ∷ cs) size n = go (eqb size (c .0)) refl (none-in cs size (λ s m. n s (List·Memᴰ·tail m)))
   where
-    go : (b : Bool) → eqb size (c .0) ≡ b → shiftIn cs size ≡ shift.Refused → cond b (shift.By (c .1)) (shiftIn cs size) ≡ shift.Refused
+    go : (b : Bool) → eqb size (c .0) ≡ b → shiftIn cs size ≡ shift.Refused
+        → cond b (shift.By (c .1)) (shiftIn cs size) ≡ shift.Refused
     go true e rest = absurd (n (c .1) (List·Memᴰ·head (λ i. (eqb-true size (c .0) e i, c .1))))
     go false e rest = rest
 
@@ -66,8 +68,10 @@ third-refused b1 b2 b3 shift.Refused y = refl
 no-grid : (b1 b2 b3 : ℕ) → NotAmong b1 ⊎ (NotAmong b2 ⊎ NotAmong b3) → gridOf b1 b2 b3 ≡ chosen.Refused
 unfolding gridOf gridWith
 no-grid b1 b2 b3 (inl n) = ap (λ (x : Shift). gridWith b1 b2 b3 x (shiftOf b2) (shiftOf b3)) (not-among b1 n)
-no-grid b1 b2 b3 (inr (inl n)) = ap (λ (x : Shift). gridWith b1 b2 b3 (shiftOf b1) x (shiftOf b3)) (not-among b2 n) ∙ second-refused b1 b2 b3 (shiftOf b1) (shiftOf b3)
-no-grid b1 b2 b3 (inr (inr n)) = ap (λ (x : Shift). gridWith b1 b2 b3 (shiftOf b1) (shiftOf b2) x) (not-among b3 n) ∙ third-refused b1 b2 b3 (shiftOf b1) (shiftOf b2)
+no-grid b1 b2 b3 (inr (inl n)) = ap (λ (x : Shift). gridWith b1 b2 b3 (shiftOf b1) x (shiftOf b3)) (not-among b2 n)
+    ∙ second-refused b1 b2 b3 (shiftOf b1) (shiftOf b3)
+no-grid b1 b2 b3 (inr (inr n)) = ap (λ (x : Shift). gridWith b1 b2 b3 (shiftOf b1) (shiftOf b2) x) (not-among b3 n)
+    ∙ third-refused b1 b2 b3 (shiftOf b1) (shiftOf b2)
 
 pub grid-told : (b1 b2 b3 : ℕ) → GridTold b1 b2 b3 (gridAnswer (gridOf b1 b2 b3))
 unfolding gridAnswer gridOf gridWith
@@ -78,14 +82,18 @@ grid-told b1 b2 b3 =
     }
 
 -- ---- a table
-pub weighed-told : (g : Grid) (v : View) → WeighedTold (sound limit g v) (total g v) (weighedAnswer (weighed limit g v))
+pub weighed-told : (g : Grid) (v : View)
+    → WeighedTold (sound limit g v) (total g v) (soundAnswer (soundTotal limit g v))
 weighed-told g v =
     record {
-      done = λ e. ap weighedAnswer (total-told limit g v e);
-      refused = λ e. ap weighedAnswer (unsound-told limit g v e);
+      done = λ e. ap soundAnswer (total-told limit g v e);
+      refused = λ e. ap soundAnswer (unsound-told limit g v e);
     }
 
--- ---- the best position of a box: "either a position with its float score, or that no position exists; the second exactly when no
--- position has weight on both sides", and "The smallest score wins; on a tie the lowest dimension, in it the lowest bin"
-pub position-told : (g : Grid) (v : View) (x : Bounds) → sound limit g v ≡ true → Within g x → Tells (Candidate g v x) (positionAnswer (bestCut g v x))
+-- ---- the best position of a box: "either a position with its float score, or that no position exists; the second
+-- exactly when no
+-- position has weight on both sides", and "The smallest score wins; on a tie the lowest dimension, in it the lowest
+-- bin"
+pub position-told : (g : Grid) (v : View) (x : Bounds) → sound limit g v ≡ true → Within g x
+    → Tells (Candidate g v x) (positionAnswer (bestCut g v x))
 position-told g v x e w = best-told (record { holds = e }) w

@@ -1,5 +1,7 @@
--- The cut that a C or Rust caller makes is the cut: it is done exactly where that is done and there is room for the boxes, and then it tells
--- and leaves behind what that does. So Tiling, Full and Order, which speak of `cutRecord` and `cutLater`, speak of it too.
+-- The cut that a C or Rust caller makes is the cut: it is done exactly where that is done and there is room for the
+-- boxes, and then it tells
+-- and leaves behind what that does. So Tiling, Full and Order, which speak of `cutRecord` and `cutLater`, speak of it
+-- too.
 -- Assumes nothing.
 use mathlib.Core.Path.{_≡_, refl, sym, ap, subst, _∙_}
 use mathlib.Core.Logic.{_↔_}
@@ -10,32 +12,35 @@ use native.Mathlib.Omega.{arith}
 use lib.ListN.{length, getD, List·getD-map}
 use lib.Seq.{getD-take}
 use lib.Ieee.{Float, nan}
-use Rattle.grid.specs.Answer.{whenDone}
-use Rattle.rounds.specs.declared.BoxSpread.{BoxSpread}
-use Rattle.rounds.specs.Loop.{noBox, spent, boxSpread}
-use Rattle.cutter.specs.declared.CutRecord.{CutRecord}
+use Rattle.basics.specs.Answer.{whenDone}
+use Rattle.rounds.specs.declared.gather.BoxSpread.{BoxSpread}
+use Rattle.boxes.specs.Box.{noBox}
+use Rattle.rounds.specs.Loop.{withZero}
+use Rattle.cutter.specs.declared.call.CutRecord.{CutRecord}
 use Rattle.cutter.specs.Fronts.{filled}
-use Rattle.cutter.specs.Cut.{boundsOf, listOf, cutNumber, cutRecord, cutLater}
-use Rattle.cutter.proofs.Few.{few, all-places}
+use Rattle.cutter.specs.Cut.{listOf, cutNumber, cutRecord, cutLater}
+use Rattle.cutter.proofs.RecordSize.{few, all-places}
 use Rattle.cutter.proofs.Fronts.{length-filled, filled-at, filled-past}
 use Rattle.cutter.proofs.Laws.{record-number}
-use Rattle.seluvava.specs.Cut.{Lent, boxBytes, spreadOf, told, roomNumber, callNumber, cutAnswer, callLater}
+use Rattle.seluvava.specs.Cut.{Lent, itsBytes, spreadOf, told, callNumber, cutAnswer, callLater}
+use Rattle.seluvava.specs.Inner.{roomNumber}
 use Rattle.seluvava.proofs.Boxes.{six, one, told-length}
 use Rattle.seluvava.proofs.Calls.{roomy, room-on, room-enough, in-stages, call-kept, call-has}
 use Rattle.promises.specs.Tiling.{boxesIn, boxIn}
 use Rattle.promises.specs.Call.{Room, boxRead, TellsCut}
 use Rattle.promises.proofs.Numbers.{cut-exactly}
+use Rattle.boxes.specs.Bytes.{boxBytes}
 
 -- ---- what is read where the boxes of a record were written
 abbrev none : BoxSpread
-none = boxSpread (spent noBox)
+none = withZero noBox
 
 module _ (r : CutRecord) (many : length (told r) ≡ r .boxes) (i : ℕ) (h : i < r .boxes) where
   in-list : i < length (told r)
   in-list = omega (arith, h, many)
 
-  read-box : (old : List ℕ) → boxRead (filled 6 boxBytes (told r) old) i ≡ boxIn r i
-  unfolding boxRead boxIn boxesIn boxBytes boundsOf listOf told boxSpread
+  read-box : (old : List ℕ) → boxRead (filled 6 itsBytes (told r) old) i ≡ boxIn r i
+  unfolding boxRead boxIn boxesIn itsBytes boxBytes listOf told
   read-box old =
       (λ j. record {
         r0 = at 0 (omega arith) j;
@@ -45,10 +50,11 @@ module _ (r : CutRecord) (many : length (told r) ≡ r .boxes) (i : ℕ) (h : i 
         b0 = at 4 (omega arith) j;
         b1 = at 5 (omega arith) j;
       })
-      ∙ sym (List·getD-map boundsOf (told r) i none)
+      ∙ sym (List·getD-map (λ (x : BoxSpread). x .bounds) (told r) i none)
     where
-      at : (j : ℕ) → j < 6 → getD (filled 6 boxBytes (told r) old) (6 * i + j) 0 ≡ getD (boxBytes (getD (told r) i none)) j 0
-      at j l = filled-at 6 boxBytes six (told r) old i j none 0 in-list l
+      at : (j : ℕ) → j < 6
+          → getD (filled 6 itsBytes (told r) old) (6 * i + j) 0 ≡ getD (itsBytes (getD (told r) i none)) j 0
+      at j l = filled-at 6 itsBytes six (told r) old i j none 0 in-list l
 
   read-spread : (old : List Float) → getD (filled 1 spreadOf (told r) old) i nan ≡ getD (r .places) i none .spread
   unfolding spreadOf told
@@ -61,8 +67,12 @@ module _ (r : CutRecord) (many : length (told r) ≡ r .boxes) (i : ℕ) (h : i 
       place i = omega arith
 
 -- "Places past the filled front .. stay"
-stays : {B : Type 0} (w : ℕ) (f : BoxSpread → List B) → ((x : BoxSpread) → length (f x) ≡ w) → (xs : List BoxSpread) {n : ℕ} → w * length xs ≡ n → (old : List B) (j : ℕ) (past : B) → getD (filled w f xs old) (n + j) past ≡ getD old (n + j) past
-stays w f each xs e old j past = subst (λ (n : ℕ). getD (filled w f xs old) (n + j) past ≡ getD old (n + j) past) e (filled-past w f each xs old j past)
+stays : {B : Type 0} (w : ℕ) (f : BoxSpread → List B) → ((x : BoxSpread) → length (f x) ≡ w)
+    → (xs : List BoxSpread) {n : ℕ} → w * length xs ≡ n → (old : List B) (j : ℕ) (past : B)
+    → getD (filled w f xs old) (n + j) past ≡ getD old (n + j) past
+stays w f each xs e old j past =
+    subst (λ (n : ℕ). getD (filled w f xs old) (n + j) past ≡ getD old (n + j) past) e
+    (filled-past w f each xs old j past)
 
 -- ---- the call
 module _ (b1 b2 b3 k : ℕ) (t : List ℕ) (l : Lent) where
@@ -104,27 +114,37 @@ module _ (b1 b2 b3 k : ℕ) (t : List ℕ) (l : Lent) where
         let o = cut-exactly b1 b2 b3 k t (l .buffers) .0 (d .0) in
         cut-number
         (room-on b1 b2 b3 k (length (l .boxes)) (length (l .spreads)) (o .chosen)
-        ∙ room-enough k (length (l .boxes)) (length (l .spreads)) (o .can .least) (o .can .most) (d .1 .boxes) (d .1 .spreads))
+        ∙ room-enough k (length (l .boxes)) (length (l .spreads)) (o .can .0 .least) (o .can .0 .most) (d .1 .boxes)
+        (d .1 .spreads))
         ∙ d .0,
   )
 
   -- "zero boxes", and nothing is written
-  pub refused-call : {n : ℕ} → cutAnswer b1 b2 b3 k t l .number ≡ suc n → (cutAnswer b1 b2 b3 k t l ≡ record { number = suc n; boxes = 0 }) × (callLater b1 b2 b3 k t l ≡ l)
+  pub refused-call : {n : ℕ} → cutAnswer b1 b2 b3 k t l .number ≡ suc n
+      → (cutAnswer b1 b2 b3 k t l ≡ record { number = suc n; boxes = 0 }) × (callLater b1 b2 b3 k t l ≡ l)
   refused-call e = call-kept b1 b2 b3 k t l (sym is-number ∙ e)
 
-  pub call-tells : cutAnswer b1 b2 b3 k t l .number ≡ 0 → TellsCut (cutRecord b1 b2 b3 k t (l .buffers)) (cutLater b1 b2 b3 k t (l .buffers)) l (cutAnswer b1 b2 b3 k t l) (callLater b1 b2 b3 k t l)
+  pub call-tells : cutAnswer b1 b2 b3 k t l .number ≡ 0
+      → TellsCut (cutRecord b1 b2 b3 k t (l .buffers)) (cutLater b1 b2 b3 k t (l .buffers)) l (cutAnswer b1 b2 b3 k t l)
+      (callLater b1 b2 b3 k t l)
   call-tells e =
       let enough = roomy b1 b2 b3 k (length (l .boxes)) (length (l .spreads)) (has-room e) in
       let has = call-has b1 b2 b3 k t l (sym is-number ∙ e) in
       let most : r .boxes ≤ k = few k (enough .least) (enough .most) t b1 b2 b3 (l .buffers) refl in
       let many = told-length r (all-places k t b1 b2 b3 (l .buffers) refl) (omega (arith, most, enough .most)) in
       record {
-        answer = has .0 ∙ ap (λ (n : ℕ). record { number = n; boxes = r .boxes }) (sym (record-number b1 b2 b3 k t (l .buffers) ∙ sym (cut-number (has-room e)) ∙ e));
+        answer = has .0
+            ∙ ap (λ (n : ℕ). record { number = n; boxes = r .boxes })
+            (sym (record-number b1 b2 b3 k t (l .buffers) ∙ sym (cut-number (has-room e)) ∙ e));
         buffers = ap (λ (x : Lent). x .buffers) (has .1);
         box = λ i h. ap (λ (x : Lent). boxRead (x .boxes) i) (has .1) ∙ read-box r many i h (l .boxes);
         spread = λ i h. ap (λ (x : Lent). getD (x .spreads) i nan) (has .1) ∙ read-spread r many i h (l .spreads);
-        boxes-stay = λ j. ap (λ (x : Lent). getD (x .boxes) (6 * r .boxes + j) 0) (has .1) ∙ stays 6 boxBytes six (told r) (ap (λ (n : ℕ). 6 * n) many) (l .boxes) j 0;
-        spreads-stay = λ j. ap (λ (x : Lent). getD (x .spreads) (r .boxes + j) nan) (has .1) ∙ stays 1 spreadOf one (told r) (one-mul (length (told r)) ∙ many) (l .spreads) j nan;
-        boxes-long = ap (λ (x : Lent). length (x .boxes)) (has .1) ∙ length-filled 6 boxBytes six (told r) (l .boxes) (omega (arith, many, most, enough .boxes-fit));
-        spreads-long = ap (λ (x : Lent). length (x .spreads)) (has .1) ∙ length-filled 1 spreadOf one (told r) (l .spreads) (omega (arith, many, most, enough .spreads-fit));
+        boxes-stay = λ j. ap (λ (x : Lent). getD (x .boxes) (6 * r .boxes + j) 0) (has .1)
+            ∙ stays 6 itsBytes six (told r) (ap (λ (n : ℕ). 6 * n) many) (l .boxes) j 0;
+        spreads-stay = λ j. ap (λ (x : Lent). getD (x .spreads) (r .boxes + j) nan) (has .1)
+            ∙ stays 1 spreadOf one (told r) (one-mul (length (told r)) ∙ many) (l .spreads) j nan;
+        boxes-long = ap (λ (x : Lent). length (x .boxes)) (has .1)
+            ∙ length-filled 6 itsBytes six (told r) (l .boxes) (omega (arith, many, most, enough .boxes-fit));
+        spreads-long = ap (λ (x : Lent). length (x .spreads)) (has .1)
+            ∙ length-filled 1 spreadOf one (told r) (l .spreads) (omega (arith, many, most, enough .spreads-fit));
       }

@@ -1,65 +1,85 @@
--- For every public function of every crate: any two results, and any two later contents of what it was lent, that its contract allows
--- are equal. `Learnt` is what a contract tells its caller of the arguments a, the result r and the parameters at exit e.
+-- For every public function of every crate: any two results, and any two later contents of what it was lent, that its
+-- contract allows
+-- are equal. `Learnt` is what a contract tells its caller of the arguments a, the result r and the parameters at exit
+-- e.
 -- Assumes nothing.
 use mathlib.Core.Path.{_≡_}
 use mathlib.Core.List.{List}
 use Prim.Native.Nat.{ℕ}
 use lib.Ieee.{Float}
 use denote.Ref.{now}
-use Rattle.grid.proofs.Determined.{determined}
-use Rattle.cutter.specs.declared.CutRecord.{CutRecord}
+use Rattle.basics.proofs.Determined.{determined}
+use Rattle.cutter.specs.declared.call.CutRecord.{CutRecord}
 use Rattle.cutter.specs.Cut.{Buffers, buffers}
-use Rattle.grid.proofs.shift_of as shift-of
-use Rattle.grid.proofs.grid_of as grid-of
-use Rattle.grid.proofs.Grid.rgb as rgb
-use Rattle.grid.proofs.bin_of as bin-of
-use Rattle.grid.proofs.span_of as span-of
-use Rattle.grid.proofs.bins as bins
-use Rattle.grid.proofs.place as place
-use Rattle.grid.proofs.colour as colour
-use Rattle.grid.proofs.steps as steps
-use Rattle.grid.proofs.flat as flat
-use Rattle.table.proofs.cell_at as cell-at
-use Rattle.table.proofs.put_at as put-at
-use Rattle.table.proofs.plus as plus
-use Rattle.table.proofs.minus as minus
-use Rattle.table.proofs.weigh as weigh
-use Rattle.loader.proofs.load as load
-use Rattle.loader.proofs.merge as merge
-use Rattle.sums.proofs.moments as moments
-use Rattle.sums.proofs.stats_of as stats-of
-use Rattle.sums.proofs.box_sum as box-sum
-use Rattle.spread.proofs.spread as spread
-use Rattle.spread.proofs.score as score
-use Rattle.spread.proofs.position_between as position-between
-use Rattle.spread.proofs.better as better
-use Rattle.spread.proofs.low_side as low-side
-use Rattle.spread.proofs.high_side as high-side
-use Rattle.spread.proofs.best_cut as best-cut
-use Rattle.heap.proofs.put_in as put-in
-use Rattle.heap.proofs.take_out as take-out
-use Rattle.rounds.proofs.cut_boxes as cut-boxes
-use Rattle.cutter.proofs.front as front
-use Rattle.mapper.proofs.map as map
-use Rattle.mapper.proofs.paint as paint
-use Rattle.lines.specs.declared.Loaded.{Loaded}
-use Rattle.lines.proofs.empty_table as empty-table
-use Rattle.lines.proofs.load_batch as load-batch
-use Rattle.lines.proofs.text as text
-use Rattle.cutter.proofs.cut as cut
-use Rattle.seluvava.specs.declared.CutAnswer.{CutAnswer}
+use Rattle.grid.proofs.dimension.shift_of as shift-of
+use Rattle.grid.proofs.place.grid_of as grid-of
+use Rattle.grid.proofs.place.Grid.rgb as rgb
+use Rattle.grid.proofs.dimension.bin_of as bin-of
+use Rattle.grid.proofs.dimension.span_of as span-of
+use Rattle.grid.proofs.place.bins as bins
+use Rattle.grid.proofs.place.place as place
+use Rattle.pixels.proofs.colour.colour as colour
+use Rattle.grid.proofs.steps.steps as steps
+use Rattle.pixels.proofs.equal.equal_colours as equal-colours
+use Rattle.table.proofs.layout.table_len as table-len
+use Rattle.table.proofs.layout.cell_at as cell-at
+use Rattle.table.proofs.layout.put_at as put-at
+use Rattle.table.proofs.cell.plus as plus
+use Rattle.table.proofs.cell.minus as minus
+use Rattle.table.proofs.sound.sound_total as sound-total
+use Rattle.loader.proofs.load.load as load
+use Rattle.loader.proofs.merge.merge as merge
+use Rattle.sums.proofs.moments.moments as moments
+use Rattle.sums.proofs.box_sums.in_float as in-float
+use Rattle.sums.proofs.box_sums.stats_of as stats-of
+use Rattle.sums.proofs.box_sums.box_sum as box-sum
+use Rattle.spread.proofs.spread.spread as spread
+use Rattle.spread.proofs.spread.score as score
+use Rattle.spread.proofs.position.position_between as position-between
+use Rattle.spread.proofs.position.better as better
+use Rattle.boxes.proofs.sides.first_bin as first-bin
+use Rattle.boxes.proofs.sides.end_bin as end-bin
+use Rattle.boxes.proofs.sides.is_one_bin as is-one-bin
+use Rattle.boxes.proofs.sides.whole as whole
+use Rattle.boxes.proofs.bytes.packed as packed
+use Rattle.boxes.proofs.bytes.unpacked as unpacked
+use Rattle.boxes.proofs.sides.low_side as low-side
+use Rattle.boxes.proofs.sides.high_side as high-side
+use Rattle.spread.proofs.search.best_cut as best-cut
+use Rattle.heap.proofs.arrays.put_in as put-in
+use Rattle.heap.proofs.arrays.take_out as take-out
+use Rattle.rounds.proofs.gather.cut_boxes as cut-boxes
+use Rattle.cutter.proofs.palette.front as front
+use Rattle.band.proofs.number.band_number as band-number
+use Rattle.band.proofs.look_up.index_at as index-at
+use Rattle.mapper.proofs.call.map as map
+use Rattle.painter.proofs.call.paint as paint
+use Rattle.lines.specs.declared.batches.Loaded.{Loaded}
+use Rattle.lines.proofs.batches.empty_table as empty-table
+use Rattle.lines.proofs.batches.load_batch as load-batch
+use Rattle.lines.proofs.text.text as text
+use Rattle.cutter.proofs.call.cut as cut
+use Rattle.seluvava.specs.declared.cut.CutAnswer.{CutAnswer}
 use Rattle.seluvava.specs.Cut.{Lent, lent}
-use Rattle.seluvava.proofs.seluvava_bins as exported-bins
-use Rattle.seluvava.proofs.seluvava_numbers as exported-numbers
-use Rattle.seluvava.proofs.seluvava_load as exported-load
-use Rattle.seluvava.proofs.seluvava_merge as exported-merge
-use Rattle.seluvava.proofs.seluvava_cut as exported-cut
-use Rattle.seluvava.proofs.seluvava_map as exported-map
-use Rattle.seluvava.proofs.seluvava_paint as exported-paint
-use Rattle.promises.specs.Determined.{Determines}
+use Rattle.seluvava.proofs.sizes.seluvava_bins as exported-bins
+use Rattle.seluvava.proofs.tables.seluvava_table_len as exported-table-len
+use Rattle.seluvava.proofs.tables.seluvava_load as exported-load
+use Rattle.seluvava.proofs.tables.seluvava_merge as exported-merge
+use Rattle.seluvava.proofs.cut.seluvava_cut as exported-cut
+use Rattle.seluvava.proofs.frames.seluvava_map as exported-map
+use Rattle.seluvava.proofs.frames.seluvava_paint as exported-paint
+use Rattle.basics.specs.Determines.{Determines}
 
 both : {A B : Type 0} {a c : A} {b d : B} → a ≡ c → b ≡ d → _≡_ {A = A × B} (a, b) (c, d)
 both p q = λ i. (p i, q i)
+
+-- ---- pixels
+pub colour-determined : Determines 1 colour.Kinds.ps colour.Kinds.r colour.Reads.Learnt (λ κs r e. r)
+colour-determined κs a r s x y p q = determined p q
+
+pub equal-colours-determined : Determines 1 equal-colours.Kinds.ps equal-colours.Kinds.r equal-colours.Reads.Learnt
+    (λ κs r e. r)
+equal-colours-determined κs a r s x y p q = determined p q
 
 -- ---- grid
 pub shift-of-determined : Determines 0 shift-of.Kinds.ps shift-of.Kinds.r shift-of.Reads.Learnt (λ κs r e. r)
@@ -83,16 +103,38 @@ bins-determined κs a r s x y p q = determined p q
 pub place-determined : Determines 0 place.Kinds.ps place.Kinds.r place.Reads.Learnt (λ κs r e. r)
 place-determined κs a r s x y p q = determined p q
 
-pub colour-determined : Determines 1 colour.Kinds.ps colour.Kinds.r colour.Reads.Learnt (λ κs r e. r)
-colour-determined κs a r s x y p q = determined p q
-
 pub steps-determined : Determines 0 steps.Kinds.ps steps.Kinds.r steps.Reads.Learnt (λ κs r e. r)
 steps-determined κs a r s x y p q = determined p q
 
-pub flat-determined : Determines 1 flat.Kinds.ps flat.Kinds.r flat.Reads.Learnt (λ κs r e. r)
-flat-determined κs a r s x y p q = determined p q
+-- ---- boxes
+pub first-bin-determined : Determines 0 first-bin.Kinds.ps first-bin.Kinds.r first-bin.Reads.Learnt (λ κs r e. r)
+first-bin-determined κs a r s x y p q = determined p q
+
+pub end-bin-determined : Determines 0 end-bin.Kinds.ps end-bin.Kinds.r end-bin.Reads.Learnt (λ κs r e. r)
+end-bin-determined κs a r s x y p q = determined p q
+
+pub is-one-bin-determined : Determines 0 is-one-bin.Kinds.ps is-one-bin.Kinds.r is-one-bin.Reads.Learnt (λ κs r e. r)
+is-one-bin-determined κs a r s x y p q = determined p q
+
+pub low-side-determined : Determines 0 low-side.Kinds.ps low-side.Kinds.r low-side.Reads.Learnt (λ κs r e. r)
+low-side-determined κs a r s x y p q = determined p q
+
+pub high-side-determined : Determines 0 high-side.Kinds.ps high-side.Kinds.r high-side.Reads.Learnt (λ κs r e. r)
+high-side-determined κs a r s x y p q = determined p q
+
+pub whole-determined : Determines 0 whole.Kinds.ps whole.Kinds.r whole.Reads.Learnt (λ κs r e. r)
+whole-determined κs a r s x y p q = determined p q
+
+pub packed-determined : Determines 0 packed.Kinds.ps packed.Kinds.r packed.Reads.Learnt (λ κs r e. r)
+packed-determined κs a r s x y p q = determined p q
+
+pub unpacked-determined : Determines 0 unpacked.Kinds.ps unpacked.Kinds.r unpacked.Reads.Learnt (λ κs r e. r)
+unpacked-determined κs a r s x y p q = determined p q
 
 -- ---- table
+pub table-len-determined : Determines 0 table-len.Kinds.ps table-len.Kinds.r table-len.Reads.Learnt (λ κs r e. r)
+table-len-determined κs a r s x y p q = determined p q
+
 pub cell-at-determined : Determines 1 cell-at.Kinds.ps cell-at.Kinds.r cell-at.Reads.Learnt (λ κs r e. r)
 cell-at-determined κs a r s x y p q = determined p q
 
@@ -105,19 +147,25 @@ plus-determined κs a r s x y p q = determined p q
 pub minus-determined : Determines 0 minus.Kinds.ps minus.Kinds.r minus.Reads.Learnt (λ κs r e. r)
 minus-determined κs a r s x y p q = determined p q
 
-pub weigh-determined : Determines 1 weigh.Kinds.ps weigh.Kinds.r weigh.Reads.Learnt (λ κs r e. r)
-weigh-determined κs a r s x y p q = determined p q
+pub sound-total-determined : Determines 1 sound-total.Kinds.ps sound-total.Kinds.r sound-total.Reads.Learnt
+    (λ κs r e. r)
+sound-total-determined κs a r s x y p q = determined p q
 
 -- ---- loader
-pub load-determined : Determines {A = ℕ × List ℕ} 3 load.Kinds.ps load.Kinds.r load.Reads.Learnt (λ κs r e. (r, now (e .1 .1 .1 .0)))
+pub load-determined : Determines {A = ℕ × List ℕ} 3 load.Kinds.ps load.Kinds.r load.Reads.Learnt
+    (λ κs r e. (r, now (e .1 .1 .1 .0)))
 load-determined κs a r s x y p q = both (determined (p .0) (q .0)) (determined (p .1) (q .1))
 
-pub merge-determined : Determines {A = ℕ × List ℕ} 2 merge.Kinds.ps merge.Kinds.r merge.Reads.Learnt (λ κs r e. (r, now (e .1 .1 .1 .0)))
+pub merge-determined : Determines {A = ℕ × List ℕ} 2 merge.Kinds.ps merge.Kinds.r merge.Reads.Learnt
+    (λ κs r e. (r, now (e .1 .1 .1 .0)))
 merge-determined κs a r s x y p q = both (determined (p .0) (q .0)) (determined (p .1) (q .1))
 
 -- ---- sums
 pub moments-determined : Determines 2 moments.Kinds.ps moments.Kinds.r moments.Reads.Learnt (λ κs r e. now (e .1 .1 .0))
 moments-determined κs a r s x y p q = determined p q
+
+pub in-float-determined : Determines 0 in-float.Kinds.ps in-float.Kinds.r in-float.Reads.Learnt (λ κs r e. r)
+in-float-determined κs a r s x y p q = determined p q
 
 pub stats-of-determined : Determines 0 stats-of.Kinds.ps stats-of.Kinds.r stats-of.Reads.Learnt (λ κs r e. r)
 stats-of-determined κs a r s x y p q = determined p q
@@ -132,26 +180,23 @@ spread-determined κs a r s x y p q = determined p q
 pub score-determined : Determines 0 score.Kinds.ps score.Kinds.r score.Reads.Learnt (λ κs r e. r)
 score-determined κs a r s x y p q = determined p q
 
-pub position-between-determined : Determines 0 position-between.Kinds.ps position-between.Kinds.r position-between.Reads.Learnt (λ κs r e. r)
+pub position-between-determined : Determines 0 position-between.Kinds.ps position-between.Kinds.r
+    position-between.Reads.Learnt (λ κs r e. r)
 position-between-determined κs a r s x y p q = determined p q
 
 pub better-determined : Determines 0 better.Kinds.ps better.Kinds.r better.Reads.Learnt (λ κs r e. r)
 better-determined κs a r s x y p q = determined p q
 
-pub low-side-determined : Determines 0 low-side.Kinds.ps low-side.Kinds.r low-side.Reads.Learnt (λ κs r e. r)
-low-side-determined κs a r s x y p q = determined p q
-
-pub high-side-determined : Determines 0 high-side.Kinds.ps high-side.Kinds.r high-side.Reads.Learnt (λ κs r e. r)
-high-side-determined κs a r s x y p q = determined p q
-
 pub best-cut-determined : Determines 2 best-cut.Kinds.ps best-cut.Kinds.r best-cut.Reads.Learnt (λ κs r e. r)
 best-cut-determined κs a r s x y p q = determined p q
 
 -- ---- heap
-pub put-in-determined : Determines {A = List Float × List ℕ} 2 put-in.Kinds.ps put-in.Kinds.r put-in.Reads.Learnt (λ κs r e. (now (e .0), now (e .1 .0)))
+pub put-in-determined : Determines {A = List Float × List ℕ} 2 put-in.Kinds.ps put-in.Kinds.r put-in.Reads.Learnt
+    (λ κs r e. (now (e .0), now (e .1 .0)))
 put-in-determined κs a r s x y p q = both (determined (p .0) (q .0)) (determined (p .1) (q .1))
 
-pub take-out-determined : Determines {A = List Float × List ℕ} 2 take-out.Kinds.ps take-out.Kinds.r take-out.Reads.Learnt (λ κs r e. (now (e .0), now (e .1 .0)))
+pub take-out-determined : Determines {A = List Float × List ℕ} 2 take-out.Kinds.ps take-out.Kinds.r
+    take-out.Reads.Learnt (λ κs r e. (now (e .0), now (e .1 .0)))
 take-out-determined κs a r s x y p q = both (determined (p .0) (q .0)) (determined (p .1) (q .1))
 
 -- ---- rounds
@@ -162,44 +207,77 @@ cut-boxes-determined κs a r s x y p q = determined p q
 pub front-determined : Determines 1 front.Kinds.ps front.Kinds.r front.Reads.Learnt (λ κs r e. now r)
 front-determined κs a r s x y p q = determined p q
 
-pub cut-determined : Determines {A = CutRecord × Buffers} 5 cut.Kinds.ps cut.Kinds.r cut.Reads.Learnt (λ κs r e. (r, buffers (now (e .1 .1 .1 .1 .1 .0)) (now (e .1 .1 .1 .1 .1 .1 .0)) (now (e .1 .1 .1 .1 .1 .1 .1 .0)) (now (e .1 .1 .1 .1 .1 .1 .1 .1 .0))))
+pub cut-determined : Determines {A = CutRecord × Buffers} 5 cut.Kinds.ps cut.Kinds.r cut.Reads.Learnt
+    (λ κs r e. (
+      r,
+      buffers (now (e .1 .1 .1 .1 .1 .0)) (now (e .1 .1 .1 .1 .1 .1 .0)) (now (e .1 .1 .1 .1 .1 .1 .1 .0))
+          (now (e .1 .1 .1 .1 .1 .1 .1 .1 .0)),
+    ))
 cut-determined κs a r s x y p q = both (determined (p .0) (q .0)) (determined (p .1) (q .1))
 
+-- ---- band
+pub band-number-determined : Determines 1 band-number.Kinds.ps band-number.Kinds.r band-number.Reads.Learnt
+    (λ κs r e. r)
+band-number-determined κs a r s x y p q = determined p q
+
+pub index-at-determined : Determines 4 index-at.Kinds.ps index-at.Kinds.r index-at.Reads.Learnt (λ κs r e. r)
+index-at-determined κs a r s x y p q = determined p q
+
 -- ---- mapper
-pub map-determined : Determines {A = ℕ × List ℕ} 3 map.Kinds.ps map.Kinds.r map.Reads.Learnt (λ κs r e. (r, now (e .1 .1 .1 .1 .1 .1 .0)))
+pub map-determined : Determines {A = ℕ × List ℕ} 3 map.Kinds.ps map.Kinds.r map.Reads.Learnt
+    (λ κs r e. (r, now (e .1 .1 .1 .1 .1 .1 .0)))
 map-determined κs a r s x y p q = both (determined (p .0) (q .0)) (determined (p .1) (q .1))
 
-pub paint-determined : Determines {A = ℕ × List ℕ} 3 paint.Kinds.ps paint.Kinds.r paint.Reads.Learnt (λ κs r e. (r, now (e .1 .1 .1 .1 .1 .0)))
+-- ---- painter
+pub paint-determined : Determines {A = ℕ × List ℕ} 3 paint.Kinds.ps paint.Kinds.r paint.Reads.Learnt
+    (λ κs r e. (r, now (e .1 .1 .1 .1 .1 .0)))
 paint-determined κs a r s x y p q = both (determined (p .0) (q .0)) (determined (p .1) (q .1))
 
 -- ---- lines
-pub empty-table-determined : Determines 0 empty-table.Kinds.ps empty-table.Kinds.r empty-table.Reads.Learnt (λ κs r e. r)
+pub empty-table-determined : Determines 0 empty-table.Kinds.ps empty-table.Kinds.r empty-table.Reads.Learnt
+    (λ κs r e. r)
 empty-table-determined κs a r s x y p q = determined p q
 
-pub load-batch-determined : Determines {A = Loaded × List ℕ} 2 load-batch.Kinds.ps load-batch.Kinds.r load-batch.Reads.Learnt (λ κs r e. (r, now (e .0)))
+pub load-batch-determined : Determines {A = Loaded × List ℕ} 2 load-batch.Kinds.ps load-batch.Kinds.r
+    load-batch.Reads.Learnt (λ κs r e. (r, now (e .0)))
 load-batch-determined κs a r s x y p q = both (determined (p .0) (q .0)) (determined (p .1) (q .1))
 
-pub text-determined : Determines {A = ℕ × List ℕ} 2 text.Kinds.ps text.Kinds.r text.Reads.Learnt (λ κs r e. (r, now (e .1 .1 .0)))
+pub text-determined : Determines {A = ℕ × List ℕ} 2 text.Kinds.ps text.Kinds.r text.Reads.Learnt
+    (λ κs r e. (r, now (e .1 .1 .0)))
 text-determined κs a r s x y p q = both (determined (p .0) (q .0)) (determined (p .1 .0) (q .1 .0))
 
 -- ---- seluvava
-pub exported-bins-determined : Determines 0 exported-bins.Kinds.ps exported-bins.Kinds.r exported-bins.Reads.Learnt (λ κs r e. r)
+pub exported-bins-determined : Determines 0 exported-bins.Kinds.ps exported-bins.Kinds.r exported-bins.Reads.Learnt
+    (λ κs r e. r)
 exported-bins-determined κs a r s x y p q = determined p q
 
-pub exported-numbers-determined : Determines 0 exported-numbers.Kinds.ps exported-numbers.Kinds.r exported-numbers.Reads.Learnt (λ κs r e. r)
-exported-numbers-determined κs a r s x y p q = determined p q
+pub exported-table-len-determined : Determines 0 exported-table-len.Kinds.ps exported-table-len.Kinds.r
+    exported-table-len.Reads.Learnt (λ κs r e. r)
+exported-table-len-determined κs a r s x y p q = determined p q
 
-pub exported-load-determined : Determines {A = ℕ × List ℕ} 3 exported-load.Kinds.ps exported-load.Kinds.r exported-load.Reads.Learnt (λ κs r e. (r, now (e .1 .1 .1 .0)))
+pub exported-load-determined : Determines {A = ℕ × List ℕ} 3 exported-load.Kinds.ps exported-load.Kinds.r
+    exported-load.Reads.Learnt (λ κs r e. (r, now (e .1 .1 .1 .0)))
 exported-load-determined κs a r s x y p q = both (determined (p .0) (q .0)) (determined (p .1) (q .1))
 
-pub exported-merge-determined : Determines {A = ℕ × List ℕ} 2 exported-merge.Kinds.ps exported-merge.Kinds.r exported-merge.Reads.Learnt (λ κs r e. (r, now (e .1 .1 .1 .0)))
+pub exported-merge-determined : Determines {A = ℕ × List ℕ} 2 exported-merge.Kinds.ps exported-merge.Kinds.r
+    exported-merge.Reads.Learnt (λ κs r e. (r, now (e .1 .1 .1 .0)))
 exported-merge-determined κs a r s x y p q = both (determined (p .0) (q .0)) (determined (p .1) (q .1))
 
-pub exported-cut-determined : Determines {A = CutAnswer × Lent} 7 exported-cut.Kinds.ps exported-cut.Kinds.r exported-cut.Reads.Learnt (λ κs r e. (r, lent (buffers (now (e .1 .1 .1 .1 .1 .0)) (now (e .1 .1 .1 .1 .1 .1 .0)) (now (e .1 .1 .1 .1 .1 .1 .1 .0)) (now (e .1 .1 .1 .1 .1 .1 .1 .1 .0))) (now (e .1 .1 .1 .1 .1 .1 .1 .1 .1 .0)) (now (e .1 .1 .1 .1 .1 .1 .1 .1 .1 .1 .0))))
+pub exported-cut-determined : Determines {A = CutAnswer × Lent} 7 exported-cut.Kinds.ps exported-cut.Kinds.r
+    exported-cut.Reads.Learnt
+    (λ κs r e. (
+      r,
+      lent
+          (buffers (now (e .1 .1 .1 .1 .1 .0)) (now (e .1 .1 .1 .1 .1 .1 .0)) (now (e .1 .1 .1 .1 .1 .1 .1 .0))
+          (now (e .1 .1 .1 .1 .1 .1 .1 .1 .0))) (now (e .1 .1 .1 .1 .1 .1 .1 .1 .1 .0))
+          (now (e .1 .1 .1 .1 .1 .1 .1 .1 .1 .1 .0)),
+    ))
 exported-cut-determined κs a r s x y p q = both (determined (p .0) (q .0)) (determined (p .1) (q .1))
 
-pub exported-map-determined : Determines {A = ℕ × List ℕ} 3 exported-map.Kinds.ps exported-map.Kinds.r exported-map.Reads.Learnt (λ κs r e. (r, now (e .1 .1 .1 .1 .1 .1 .0)))
+pub exported-map-determined : Determines {A = ℕ × List ℕ} 3 exported-map.Kinds.ps exported-map.Kinds.r
+    exported-map.Reads.Learnt (λ κs r e. (r, now (e .1 .1 .1 .1 .1 .1 .0)))
 exported-map-determined κs a r s x y p q = both (determined (p .0) (q .0)) (determined (p .1) (q .1))
 
-pub exported-paint-determined : Determines {A = ℕ × List ℕ} 3 exported-paint.Kinds.ps exported-paint.Kinds.r exported-paint.Reads.Learnt (λ κs r e. (r, now (e .1 .1 .1 .1 .1 .0)))
+pub exported-paint-determined : Determines {A = ℕ × List ℕ} 3 exported-paint.Kinds.ps exported-paint.Kinds.r
+    exported-paint.Reads.Learnt (λ κs r e. (r, now (e .1 .1 .1 .1 .1 .0)))
 exported-paint-determined κs a r s x y p q = both (determined (p .0) (q .0)) (determined (p .1) (q .1))

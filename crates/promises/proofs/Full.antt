@@ -5,67 +5,76 @@ use mathlib.Core.List.{List}
 use Prim.Native.Nat.{ℕ, _<_, min}
 use native.Mathlib.Omega.{arith}
 use lib.Dec.{lit<}
-use Rattle.grid.specs.declared.Grid.{Grid}
-use Rattle.grid.specs.declared.Chosen.the-variants.{Of}
+use Rattle.grid.specs.declared.place.Grid.{Grid}
+use Rattle.grid.specs.declared.place.Chosen.the-variants as chosen
 use Rattle.grid.specs.Grid.{gridOf, binsOf}
 use Rattle.grid.proofs.Places.{chose}
-use Rattle.table.specs.Cell.{wide}
+use Rattle.table.specs.Table.{viewOf}
 use Rattle.loader.specs.Load.{weightOf, ColourAt}
-use Rattle.loader.specs.Plan.{Plan, Table, run, leaves, BytesIn}
+use Rattle.loader.specs.Plan.{Plan, Filled, ends, leaves, BytesIn}
 use Rattle.loader.proofs.Order.{table-holds, table-total, table-sound, leaves-bytes}
-use Rattle.loader.proofs.Ran.{ran-table}
-use Rattle.sums.proofs.Loaded.{occupied-colour, colour-occupies}
+use Rattle.loader.proofs.Plans.{filled-table}
+use Rattle.loaded.proofs.Boxes.{occupied-colour, colour-occupies}
 use Rattle.spread.specs.Spread.{SpreadsAbove}
-use Rattle.spread.proofs.FromColours.{table-above}
+use Rattle.loaded.proofs.Spreads.{table-above}
 use Rattle.rounds.specs.Loop.{boxesOf}
 use Rattle.rounds.proofs.Full.{full, occupied-whole}
 use Rattle.cutter.specs.Cut.{Buffers, cutNumber, doneRecord, cutRecord}
 use Rattle.cutter.proofs.Laws.{cut-says, cut-accepts}
 use Rattle.promises.specs.Full.{occupiedBins, Lends}
 
-module _ (b1 b2 b3 k : ℕ) (t : List ℕ) (b : Buffers) {g : Grid} (e : gridOf b1 b2 b3 ≡ Of g) where
+module _ (b1 b2 b3 k : ℕ) (t : List ℕ) (b : Buffers) {g : Grid} (e : gridOf b1 b2 b3 ≡ chosen.Accepted g) where
   -- over the one property of the spreads: a box with two occupied bins has a computed spread above 0
-  pub full-above : cutNumber b1 b2 b3 k t b ≡ 0 → SpreadsAbove g (wide t) → cutRecord b1 b2 b3 k t b .boxes ≡ min k (occupiedBins g t)
+  pub full-above : cutNumber b1 b2 b3 k t b ≡ 0 → SpreadsAbove g (viewOf t)
+      → cutRecord b1 b2 b3 k t b .boxes ≡ min k (occupiedBins g t)
   unfolding doneRecord boxesOf occupiedBins
   full-above n spreads =
       let d = cut-says b1 b2 b3 k t b e n in
       rw (d .hands)
-      (full (record { holds = d .can .is-sound }) (d .accepted) (d .can .some) spreads k (d .can .least) (d .can .most) ∙ ap (min k) (occupied-whole g (wide t)))
+      (full (record { holds = d .can .is-sound }) (d .accepted) (d .can .some) spreads k (d .can .least) (d .can .most)
+      ∙ ap (min k) (occupied-whole g (viewOf t)))
 
-  module _ (p : Plan) (y : BytesIn p) (ran : run b1 b2 b3 p ≡ Table t) where
+  module _ (p : Plan) (y : BytesIn p) (ran : ends b1 b2 b3 p ≡ Filled t) where
     -- a cut of what was loaded is done, if anything was
     pub plan-cuts : Lends g k b → 0 < weightOf (leaves p) → cutNumber b1 b2 b3 k t b ≡ 0
     plan-cuts l some =
         let a = chose b1 b2 b3 g e .accepted in
-        let fits = ran-table b1 b2 b3 e p y ran in
+        let fits = filled-table b1 b2 b3 e p y ran in
         let bytes = leaves-bytes p y in
         cut-accepts b1 b2 b3 k t b e
         (rw (fits .1)
         (record {
           least = l .least;
           most = l .most;
-          table = table-holds g (leaves p) .lent;
+          is-sound = table-sound g a (leaves p) bytes (fits .0);
+          some = omega (arith, some, table-total g a (leaves p) bytes);
+        }))
+        (rw (fits .1)
+        (record {
+          table = table-holds g (leaves p) .lent .numbers;
           work = l .work;
           palette = l .palette;
           counts = l .counts;
           map = l .map;
-          is-sound = table-sound g a (leaves p) bytes (fits .0);
-          some = omega (arith, some, table-total g a (leaves p) bytes);
         }))
 
-    -- as many boxes as the smaller of k and the occupied bins, at every total from 1 on; demand 3 asks for those up to 200,000
+    -- as many boxes as the smaller of k and the occupied bins, at every total from 1 on; demand 3 asks for those up to
+    -- 200,000
     pub full-loaded : Lends g k b → 0 < weightOf (leaves p) → cutRecord b1 b2 b3 k t b .boxes ≡ min k (occupiedBins g t)
     full-loaded l some =
-        let fits = ran-table b1 b2 b3 e p y ran in
-        full-above (plan-cuts l some) (rw (fits .1) (table-above (chose b1 b2 b3 g e .accepted) (leaves p) (leaves-bytes p y) (fits .0)))
+        let fits = filled-table b1 b2 b3 e p y ran in
+        full-above (plan-cuts l some)
+        (rw (fits .1) (table-above (chose b1 b2 b3 g e .accepted) (leaves p) (leaves-bytes p y) (fits .0)))
 
     -- a bin is occupied exactly where a colour of weight above 0 was loaded
-    pub occupied-loaded : (q : ℕ) → q < binsOf g → (wide t q 0 ≡ 0 → ⊥) → ColourAt g (leaves p) q
+    pub occupied-loaded : (q : ℕ) → q < binsOf g → (viewOf t q 0 ≡ 0 → ⊥) → ColourAt g (leaves p) q
     occupied-loaded q h o =
-        let fits = ran-table b1 b2 b3 e p y ran in
-        occupied-colour g q (leaves p) (λ z. o (ap (λ (s : List ℕ). wide s q 0) (fits .1) ∙ table-holds g (leaves p) .at q 0 h (lit< tt) ∙ z))
+        let fits = filled-table b1 b2 b3 e p y ran in
+        occupied-colour g q (leaves p)
+        (λ z. o (ap (λ (s : List ℕ). viewOf s q 0) (fits .1) ∙ table-holds g (leaves p) .at q 0 h (lit< tt) ∙ z))
 
-    pub loaded-occupies : (q : ℕ) → q < binsOf g → ColourAt g (leaves p) q → wide t q 0 ≡ 0 → ⊥
+    pub loaded-occupies : (q : ℕ) → q < binsOf g → ColourAt g (leaves p) q → viewOf t q 0 ≡ 0 → ⊥
     loaded-occupies q h c z =
-        let fits = ran-table b1 b2 b3 e p y ran in
-        colour-occupies g q (leaves p) c (sym (ap (λ (s : List ℕ). wide s q 0) (fits .1) ∙ table-holds g (leaves p) .at q 0 h (lit< tt)) ∙ z)
+        let fits = filled-table b1 b2 b3 e p y ran in
+        colour-occupies g q (leaves p) c
+        (sym (ap (λ (s : List ℕ). viewOf s q 0) (fits .1) ∙ table-holds g (leaves p) .at q 0 h (lit< tt)) ∙ z)

@@ -1,4 +1,5 @@
--- The listing program (document 01, "The listing program"): its example, that a refusal is all that is written, and that the batches
+-- The listing program (document 01, "The listing program"): its example, that a refusal is all that is written, and
+-- that the batches
 -- in which its input comes are no matter.
 -- Assumes nothing.
 use mathlib.Core.Path.{_≡_, refl, sym, ap, _∙_}
@@ -13,43 +14,53 @@ use lib.Dec.{ltb, lit<, lit≤}
 use lib.ListN.{length, getD, replicate, length-replicate, length-append, List·getD-append}
 use lib.Pow.{areBytes}
 use lib.Seq.{getD-append-add}
-use Rattle.grid.specs.declared.Chosen.the-variants.{Of}
-use Rattle.grid.specs.Answer.{whenDone}
-use Rattle.grid.specs.Range.{listFrom, sumFrom}
+use Rattle.grid.specs.declared.place.Chosen.the-variants as chosen
+use Rattle.basics.specs.Answer.{whenDone}
+use Rattle.basics.specs.Range.{listFrom, sumFrom}
 use Rattle.grid.specs.Size.{choices, shiftIn, shiftOf}
-use Rattle.grid.specs.Grid.{choose, gridWith, gridOf, onGrid, numberOn, Accepted, binsOf, placeOf}
-use Rattle.grid.proofs.Range.{and-left, and-right}
+use Rattle.basics.specs.Dimension.{choose}
+use Rattle.grid.specs.Grid.{gridWith, gridOf, onGrid, numberOn, Accepted, binsOf, placeOf}
+use Rattle.basics.proofs.Range.{and-left, and-right}
 use Rattle.grid.proofs.Places.{chose}
-use Rattle.table.specs.Cell.{View, wide}
+use Rattle.table.specs.Cell.{View}
+use Rattle.table.specs.Table.{viewOf}
 use Rattle.table.specs.Sound.{limit, total, sound}
-use Rattle.table.proofs.Cells.{wide-at}
+use Rattle.table.proofs.Tables.{empty-holds, view-at}
 use Rattle.loader.specs.Load.{Weighted, weightOf, tableOf, batchOf, loadNumber, loadLater}
 use Rattle.loader.proofs.Loading.{AllBytes}
 use Rattle.loader.proofs.Parts.{batch-weight, all-bytes-of}
 use Rattle.loader.proofs.Order.{bytes-append, weight-append, table-holds, table-total, table-sound, empty-table}
 use Rattle.loader.proofs.Batches.{batch-none, batch-append, load-stray, load-fits, load-passes}
-use Rattle.sums.specs.Box.{minAt, maxAt, sum3, binSum, boxSum, statsOf, lowSide, highSide}
-use Rattle.spread.specs.Spread.{zeroOf, quotientOf, oneBin, spreadOf, scoreOf}
+use Rattle.boxes.specs.Box.{minAt, maxAt, lowSide, highSide}
+use Rattle.sums.specs.Box.{sum3, binSum, boxSum, statsOf}
+use Rattle.spread.specs.Spread.{zeroOf, quotientOf, spreadOf, scoreOf}
+use Rattle.boxes.specs.Box.{oneBin}
 use Rattle.spread.specs.Cut.{positionOf, positionAt, laterWins, better, bestRun, bestIn, bestCut}
 use Rattle.heap.specs.Heap.{climb, putIn, sink, enter, takeOut}
-use Rattle.rounds.specs.declared.BoxSpread.{BoxSpread}
-use Rattle.rounds.specs.declared.Boxes.{Boxes}
-use Rattle.rounds.specs.Loop.{itself, wholeOf, startRoom, start, roomAfter, usedAfter, goesOn, roundRoom, roundUsed, round, rounds, heapOf, boxSpread, placesOf, boxesOf}
-use Rattle.cutter.specs.Fronts.{flat, filled}
+use Rattle.rounds.specs.declared.gather.BoxSpread.{BoxSpread}
+use Rattle.rounds.specs.declared.gather.Boxes.{Boxes}
+use Rattle.rounds.specs.Loop.{withSpread, startRoom, start, roomAfter, boxesAfter, aboveZero, roundRoom, roundBoxes}
+use Rattle.rounds.specs.Loop.{round}
+use Rattle.rounds.specs.Loop.{rounds, heapOf, placesOf, boxesOf}
+use Rattle.boxes.specs.Box.{wholeOf}
+use Rattle.cutter.specs.Fronts.{joinAll, filled}
 use Rattle.cutter.specs.Palette.{meanOf, colourOf, countOf, bytesOf, itsColour, itsCount, paletteLater, countsLater}
-use Rattle.cutter.specs.Cut.{lengthsOf, cutNumber, cutRecord, doneRecord, boundsOf, listOf, boxList, laterOn}
+use Rattle.cutter.specs.Cut.{longEnough, resultsOn, lengthsOf, cutNumber, cutRecord, doneRecord, listOf, boxList}
+use Rattle.cutter.specs.Cut.{laterOn}
 use Rattle.cutter.proofs.Refusals.{only-map, no-total}
 use Rattle.cutter.proofs.Laws.{record-number, cut-says, cut-accepts}
-use Rattle.lines.specs.Text.{digitsWithin, decimalOf, boxesWord, totalWord, refusedWord, newline, headOf, fieldOf, lineOf, linesOf, totalOf, listingOf, refusedOf}
+use Rattle.lines.specs.Text.{digitsWithin, decimalOf, boxesWord, totalWord, refusedWord, newline, headOf, fieldOf}
+use Rattle.lines.specs.Text.{lineOf, linesOf, totalOf, listingOf, refusedOf}
 use Rattle.lines.specs.Listing.{emptyTable, partNumber, partLater, lowerOf, lentZeros, cutText, textOf}
 use Rattle.lines.proofs.Texts.{lower-first, lower-second, lower-other, lower-same, text-refused, text-cut, cut-refused}
 use Rattle.lines.specs.Reading.{Progress, afterBatch, afterAll, AllCame}
 use Rattle.lines.proofs.Reading.{after-last}
-use Rattle.promises.specs.Listing.{atFirst, writtenFor, WholePixels, readIn, grid8, fourPixels, fourTable, threeLines, refused3, refused8}
+use Rattle.promises.specs.Listing.{atFirst, writtenFor, WholePixels, readIn, grid8, fourPixels, fourTable}
+use Rattle.promises.specs.Listing.{threeLines, refused3, refused8}
 use Rattle.promises.proofs.Worked.{four-added}
 
 -- ---- a load on the program's grid
-is-grid8 : gridOf 8 8 8 ≡ Of grid8
+is-grid8 : gridOf 8 8 8 ≡ chosen.Accepted grid8
 unfolding choices shiftIn shiftOf gridWith gridOf
 is-grid8 = refl
 
@@ -67,18 +78,24 @@ no-weight = ap weightOf (sym (batch-none [])) ∙ pixels []
 module _ (bytes : List ℕ) where
   all-stray : (length bytes % 3 ≡ 0 → ⊥) → partNumber emptyTable bytes ≡ 3
   unfolding partNumber
-  all-stray n = ap (λ (t : List ℕ). loadNumber 8 8 8 t bytes false []) is-empty ∙ load-stray 8 8 8 is-grid8 [] tt (omega (arith, no-weight)) bytes [] n .0
+  all-stray n = ap (λ (t : List ℕ). loadNumber 8 8 8 t bytes false []) is-empty
+      ∙ load-stray 8 8 8 is-grid8 [] tt (omega (arith, no-weight)) bytes [] n .0
 
   module _ (whole : length bytes % 3 ≡ 0) where
-    all-fit : length bytes / 3 ≤ limit → (partNumber emptyTable bytes ≡ 0) × (partLater emptyTable bytes ≡ tableOf grid8 (batchOf bytes false []))
+    all-fit : length bytes / 3 ≤ limit
+        → (partNumber emptyTable bytes ≡ 0) × (partLater emptyTable bytes ≡ tableOf grid8 (batchOf bytes false []))
     unfolding partNumber partLater
     all-fit h =
-        let l = load-fits 8 8 8 is-grid8 [] tt (omega (arith, no-weight)) bytes [] whole (omega (arith, no-weight)) in
-        (ap (λ (t : List ℕ). loadNumber 8 8 8 t bytes false []) is-empty ∙ l .0, ap (λ (t : List ℕ). loadLater 8 8 8 t bytes false []) is-empty ∙ l .1)
+        let l = load-fits 8 8 8 is-grid8 [] tt (omega (arith, no-weight)) bytes [] whole (omega (arith, no-weight)) in (
+          ap (λ (t : List ℕ). loadNumber 8 8 8 t bytes false []) is-empty
+              ∙ l .0,
+          ap (λ (t : List ℕ). loadLater 8 8 8 t bytes false []) is-empty ∙ l .1,
+        )
 
     all-over : limit < length bytes / 3 → partNumber emptyTable bytes ≡ 7
     unfolding partNumber
-    all-over h = ap (λ (t : List ℕ). loadNumber 8 8 8 t bytes false []) is-empty ∙ load-passes 8 8 8 is-grid8 [] tt (omega (arith, no-weight)) bytes [] whole (omega (arith, no-weight)) .0
+    all-over h = ap (λ (t : List ℕ). loadNumber 8 8 8 t bytes false []) is-empty
+        ∙ load-passes 8 8 8 is-grid8 [] tt (omega (arith, no-weight)) bytes [] whole (omega (arith, no-weight)) .0
 
 -- ---- the cut of what it leaves
 module _ (bytes : List ℕ) (whole : length bytes % 3 ≡ 0) (few : length bytes / 3 ≤ limit) where
@@ -95,11 +112,13 @@ module _ (bytes : List ℕ) (whole : length bytes % 3 ≡ 0) (few : length bytes
     accepted : Accepted grid8
     accepted = chose 8 8 8 grid8 is-grid8 .accepted
 
-    its-total : total grid8 (wide left) ≡ length bytes / 3
+    its-total : total grid8 (viewOf left) ≡ length bytes / 3
     its-total = table-total grid8 accepted (batchOf bytes false []) (all-bytes-of bytes false [] are) ∙ pixels bytes
 
-    its-sound : sound limit grid8 (wide left) ≡ true
-    its-sound = table-sound grid8 accepted (batchOf bytes false []) (all-bytes-of bytes false [] are) (omega (arith, pixels bytes))
+    its-sound : sound limit grid8 (viewOf left) ≡ true
+    its-sound =
+        table-sound grid8 accepted (batchOf bytes false []) (all-bytes-of bytes false [] are)
+        (omega (arith, pixels bytes))
 
     -- it is cut where there are any pixels, and refused with 8 where there are none
     cuts : 0 < length bytes / 3 → cutNumber 8 8 8 16 left lentZeros ≡ 0
@@ -109,13 +128,15 @@ module _ (bytes : List ℕ) (whole : length bytes % 3 ≡ 0) (few : length bytes
         (record {
           least = lit≤ tt;
           most = lit≤ tt;
-          table = table-holds grid8 (batchOf bytes false []) .lent;
-          work = refl;
+          is-sound = its-sound;
+          some = omega (arith, its-total);
+        })
+        (record {
+          table = table-holds grid8 (batchOf bytes false []) .lent .numbers;
+          work = empty-holds (8 * 8 * 8) .lent .numbers;
           palette = lit≤ tt;
           counts = lit≤ tt;
           map = refl;
-          is-sound = its-sound;
-          some = omega (arith, its-total);
         })
 
     none-cut : length bytes / 3 ≡ 0 → cutNumber 8 8 8 16 left lentZeros ≡ 8
@@ -123,8 +144,9 @@ module _ (bytes : List ℕ) (whole : length bytes % 3 ≡ 0) (few : length bytes
     none-cut nothing =
         let l = lengthsOf lentZeros in
         rw is-grid8
-        (no-total grid8 16 left l (lit≤ tt) (lit≤ tt)
-        (only-map grid8 16 (length left) l (table-holds grid8 (batchOf bytes false []) .lent) refl (lit≤ tt) (lit≤ tt))
+        (no-total limit grid8 16 (longEnough grid8 16 (length left) l) (viewOf left) (lit≤ tt) (lit≤ tt)
+        (only-map grid8 16 (length left) l (table-holds grid8 (batchOf bytes false []) .lent .numbers)
+        (empty-holds (8 * 8 * 8) .lent .numbers) (lit≤ tt) (lit≤ tt))
         its-sound
         (its-total ∙ nothing))
 
@@ -154,7 +176,8 @@ behind n l i = go (decLe n i)
     go : Dec (n ≤ i) → getD (noughts n ++ l) i 0 ≡ cond (ltb i n) 0 (getD l (i - n) 0)
     go (yes h) =
         let at : length (noughts n) + (i - n) ≡ i = omega (arith, size) in
-        ap (λ (k : ℕ). getD (noughts n ++ l) k 0) (sym at) ∙ getD-append-add (noughts n) l (i - n) 0 ∙ rw (le-ltb i n h) refl
+        ap (λ (k : ℕ). getD (noughts n ++ l) k 0) (sym at) ∙ getD-append-add (noughts n) l (i - n) 0
+        ∙ rw (le-ltb i n h) refl
     go (no h) =
         let below : i < n = lt-of-not-le h in
         List·getD-append (noughts n) l 0 i (omega (arith, size)) ∙ zero-at n i ∙ rw (lt-ltb i n below) refl
@@ -164,16 +187,21 @@ unfolding fourTable number
 at-number zero = refl
 at-number (suc i) = behind 2554 (3 ∷ 765 ∷ 765 ∷ 765 ∷ 585225 ∷ []) i
 
-is-view : wide fourTable ≡ view
+is-view : viewOf fourTable ≡ view
 unfolding view
-is-view = λ i p j. (wide-at fourTable p j ∙ at-number (5 * p + j)) i
+is-view = λ i p j. (view-at fourTable p j ∙ at-number (5 * p + j)) i
 
 abbrev planes : ℕ → ℕ → BoxSpread
-planes from end = record { r0 = from; r1 = end; g0 = 0; g1 = 8; b0 = 0; b1 = 8; spread = zeroOf }
+planes from end = record { bounds = record { r0 = from; r1 = end; g0 = 0; g1 = 8; b0 = 0; b1 = 8 }; spread = zeroOf }
 
 -- white's box, then black's
 abbrev two : Boxes
-two = record { found = 2; places = planes 1 8 ∷ planes 0 1 ∷ replicate 254 (record { r0 = 0; r1 = 0; g0 = 0; g1 = 0; b0 = 0; b1 = 0; spread = zeroOf }) }
+two = record {
+  boxes = 2;
+  places =
+      planes 1 8 ∷ planes 0 1
+      ∷ replicate 254 (record { bounds = record { r0 = 0; r1 = 0; g0 = 0; g1 = 0; b0 = 0; b1 = 0 }; spread = zeroOf });
+}
 
 are-two : boxesOf grid8 view 16 ≡ two
 unfolding number view
@@ -181,20 +209,23 @@ unfolding number view
     minAt maxAt sum3 binSum boxSum statsOf lowSide highSide
     quotientOf oneBin spreadOf scoreOf positionOf positionAt laterWins better bestRun bestIn bestCut
     climb putIn sink enter takeOut
-    itself wholeOf startRoom start roomAfter usedAfter goesOn roundRoom roundUsed round rounds heapOf boxSpread placesOf boxesOf
-    lib.Ieee.ofInt lib.Ieee.mul lib.Ieee.add lib.Ieee.sub lib.Ieee.div lib.Ieee.neg lib.Ieee.lt lib.Ieee.le lib.Ieee.round lib.Ieee.size lib.Ieee.span lib.Ieee.climb lib.Ieee.units lib.Ieee.odd lib.Ieee.sum lib.Ieee.eq lib.Count.trailingZeros
+    withSpread wholeOf startRoom start roomAfter boxesAfter aboveZero roundRoom roundBoxes round rounds heapOf placesOf
+    boxesOf
+    lib.Ieee.ofInt lib.Ieee.mul lib.Ieee.add lib.Ieee.sub lib.Ieee.div lib.Ieee.neg lib.Ieee.lt lib.Ieee.le
+    lib.Ieee.round lib.Ieee.size lib.Ieee.span lib.Ieee.climb lib.Ieee.units lib.Ieee.odd lib.Ieee.sum lib.Ieee.eq
+    lib.Count.trailingZeros
 are-two = refl
 
 -- the text of some boxes
 abbrev listed : View → Boxes → List ℕ
 listed v b =
-    listingOf (b .found)
-    (paletteLater grid8 v (listOf (b .found) (b .places)) (replicate 48 0))
-    (countsLater grid8 v (listOf (b .found) (b .places)) (replicate 16 0))
+    listingOf (b .boxes)
+    (paletteLater grid8 v (listOf (b .boxes) (b .places)) (replicate 48 0))
+    (countsLater grid8 v (listOf (b .boxes) (b .places)) (replicate 16 0))
 
 lists-two : listed view two ≡ threeLines
 unfolding number view threeLines sumFrom placeOf sum3 binSum boxSum
-    boundsOf listOf meanOf colourOf countOf bytesOf itsColour itsCount flat filled paletteLater countsLater
+    listOf meanOf colourOf countOf bytesOf itsColour itsCount joinAll filled paletteLater countsLater
     digitsWithin decimalOf boxesWord totalWord newline headOf fieldOf lineOf linesOf totalOf listingOf
 lists-two = refl
 
@@ -203,10 +234,11 @@ byte-at [] e k = lit< tt
 byte-at (x ∷ xs) e zero = ltb-true x 256 (and-left (ltb x 256) (areBytes xs) e)
 byte-at (x ∷ xs) e (suc k) = byte-at xs (and-right (ltb x 256) (areBytes xs) e) k
 
-four-cut : cutText fourTable ≡ listed (wide fourTable) (boxesOf grid8 (wide fourTable) 16)
-unfolding fourPixels cutText whenDone lentZeros doneRecord laterOn boxList
+four-cut : cutText fourTable ≡ listed (viewOf fourTable) (boxesOf grid8 (viewOf fourTable) 16)
+unfolding fourPixels cutText whenDone lentZeros doneRecord laterOn resultsOn boxList
 four-cut =
-    let number = ap (λ (t : List ℕ). cutNumber 8 8 8 16 t lentZeros) (sym four-added) ∙ cuts fourPixels refl (lit≤ tt) (byte-at fourPixels refl) (lit< tt) in
+    let number = ap (λ (t : List ℕ). cutNumber 8 8 8 16 t lentZeros) (sym four-added)
+    ∙ cuts fourPixels refl (lit≤ tt) (byte-at fourPixels refl) (lit< tt) in
     let d = cut-says 8 8 8 16 fourTable lentZeros is-grid8 number in
     rw (d .hands, d .leaves) refl
 
@@ -226,7 +258,8 @@ not-both : {a m : ℕ} → a ≡ 0 → a ≡ suc m → ⊥
 not-both z y = omega arith
 
 -- "On a refusal it writes only `refused N`": the lowest number of the loads
-pub only-refused : (batches : List (List ℕ)) {n : ℕ} → afterAll atFirst batches .number ≡ suc n → writtenFor batches ≡ refusedOf (suc n)
+pub only-refused : (batches : List (List ℕ)) {n : ℕ} → afterAll atFirst batches .number ≡ suc n
+    → writtenFor batches ≡ refusedOf (suc n)
 unfolding writtenFor
 only-refused batches {n} e =
     let s = afterAll atFirst batches in
@@ -245,7 +278,8 @@ no-input =
     is-8 = record-number 8 8 8 16 nothing lentZeros ∙ none-cut [] refl (lit≤ tt) (λ k. lit< tt) refl
 
 -- ---- "in batches"
--- where some bytes were read: the number and, where it is 0, the table are those of one load of them all, and the table is one of colours
+-- where some bytes were read: the number and, where it is 0, the table are those of one load of them all, and the table
+-- is one of colours
 record Reached (s : Progress) (seen : List ℕ) : Type 0 where
   number : s .number ≡ partNumber emptyTable seen
   table : s .number ≡ 0 → s .table ≡ partLater emptyTable seen
@@ -256,7 +290,8 @@ record Reached (s : Progress) (seen : List ℕ) : Type 0 where
   holds : s .table ≡ tableOf grid8 colours
 
 -- the next batch
-module _ (s : Progress) (seen : List ℕ) (r : Reached s seen) (whole : length seen % 3 ≡ 0) (batch : List ℕ) (are : (k : ℕ) → getD batch k 0 < 256) where
+module _ (s : Progress) (seen : List ℕ) (r : Reached s seen) (whole : length seen % 3 ≡ 0) (batch : List ℕ)
+    (are : (k : ℕ) → getD batch k 0 < 256) where
   abbrev next : Progress
   next = afterBatch s batch
 
@@ -276,16 +311,27 @@ module _ (s : Progress) (seen : List ℕ) (r : Reached s seen) (whole : length s
   module _ {t : List ℕ} (is : s .table ≡ t) where
     loads : {n : ℕ} → loadNumber 8 8 8 t batch false [] ≡ n → next .number ≡ lowerOf (s .number) n
     unfolding afterBatch partNumber
-    loads e = ap (λ (u : List ℕ). lowerOf (s .number) (loadNumber 8 8 8 u batch false [])) is ∙ ap (lowerOf (s .number)) e
+    loads e = ap (λ (u : List ℕ). lowerOf (s .number) (loadNumber 8 8 8 u batch false [])) is
+        ∙ ap (lowerOf (s .number)) e
 
     leaves : {u : List ℕ} → loadLater 8 8 8 t batch false [] ≡ u → next .table ≡ u
     unfolding afterBatch partLater
     leaves e = ap (λ (u : List ℕ). loadLater 8 8 8 u batch false []) is ∙ e
 
   -- a refusal with its number, whatever colours are then in the table
-  refusal : (n : ℕ) → next .number ≡ suc n → partNumber emptyTable (seen ++ batch) ≡ suc n → (cs : List Weighted) → AllBytes cs → weightOf cs ≤ limit → next .table ≡ tableOf grid8 cs → Reached next (seen ++ batch)
+  refusal : (n : ℕ) → next .number ≡ suc n → partNumber emptyTable (seen ++ batch) ≡ suc n → (cs : List Weighted)
+      → AllBytes cs → weightOf cs ≤ limit → next .table ≡ tableOf grid8 cs → Reached next (seen ++ batch)
   refusal n e f cs y h t =
-      record { number = e ∙ sym f; table = λ z. absurd (not-both z e); whole = all; colours = cs; bytes = y; few = h; holds = t }
+      record {
+        number = e
+            ∙ sym f;
+        table = λ z. absurd (not-both z e);
+        whole = all;
+        colours = cs;
+        bytes = y;
+        few = h;
+        holds = t;
+      }
 
   -- the table before, where all that was read fits
   was : length seen / 3 ≤ limit → (s .number ≡ 0) × (s .table ≡ tableOf grid8 (batchOf seen false []))
@@ -313,9 +359,11 @@ module _ (s : Progress) (seen : List ℕ) (r : Reached s seen) (whole : length s
     fit : length seen / 3 + length batch / 3 ≤ limit → Reached next (seen ++ batch)
     fit h =
         let before = was (omega arith) in
-        let l = load-fits 8 8 8 is-grid8 (batchOf seen false []) (r .whole) (omega (arith, pixels seen)) batch [] in-threes (omega (arith, pixels seen)) in
+        let l = load-fits 8 8 8 is-grid8 (batchOf seen false []) (r .whole)
+        (omega (arith, pixels seen)) batch [] in-threes (omega (arith, pixels seen)) in
         let whole-load = all-fit (seen ++ batch) both-whole (omega (arith, size)) in
-        let left : next .table ≡ tableOf grid8 (batchOf (seen ++ batch) false []) = leaves (before .1) (l .1) ∙ ap (tableOf grid8) (sym joined) in
+        let left : next .table ≡ tableOf grid8 (batchOf (seen ++ batch) false []) = leaves (before .1) (l .1)
+        ∙ ap (tableOf grid8) (sym joined) in
         record {
           number = loads (before .1) (l .0) ∙ sym (lower-second (s .number) 0 refl) ∙ before .0 ∙ sym (whole-load .0);
           table = λ z. left ∙ sym (whole-load .1);
@@ -334,7 +382,8 @@ module _ (s : Progress) (seen : List ℕ) (r : Reached s seen) (whole : length s
       over-now : length seen / 3 ≤ limit → Reached next (seen ++ batch)
       over-now k =
           let before = was k in
-          let l = load-passes 8 8 8 is-grid8 (batchOf seen false []) (r .whole) (omega (arith, pixels seen)) batch [] in-threes (omega (arith, pixels seen)) in
+          let l = load-passes 8 8 8 is-grid8 (batchOf seen false []) (r .whole)
+          (omega (arith, pixels seen)) batch [] in-threes (omega (arith, pixels seen)) in
           refusal 6
           (loads (before .1) (l .0) ∙ sym (lower-first (s .number) 7 (before .0)))
           over-all
@@ -350,18 +399,25 @@ module _ (s : Progress) (seen : List ℕ) (r : Reached s seen) (whole : length s
               refusal 6
               (loads (r .holds) (l .0) ∙ sym (lower-second (s .number) 0 refl) ∙ was-7 k)
               over-all
-              (r .colours ++ batchOf batch false []) (bytes-append (r .colours) (batchOf batch false []) (r .bytes) more) (omega (arith, weight-append (r .colours) (batchOf batch false []), pixels batch)) (leaves (r .holds) (l .1))
+              (r .colours ++ batchOf batch false [])
+              (bytes-append (r .colours) (batchOf batch false []) (r .bytes) more)
+              (omega (arith, weight-append (r .colours) (batchOf batch false []), pixels batch))
+              (leaves (r .holds) (l .1))
           go (no f) =
               let l = load-passes 8 8 8 is-grid8 (r .colours) (r .bytes) (r .few) batch [] in-threes (lt-of-not-le f) in
               refusal 6
-              (loads (r .holds) (l .0) ∙ sym (lower-same (s .number) 7 (λ z. not-both z (was-7 k)) (omega (arith, was-7 k))) ∙ was-7 k)
+              (loads (r .holds) (l .0)
+              ∙ sym (lower-same (s .number) 7 (λ z. not-both z (was-7 k)) (omega (arith, was-7 k))) ∙ was-7 k)
               over-all
               (r .colours) (r .bytes) (r .few) (leaves (r .holds) (l .1))
 
   reaches : Reached next (seen ++ batch)
-  reaches = go (ℕ-discrete (length batch % 3) 0) (decLe (length seen / 3 + length batch / 3) limit) (decLe (length seen / 3) limit)
+  reaches =
+      go (ℕ-discrete (length batch % 3) 0) (decLe (length seen / 3 + length batch / 3) limit)
+      (decLe (length seen / 3) limit)
     where
-      go : Dec (length batch % 3 ≡ 0) → Dec (length seen / 3 + length batch / 3 ≤ limit) → Dec (length seen / 3 ≤ limit) → Reached next (seen ++ batch)
+      go : Dec (length batch % 3 ≡ 0) → Dec (length seen / 3 + length batch / 3 ≤ limit) → Dec (length seen / 3 ≤ limit)
+          → Reached next (seen ++ batch)
       go (no n) f k = stray n
       go (yes t) (yes f) k = fit t f
       go (yes t) (no f) (yes k) = over-now t (lt-of-not-le f) k
@@ -381,34 +437,44 @@ reached-first =
       holds = is-empty;
     }
 
-reached-all : (s : Progress) (seen : List ℕ) → Reached s seen → length seen % 3 ≡ 0 → (batches : List (List ℕ)) → WholePixels batches → Reached (afterAll s batches) (seen ++ readIn batches) × (length (seen ++ readIn batches) % 3 ≡ 0)
+reached-all : (s : Progress) (seen : List ℕ) → Reached s seen → length seen % 3 ≡ 0 → (batches : List (List ℕ))
+    → WholePixels batches
+    → Reached (afterAll s batches) (seen ++ readIn batches) × (length (seen ++ readIn batches) % 3 ≡ 0)
 unfolding afterAll readIn
 reached-all s seen r w [] y = rw (append-nil seen) (r, w)
 reached-all s seen r w (b ∷ bs) y =
     rw (← append-assoc seen b (readIn bs))
-    (reached-all (afterBatch s b) (seen ++ b) (reaches s seen r w b (y .1)) (omega (arith, length-append seen b, w, y .0)) bs (y .2))
+    (reached-all (afterBatch s b) (seen ++ b) (reaches s seen r w b (y .1))
+    (omega (arith, length-append seen b, w, y .0)) bs (y .2))
 
 same-text : (n m : ℕ) (t u : List ℕ) → n ≡ m → (n ≡ 0 → t ≡ u) → textOf n t ≡ textOf m u
 same-text zero m t u e f = λ i. textOf (e i) (f refl i)
-same-text (suc n) m t u e f = text-refused (suc n) t (λ z. not-both z refl) ∙ ap refusedOf e ∙ sym (text-refused m u (λ z. not-both z (sym e)))
+same-text (suc n) m t u e f = text-refused (suc n) t (λ z. not-both z refl) ∙ ap refusedOf e
+    ∙ sym (text-refused m u (λ z. not-both z (sym e)))
 
 -- However an input is split into batches of whole pixels and a last one, the text is that for all of it at once.
-pub any-batches : (batches : List (List ℕ)) (last : List ℕ) → WholePixels batches → ((k : ℕ) → getD last k 0 < 256) → writtenFor (batches ++ last ∷ []) ≡ writtenFor ((readIn batches ++ last) ∷ [])
+pub any-batches : (batches : List (List ℕ)) (last : List ℕ) → WholePixels batches → ((k : ℕ) → getD last k 0 < 256)
+    → writtenFor (batches ++ last ∷ []) ≡ writtenFor ((readIn batches ++ last) ∷ [])
 unfolding writtenFor afterAll afterBatch atFirst lowerOf
 any-batches batches last w are =
     let before = reached-all atFirst [] reached-first refl batches w in
     let r = reaches (afterAll atFirst batches) (readIn batches) (before .0) (before .1) last are in
-    ap (λ (s : Progress). textOf (s .number) (s .table)) (after-last atFirst batches last) ∙ same-text _ _ _ _ (r .number) (r .table)
+    ap (λ (s : Progress). textOf (s .number) (s .table)) (after-last atFirst batches last)
+    ∙ same-text _ _ _ _ (r .number) (r .table)
 
--- and that is the text which the program's loop over its input leads to: "in batches", of which only the last can split a pixel
-pub came-written : {s : Progress} (c : AllCame atFirst s false) → textOf (s .number) (s .table) ≡ writtenFor (c .batches ++ c .last ∷ [])
+-- and that is the text which the program's loop over its input leads to: "in batches", of which only the last can split
+-- a pixel
+pub came-written : {s : Progress} (c : AllCame atFirst s false)
+    → textOf (s .number) (s .table) ≡ writtenFor (c .batches ++ c .last ∷ [])
 unfolding writtenFor
 came-written c = ap (λ (s : Progress). textOf (s .number) (s .table)) (c .loaded)
 
 -- "stray bytes at the end give 3"
-pub stray-bytes : (batches : List (List ℕ)) (last : List ℕ) → WholePixels batches → ((k : ℕ) → getD last k 0 < 256) → (length last % 3 ≡ 0 → ⊥) → writtenFor (batches ++ last ∷ []) ≡ refused3
+pub stray-bytes : (batches : List (List ℕ)) (last : List ℕ) → WholePixels batches → ((k : ℕ) → getD last k 0 < 256)
+    → (length last % 3 ≡ 0 → ⊥) → writtenFor (batches ++ last ∷ []) ≡ refused3
 unfolding refused3 refusedOf refusedWord newline decimalOf digitsWithin afterAll afterBatch atFirst lowerOf
 stray-bytes batches last w are n =
     let before : length (readIn batches) % 3 ≡ 0 = reached-all atFirst [] reached-first refl batches w .1 in
     any-batches batches last w are
-    ∙ only-refused ((readIn batches ++ last) ∷ []) (all-stray (readIn batches ++ last) (λ e. n (omega (arith, length-append (readIn batches) last, before))))
+    ∙ only-refused ((readIn batches ++ last) ∷ [])
+    (all-stray (readIn batches ++ last) (λ e. n (omega (arith, length-append (readIn batches) last, before))))

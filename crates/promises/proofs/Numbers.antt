@@ -1,4 +1,5 @@
--- "The lowest number that applies is given, and none is given otherwise": of every call, and what it is given where none applies. And
+-- "The lowest number that applies is given, and none is given otherwise": of every call, and what it is given where
+-- none applies. And
 -- "A refusal returns its number and, from a cut, zero boxes and box places all zero, and writes nothing".
 -- Assumes nothing.
 use mathlib.Core.Path.{_≡_, refl, sym, ap, _∙_}
@@ -11,26 +12,32 @@ use native.Mathlib.Omega.{arith}
 use borrow.Author.Tests.{eqb-true, eq-eqb, ne-eqb, leb-true, leb-false, le-leb, lt-leb}
 use lib.Dec.{eqb, leb, ltb}
 use lib.ListN.{length}
-use Rattle.grid.specs.declared.Chosen.{Chosen}
-use Rattle.grid.specs.declared.Chosen.the-variants as chosen
-use Rattle.grid.specs.Answer.{refuse}
+use Rattle.grid.specs.declared.place.Chosen.{Chosen}
+use Rattle.grid.specs.declared.place.Chosen.the-variants as chosen
+use Rattle.basics.specs.Answer.{refuse}
 use Rattle.grid.specs.Grid.{gridOf, gridAnswer, onGrid, numberOn, binsOf}
 use Rattle.grid.proofs.Ends.{call-done}
-use Rattle.grid.proofs.Range.{and-left, and-right}
-use Rattle.table.specs.Cell.{wide}
+use Rattle.basics.proofs.Range.{and-left, and-right}
+use Rattle.table.specs.Table.{isSized, viewOf}
 use Rattle.table.specs.Sound.{limit, total, sound, unsoundNumber}
 use Rattle.loader.specs.Load.{loadNumber, loadLater}
 use Rattle.loader.specs.Merge.{mergeNumber, mergeLater}
 use Rattle.loader.proofs.Calls.{load-no-grid, merge-no-grid}
-use Rattle.loader.proofs.Laws.{load-refused, load-tests, load-says, load-accepts, merge-refused, merge-tests, merge-says, merge-accepts}
-use Rattle.cutter.specs.Cut.{Buffers, lengthsOf, longEnough, cutNumberOn, cutNumber, refusedRecord, cutRecord, cutLater, CanCut}
+use Rattle.loader.proofs.Laws.{load-refused, load-tests, load-says, load-accepts, merge-refused, merge-tests}
+use Rattle.loader.proofs.Laws.{merge-says, merge-accepts}
+use Rattle.cutter.specs.Cut.{LengthsFit, lengthsRight, Buffers, lengthsOf, longEnough, cutNumberOn, cutNumber}
+use Rattle.cutter.specs.Cut.{refusedRecord, cutRecord, cutLater}
+use Rattle.cutter.specs.Cut.{CanCut}
 use Rattle.cutter.proofs.Laws.{cut-refuses, cut-says, cut-accepts}
-use Rattle.mapper.specs.Band.{allBelow, bandNumber}
-use Rattle.mapper.specs.Map.{mapNumberOn, mapNumber, mapLater}
-use Rattle.mapper.specs.Paint.{paintNumberOn, paintNumber, paintLater}
-use Rattle.mapper.proofs.Laws.{map-refused, map-says, map-accepts, paint-refused, paint-says, paint-accepts}
+use Rattle.band.specs.Band.{allBelow, bandNumber}
+use Rattle.mapper.specs.Map.{mapNumberOn, mapNumber, mapLater, CanMap}
+use Rattle.mapper.proofs.Laws.{map-refused, map-says, map-accepts}
+use Rattle.painter.specs.Paint.{paintNumberOn, paintNumber, paintLater, CanPaint}
+use Rattle.painter.proofs.Laws.{paint-refused, paint-says, paint-accepts}
 use Rattle.seluvava.specs.Cut.{Lent, hasRoom, allLong, callNumberOn, callNumber, cutAnswer}
-use Rattle.promises.specs.Numbers.{Tests, applies, lowestFrom, lowestOf, noGrid, onBins, loadTests, loadApplies, mergeTests, mergeApplies, cutTests, cutApplies, callApplies, bandTests, mapApplies, paintApplies, OnGrid, CanLoad, CanMerge, CanMap, CanPaint}
+use Rattle.promises.specs.Numbers.{Tests, applies, lowestFrom, lowestOf, noGrid, onBins, loadTests, loadApplies}
+use Rattle.promises.specs.Numbers.{mergeTests, mergeApplies, cutTests, cutApplies, callApplies, bandTests}
+use Rattle.promises.specs.Numbers.{mapApplies, paintApplies, OnGrid, CanLoad, CanMerge}
 
 -- ---- a chain of refusals whose numbers do not descend gives the lowest that applies
 unfoldable chain : Tests → ℕ
@@ -47,13 +54,15 @@ unfolding lowestFrom
 none-applies zero n = refl
 none-applies (suc more) n = none-applies more (suc n)
 
-first-applies : (more n m : ℕ) (f : ℕ → Bool) → f m ≡ true → ((j : ℕ) → j < m → f j ≡ false) → n ≤ m → m < n + more → lowestFrom n more f ≡ m
+first-applies : (more n m : ℕ) (f : ℕ → Bool) → f m ≡ true → ((j : ℕ) → j < m → f j ≡ false) → n ≤ m → m < n + more
+    → lowestFrom n more f ≡ m
 unfolding lowestFrom
 first-applies zero n m f this before least most = absurd (omega arith)
 first-applies (suc more) n m f this before least most =
     elim (eq-or-lt-of-le least) [
       | inl same ↦ rw (ap f same ∙ this) same
-      | inr later ↦ rw (before n later) (first-applies more (suc n) m f this before (omega (arith, later)) (omega (arith, most)))
+      | inr later ↦ rw (before n later)
+          (first-applies more (suc n) m f this before (omega (arith, later)) (omega (arith, most)))
     ]
 
 none-below : (xs : Tests) (n m : ℕ) → ascends n xs ≡ true → m < n → applies xs m ≡ false
@@ -82,7 +91,8 @@ lowest (x ∷ xs) n least a = go (x .1) (lowest xs (x .0) (omega (arith, from, l
     not-this true m = refl
     not-this false m = refl
 
-    go : (b : Bool) → chain xs ≡ lowestOf (applies xs) → refuse b (x .0) (chain xs) ≡ lowestFrom 1 9 (λ m. (eqb (x .0) m && b) || applies xs m)
+    go : (b : Bool) → chain xs ≡ lowestOf (applies xs)
+        → refuse b (x .0) (chain xs) ≡ lowestFrom 1 9 (λ m. (eqb (x .0) m && b) || applies xs m)
     go true later =
         sym
         (first-applies 9 1 (x .0) (λ m. (eqb (x .0) m && true) || applies xs m) (rw (eq-eqb (x .0) (x .0) refl) refl)
@@ -99,25 +109,31 @@ both false b n rest = refl
 
 -- ---- the lowest number of each call
 module _ (b1 b2 b3 : ℕ) where
-  pub load-lowest : (t colours : List ℕ) (given : Bool) (weights : List ℕ) → loadNumber b1 b2 b3 t colours given weights ≡ lowestOf (loadApplies b1 b2 b3 t colours given weights)
+  pub load-lowest : (t colours : List ℕ) (given : Bool) (weights : List ℕ)
+      → loadNumber b1 b2 b3 t colours given weights ≡ lowestOf (loadApplies b1 b2 b3 t colours given weights)
   unfolding loadApplies loadTests chain ascends noGrid onBins onGrid gridAnswer refuse
-  load-lowest t colours given weights = go (gridOf b1 b2 b3) refl ∙ lowest (loadTests (gridOf b1 b2 b3) t colours given weights) 1 (omega arith) refl
+  load-lowest t colours given weights = go (gridOf b1 b2 b3) refl
+      ∙ lowest (loadTests (gridOf b1 b2 b3) t colours given weights) 1 (omega arith) refl
     where
-      go : (c : Chosen) → gridOf b1 b2 b3 ≡ c → loadNumber b1 b2 b3 t colours given weights ≡ chain (loadTests (gridOf b1 b2 b3) t colours given weights)
-      go (chosen.Of g) e = load-tests b1 b2 b3 t colours given weights e ∙ rw e refl
+      go : (c : Chosen) → gridOf b1 b2 b3 ≡ c
+          → loadNumber b1 b2 b3 t colours given weights ≡ chain (loadTests (gridOf b1 b2 b3) t colours given weights)
+      go (chosen.Accepted g) e = load-tests b1 b2 b3 t colours given weights e ∙ rw e refl
       go chosen.Refused e = sym (load-no-grid b1 b2 b3 t colours given weights e .0) ∙ rw e refl
 
   pub merge-lowest : (t s : List ℕ) → mergeNumber b1 b2 b3 t s ≡ lowestOf (mergeApplies b1 b2 b3 t s)
   unfolding mergeApplies mergeTests chain ascends noGrid onBins onGrid gridAnswer refuse
   merge-lowest t s = go (gridOf b1 b2 b3) refl ∙ lowest (mergeTests (gridOf b1 b2 b3) t s) 1 (omega arith) refl
     where
-      pairs : (a b c d : Bool) (rest : ℕ) → refuse (not (a && b)) 5 (refuse (not (c && d)) 6 rest) ≡ refuse (not a) 5 (refuse (not b) 5 (refuse (not c) 6 (refuse (not d) 6 rest)))
+      pairs : (a b c d : Bool) (rest : ℕ)
+          → refuse (not (a && b)) 5 (refuse (not (c && d)) 6 rest)
+          ≡ refuse (not a) 5 (refuse (not b) 5 (refuse (not c) 6 (refuse (not d) 6 rest)))
       pairs a b c d rest = ap (refuse (not (a && b)) 5) (both c d 6 rest) ∙ both a b 5 _
 
       go : (c : Chosen) → gridOf b1 b2 b3 ≡ c → mergeNumber b1 b2 b3 t s ≡ chain (mergeTests (gridOf b1 b2 b3) t s)
-      go (chosen.Of g) e =
+      go (chosen.Accepted g) e =
           merge-tests b1 b2 b3 t s e
-          ∙ pairs (eqb (length t) (5 * binsOf g)) (eqb (length s) (5 * binsOf g)) (sound limit g (wide t)) (sound limit g (wide s)) _
+          ∙ pairs (isSized t (binsOf g)) (isSized s (binsOf g)) (sound limit g (viewOf t))
+          (sound limit g (viewOf s)) _
           ∙ rw e refl
       go chosen.Refused e = sym (merge-no-grid b1 b2 b3 t s e .0) ∙ rw e refl
 
@@ -125,46 +141,70 @@ module _ (b1 b2 b3 : ℕ) where
   unfolding cutNumber cutNumberOn cutApplies cutTests chain ascends noGrid onBins numberOn onGrid gridAnswer refuse
   cut-lowest k t b = go (gridOf b1 b2 b3) ∙ lowest (cutTests (gridOf b1 b2 b3) k t b true) 1 (omega arith) refl
     where
-      go : (c : Chosen) → numberOn c (λ g. cutNumberOn limit g k t (lengthsOf b)) ≡ chain (cutTests c k t b true)
-      go (chosen.Of g) = refl
+      go : (c : Chosen)
+          → numberOn c (λ g. cutNumberOn limit g k (lengthsRight g k t b) (viewOf t)) ≡ chain (cutTests c k t b true)
+      go (chosen.Accepted g) = refl
       go chosen.Refused = refl
 
-  pub call-lowest : (k : ℕ) (t : List ℕ) (l : Lent) → cutAnswer b1 b2 b3 k t l .number ≡ lowestOf (callApplies b1 b2 b3 k t l)
-  unfolding cutAnswer callNumber callNumberOn allLong callApplies cutTests chain ascends noGrid onBins numberOn onGrid gridAnswer refuse
-  call-lowest k t l = go (gridOf b1 b2 b3) ∙ lowest (cutTests (gridOf b1 b2 b3) k t (l .buffers) room) 1 (omega arith) refl
+  pub call-lowest : (k : ℕ) (t : List ℕ) (l : Lent)
+      → cutAnswer b1 b2 b3 k t l .number ≡ lowestOf (callApplies b1 b2 b3 k t l)
+  unfolding cutAnswer callNumber callNumberOn cutNumberOn allLong callApplies cutTests chain ascends noGrid onBins
+      numberOn onGrid
+      gridAnswer refuse
+  call-lowest k t l = go (gridOf b1 b2 b3)
+      ∙ lowest (cutTests (gridOf b1 b2 b3) k t (l .buffers) room) 1 (omega arith) refl
     where
       room : Bool
       room = hasRoom k (length (l .boxes)) (length (l .spreads))
 
       go : (c : Chosen) → numberOn c (λ g. callNumberOn g k t l) ≡ chain (cutTests c k t (l .buffers) room)
-      go (chosen.Of g) =
+      go (chosen.Accepted g) =
           ap (refuse (not (leb 1 k && leb k 256)) 2)
-          (both (longEnough g k (length t) (lengthsOf (l .buffers))) room 5 (refuse (not (sound limit g (wide t))) unsoundNumber (refuse (eqb (total g (wide t)) 0) 8 0)))
+          (both (longEnough g k (length t) (lengthsOf (l .buffers))) room 5
+          (refuse (not (sound limit g (viewOf t))) unsoundNumber (refuse (eqb (total g (viewOf t)) 0) 8 0)))
       go chosen.Refused = refl
 
   module _ (map : List ℕ) where
     -- the two lengths that a band tests in turn are one test
-    band-lowest : (colours : ℕ) (fits lengths : Bool) (frame : List ℕ) (first pixels : ℕ) → ((leb 1 colours && leb colours 256) && fits) ≡ lengths → numberOn (gridOf b1 b2 b3) (λ g. bandNumber g map colours fits (length frame) first pixels) ≡ lowestOf (applies (bandTests (gridOf b1 b2 b3) map colours lengths frame first pixels))
+    band-lowest : (paletteColours : ℕ) (fits lengths : Bool) (frame : List ℕ) (first pixels : ℕ)
+        → ((leb 1 paletteColours && leb paletteColours 256) && fits) ≡ lengths
+        → numberOn (gridOf b1 b2 b3) (λ g. bandNumber g map paletteColours fits (length frame) first pixels)
+        ≡ lowestOf (applies (bandTests (gridOf b1 b2 b3) map paletteColours lengths frame first pixels))
     unfolding bandNumber bandTests chain ascends noGrid onBins numberOn onGrid gridAnswer refuse
-    band-lowest colours fits lengths frame first pixels e = go (gridOf b1 b2 b3) ∙ lowest (bandTests (gridOf b1 b2 b3) map colours lengths frame first pixels) 1 (omega arith) refl
+    band-lowest paletteColours fits lengths frame first pixels e =
+        go (gridOf b1 b2 b3)
+        ∙ lowest (bandTests (gridOf b1 b2 b3) map paletteColours lengths frame first pixels) 1 (omega arith) refl
       where
         rest : ℕ
-        rest = refuse (ltb (length frame / 3) (first + pixels)) 5 (refuse (not (allBelow colours map)) 9 0)
+        rest = refuse (ltb (length frame / 3) (first + pixels)) 5 (refuse (not (allBelow paletteColours map)) 9 0)
 
-        lent : refuse (not (leb 1 colours && leb colours 256)) 5 (refuse (not fits) 5 rest) ≡ refuse (not lengths) 5 rest
-        lent = sym (both (leb 1 colours && leb colours 256) fits 5 rest) ∙ ap (λ (b : Bool). refuse (not b) 5 rest) e
+        lent : refuse (not (leb 1 paletteColours && leb paletteColours 256)) 5 (refuse (not fits) 5 rest)
+            ≡ refuse (not lengths) 5 rest
+        lent =
+            sym (both (leb 1 paletteColours && leb paletteColours 256) fits 5 rest)
+            ∙ ap (λ (b : Bool). refuse (not b) 5 rest) e
 
-        go : (c : Chosen) → numberOn c (λ g. bandNumber g map colours fits (length frame) first pixels) ≡ chain (bandTests c map colours lengths frame first pixels)
-        go (chosen.Of g) = ap (λ (n : ℕ). refuse (not (eqb (length frame % 3) 0)) 3 (refuse (not (eqb (length map) (binsOf g))) 5 n)) lent
+        go : (c : Chosen)
+            → numberOn c (λ g. bandNumber g map paletteColours fits (length frame) first pixels)
+            ≡ chain (bandTests c map paletteColours lengths frame first pixels)
+        go (chosen.Accepted g) =
+            ap (λ (n : ℕ). refuse (not (eqb (length frame % 3) 0)) 3 (refuse (not (eqb (length map) (binsOf g))) 5 n))
+            lent
         go chosen.Refused = refl
 
-    pub map-lowest : (colours : ℕ) (frame indices : List ℕ) (first pixels : ℕ) → mapNumber b1 b2 b3 map colours frame indices first pixels ≡ lowestOf (mapApplies b1 b2 b3 map colours frame indices first pixels)
+    pub map-lowest : (paletteColours : ℕ) (frame indices : List ℕ) (first pixels : ℕ)
+        → mapNumber b1 b2 b3 map paletteColours frame indices first pixels
+        ≡ lowestOf (mapApplies b1 b2 b3 map paletteColours frame indices first pixels)
     unfolding mapNumber mapNumberOn mapApplies
-    map-lowest colours frame indices first pixels = band-lowest colours (eqb (length indices) (length frame / 3)) _ frame first pixels refl
+    map-lowest paletteColours frame indices first pixels =
+        band-lowest paletteColours (eqb (length indices) (length frame / 3)) _ frame first pixels refl
 
-    pub paint-lowest : (palette frame : List ℕ) (first pixels : ℕ) → paintNumber b1 b2 b3 map palette frame first pixels ≡ lowestOf (paintApplies b1 b2 b3 map palette frame first pixels)
+    pub paint-lowest : (palette frame : List ℕ) (first pixels : ℕ)
+        → paintNumber b1 b2 b3 map palette frame first pixels
+        ≡ lowestOf (paintApplies b1 b2 b3 map palette frame first pixels)
     unfolding paintNumber paintNumberOn paintApplies
-    paint-lowest palette frame first pixels = band-lowest (length palette / 3) (eqb (length palette % 3) 0) _ frame first pixels (in-bytes (length palette))
+    paint-lowest palette frame first pixels =
+        band-lowest (length palette / 3) (eqb (length palette % 3) 0) _ frame first pixels (in-bytes (length palette))
       where
         -- in threes, 1..256 colours are 3..768 bytes
         least : (n : ℕ) → leb 1 (n / 3) ≡ leb 3 n
@@ -187,25 +227,37 @@ module _ (b1 b2 b3 : ℕ) where
         nothing false true = refl
         nothing false false = refl
 
-        in-bytes : (n : ℕ) → ((leb 1 (n / 3) && leb (n / 3) 256) && eqb (n % 3) 0) ≡ ((leb 3 n && leb n 768) && eqb (n % 3) 0)
+        in-bytes : (n : ℕ)
+            → ((leb 1 (n / 3) && leb (n / 3) 256) && eqb (n % 3) 0) ≡ ((leb 3 n && leb n 768) && eqb (n % 3) 0)
         in-bytes n = go (eqb (n % 3) 0) refl
           where
-            go : (b : Bool) → eqb (n % 3) 0 ≡ b → ((leb 1 (n / 3) && leb (n / 3) 256) && b) ≡ ((leb 3 n && leb n 768) && b)
+            go : (b : Bool) → eqb (n % 3) 0 ≡ b
+                → ((leb 1 (n / 3) && leb (n / 3) 256) && b) ≡ ((leb 3 n && leb n 768) && b)
             go true e = λ i. (least n i && most n (eqb-true (n % 3) 0 e) i) && true
             go false e = nothing (leb 1 (n / 3) && leb (n / 3) 256) (leb 3 n && leb n 768)
 
 -- ---- a call is done exactly where it is given this
 module _ (b1 b2 b3 : ℕ) where
-  pub load-exactly : (t colours : List ℕ) (given : Bool) (weights : List ℕ) → (loadNumber b1 b2 b3 t colours given weights ≡ 0) ↔ OnGrid b1 b2 b3 (CanLoad t colours given weights)
+  pub load-exactly : (t colours : List ℕ) (given : Bool) (weights : List ℕ)
+      → (loadNumber b1 b2 b3 t colours given weights ≡ 0) ↔ OnGrid b1 b2 b3 (CanLoad t colours given weights)
   load-exactly t colours given weights = (
     λ e.
         let d = load-says b1 b2 b3 t colours given weights e in
         record {
           g = d .g;
           chosen = d .chosen;
-          can = record { threes = d .threes; paired = d .paired; lent = d .lent; is-sound = d .sound-before .holds; fits = d .under };
+          can = record {
+            threes = d .threes;
+            paired = d .paired;
+            lent = d .lent;
+            is-sound = d .sound-before .holds;
+            fits =
+                d .under;
+          };
         },
-    λ o. let c = o .can in load-accepts b1 b2 b3 t colours given weights (o .chosen) (c .threes) (c .paired) (c .lent) (c .is-sound) (c .fits),
+    λ o. let c = o .can in
+        load-accepts b1 b2 b3 t colours given weights (o .chosen) (c .threes) (c .paired) (c .lent) (c .is-sound)
+        (c .fits),
   )
 
   pub merge-exactly : (t s : List ℕ) → (mergeNumber b1 b2 b3 t s ≡ 0) ↔ OnGrid b1 b2 b3 (CanMerge t s)
@@ -215,61 +267,65 @@ module _ (b1 b2 b3 : ℕ) where
         record {
           g = d .g;
           chosen = d .chosen;
-          can = record { lent = d .lent; are-sound = (d .sound-before .0 .holds, d .sound-before .1 .holds); fits = d .under };
+          can = record
+              { lent = d .lent; are-sound = (d .sound-before .0 .holds, d .sound-before .1 .holds); fits = d .under };
         },
-    λ o. let c = o .can in merge-accepts b1 b2 b3 t s (o .chosen) (c .lent .0) (c .lent .1) (c .are-sound .0) (c .are-sound .1) (c .fits),
+    λ o. let c = o .can in
+        merge-accepts b1 b2 b3 t s (o .chosen) (c .lent .0) (c .lent .1) (c .are-sound .0) (c .are-sound .1) (c .fits),
   )
 
-  pub cut-exactly : (k : ℕ) (t : List ℕ) (b : Buffers) → (cutNumber b1 b2 b3 k t b ≡ 0) ↔ OnGrid b1 b2 b3 (λ g. CanCut g k t (lengthsOf b))
+  pub cut-exactly : (k : ℕ) (t : List ℕ) (b : Buffers)
+      → (cutNumber b1 b2 b3 k t b ≡ 0) ↔ OnGrid b1 b2 b3
+      (λ g. CanCut limit g k (viewOf t) × LengthsFit g k (length t) (lengthsOf b))
   unfolding cutNumber
   cut-exactly k t b = (
     λ e.
-        let c = call-done {A = ℕ} (gridOf b1 b2 b3) (λ g. cutNumberOn limit g k t (lengthsOf b)) (λ g. 0) 0 e in
-        record { g = c .g; chosen = c .is; can = cut-says b1 b2 b3 k t b (c .is) e .can },
-    λ o. cut-accepts b1 b2 b3 k t b (o .chosen) (o .can),
+        let c = call-done {A = ℕ} (gridOf b1 b2 b3) (λ g. cutNumberOn limit g k (lengthsRight g k t b) (viewOf t))
+        (λ g. 0) 0 e in
+        let d = cut-says b1 b2 b3 k t b (c .is) e in record { g = c .g; chosen = c .is; can = (d .can, d .fit) },
+    λ o. cut-accepts b1 b2 b3 k t b (o .chosen) (o .can .0) (o .can .1),
   )
 
-  pub map-exactly : (map : List ℕ) (colours : ℕ) (frame indices : List ℕ) (first pixels : ℕ) → (mapNumber b1 b2 b3 map colours frame indices first pixels ≡ 0) ↔ OnGrid b1 b2 b3 (CanMap map colours frame indices first pixels)
-  map-exactly map colours frame indices first pixels = (
+  pub map-exactly : (map : List ℕ) (paletteColours : ℕ) (frame indices : List ℕ) (first pixels : ℕ)
+      → (mapNumber b1 b2 b3 map paletteColours frame indices first pixels ≡ 0)
+      ↔ OnGrid b1 b2 b3 (λ g. CanMap g map paletteColours frame indices first pixels)
+  map-exactly map paletteColours frame indices first pixels = (
     λ e.
-        let d = map-says b1 b2 b3 map colours frame indices first pixels e in
-        record {
-          g = d .g;
-          chosen = d .chosen;
-          can = record { threes = d .threes; lent = d .lent; some = d .some; few = d .few; one-each = d .one-each; inside = d .inside; below = d .below };
-        },
-    λ o.
-        let c = o .can in
-        map-accepts b1 b2 b3 map colours frame indices first pixels (o .chosen) (c .threes) (c .lent) (c .some) (c .few) (c .one-each) (c .inside) (c .below) .0,
+        let d = map-says b1 b2 b3 map paletteColours frame indices first pixels e in
+        record { g = d .g; chosen = d .chosen; can = d .can },
+    λ o. map-accepts b1 b2 b3 map paletteColours frame indices first pixels (o .chosen) (o .can) .0,
   )
 
-  pub paint-exactly : (map palette frame : List ℕ) (first pixels : ℕ) → (paintNumber b1 b2 b3 map palette frame first pixels ≡ 0) ↔ OnGrid b1 b2 b3 (CanPaint map palette frame first pixels)
+  pub paint-exactly : (map palette frame : List ℕ) (first pixels : ℕ)
+      → (paintNumber b1 b2 b3 map palette frame first pixels ≡ 0)
+      ↔ OnGrid b1 b2 b3 (λ g. CanPaint g map palette frame first pixels)
   paint-exactly map palette frame first pixels = (
     λ e.
         let d = paint-says b1 b2 b3 map palette frame first pixels e in
-        record {
-          g = d .g;
-          chosen = d .chosen;
-          can = record { threes = d .threes; lent = d .lent; some = d .some; few = d .few; whole = d .whole; inside = d .inside; below = d .below };
-        },
-    λ o.
-        let c = o .can in
-        paint-accepts b1 b2 b3 map palette frame first pixels (o .chosen) (c .threes) (c .lent) (c .some) (c .few) (c .whole) (c .inside) (c .below) .0,
+        record { g = d .g; chosen = d .chosen; can = d .can },
+    λ o. paint-accepts b1 b2 b3 map palette frame first pixels (o .chosen) (o .can) .0,
   )
 
   -- ---- a refusal writes nothing
   module _ {n : ℕ} where
-    pub refused-load : (t colours : List ℕ) (given : Bool) (weights : List ℕ) → loadNumber b1 b2 b3 t colours given weights ≡ suc n → loadLater b1 b2 b3 t colours given weights ≡ t
+    pub refused-load : (t colours : List ℕ) (given : Bool) (weights : List ℕ)
+        → loadNumber b1 b2 b3 t colours given weights ≡ suc n → loadLater b1 b2 b3 t colours given weights ≡ t
     refused-load t colours given weights e = load-refused b1 b2 b3 t colours given weights e
 
     pub refused-merge : (t s : List ℕ) → mergeNumber b1 b2 b3 t s ≡ suc n → mergeLater b1 b2 b3 t s ≡ t
     refused-merge t s e = merge-refused b1 b2 b3 t s e
 
-    pub refused-cut : (k : ℕ) (t : List ℕ) (b : Buffers) → cutNumber b1 b2 b3 k t b ≡ suc n → (cutRecord b1 b2 b3 k t b ≡ refusedRecord (suc n)) × (cutLater b1 b2 b3 k t b ≡ b)
+    pub refused-cut : (k : ℕ) (t : List ℕ) (b : Buffers) → cutNumber b1 b2 b3 k t b ≡ suc n
+        → (cutRecord b1 b2 b3 k t b ≡ refusedRecord (suc n)) × (cutLater b1 b2 b3 k t b ≡ b)
     refused-cut k t b e = cut-refuses b1 b2 b3 k t b e
 
-    pub refused-map : (map : List ℕ) (colours : ℕ) (frame indices : List ℕ) (first pixels : ℕ) → mapNumber b1 b2 b3 map colours frame indices first pixels ≡ suc n → mapLater b1 b2 b3 map colours frame indices first pixels ≡ indices
-    refused-map map colours frame indices first pixels e = map-refused b1 b2 b3 map colours frame indices first pixels e
+    pub refused-map : (map : List ℕ) (paletteColours : ℕ) (frame indices : List ℕ) (first pixels : ℕ)
+        → mapNumber b1 b2 b3 map paletteColours frame indices first pixels ≡ suc n
+        → mapLater b1 b2 b3 map paletteColours frame indices first pixels ≡ indices
+    refused-map map paletteColours frame indices first pixels e =
+        map-refused b1 b2 b3 map paletteColours frame indices first pixels e
 
-    pub refused-paint : (map palette frame : List ℕ) (first pixels : ℕ) → paintNumber b1 b2 b3 map palette frame first pixels ≡ suc n → paintLater b1 b2 b3 map palette frame first pixels ≡ frame
+    pub refused-paint : (map palette frame : List ℕ) (first pixels : ℕ)
+        → paintNumber b1 b2 b3 map palette frame first pixels ≡ suc n
+        → paintLater b1 b2 b3 map palette frame first pixels ≡ frame
     refused-paint map palette frame first pixels e = paint-refused b1 b2 b3 map palette frame first pixels e

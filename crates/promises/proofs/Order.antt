@@ -1,18 +1,19 @@
--- Demand 3, the order: the same weighted colours, in any order, in any batches, into one table or several merged in any order, give
+-- Demand 3, the order: the same weighted colours, in any order, in any batches, into one table or several merged in any
+-- order, give
 -- the same table, and so the same boxes, palette, counts and map, and every pixel the same index.
 -- Assumes nothing.
 use mathlib.Core.Path.{_≡_, refl, sym, _∙_}
 use mathlib.Core.List.{List, Perm}
 use Prim.Native.Nat.{ℕ, suc, _≤_}
 use lib.ListN.{getD}
-use Rattle.grid.specs.declared.Grid.{Grid}
-use Rattle.grid.specs.declared.Chosen.the-variants.{Of}
+use Rattle.grid.specs.declared.place.Grid.{Grid}
+use Rattle.grid.specs.declared.place.Chosen.the-variants as chosen
 use Rattle.grid.specs.Grid.{gridOf, colourPlace}
 use Rattle.table.specs.Sound.{limit}
 use Rattle.loader.specs.Load.{weightOf, tableOf}
-use Rattle.loader.specs.Plan.{Plan, Table, Refused, ranOf, run, leaves, firstMalformed, BytesIn}
-use Rattle.loader.proofs.Order.{table-perm, run-is, any-order, malformed-refused}
-use Rattle.loader.proofs.Ran.{ran-table}
+use Rattle.loader.specs.Plan.{Plan, Filled, Stopped, endedOf, ends, leaves, firstMalformed, BytesIn}
+use Rattle.loader.proofs.Order.{table-perm, ends-is, any-order, malformed-refused}
+use Rattle.loader.proofs.Plans.{filled-table}
 use Rattle.cutter.specs.Cut.{Buffers, cutRecord, cutLater}
 use Rattle.promises.specs.Order.{SameCut, CutAlike}
 
@@ -21,23 +22,26 @@ same-cut : (g : Grid) (b1 b2 b3 k : ℕ) (b : Buffers) {t s : List ℕ} → t �
 same-cut g b1 b2 b3 k b e =
     record {
       boxes = λ i. cutRecord b1 b2 b3 k (e i) b;
-      palette = λ i. cutLater b1 b2 b3 k (e i) b .palette;
-      counts = λ i. cutLater b1 b2 b3 k (e i) b .counts;
-      map = λ i. cutLater b1 b2 b3 k (e i) b .map;
+      palette = λ i. cutLater b1 b2 b3 k (e i) b .results .palette;
+      counts = λ i. cutLater b1 b2 b3 k (e i) b .results .counts;
+      map = λ i. cutLater b1 b2 b3 k (e i) b .results .map;
       work = λ i. cutLater b1 b2 b3 k (e i) b .work;
-      pixel = λ c i. getD (cutLater b1 b2 b3 k (e i) b .map) (colourPlace g c) 0;
+      pixel = λ c i. getD (cutLater b1 b2 b3 k (e i) b .results .map) (colourPlace g c) 0;
     }
 
-module _ (b1 b2 b3 : ℕ) {g : Grid} (e : gridOf b1 b2 b3 ≡ Of g) (p q : Plan) (y : BytesIn p) (z : BytesIn q) (π : Perm (leaves p) (leaves q)) where
+module _ (b1 b2 b3 : ℕ) {g : Grid} (e : gridOf b1 b2 b3 ≡ chosen.Accepted g) (p q : Plan) (y : BytesIn p)
+    (z : BytesIn q) (π : Perm (leaves p) (leaves q)) where
   -- plans that ran to tables ran to the same table
-  pub ran-same : {t s : List ℕ} → run b1 b2 b3 p ≡ Table t → run b1 b2 b3 q ≡ Table s → t ≡ s
-  ran-same r u = ran-table b1 b2 b3 e p y r .1 ∙ table-perm g π ∙ sym (ran-table b1 b2 b3 e q z u .1)
+  pub ran-same : {t s : List ℕ} → ends b1 b2 b3 p ≡ Filled t → ends b1 b2 b3 q ≡ Filled s → t ≡ s
+  ran-same r u = filled-table b1 b2 b3 e p y r .1 ∙ table-perm g π ∙ sym (filled-table b1 b2 b3 e q z u .1)
 
-  pub ran-alike : {t s : List ℕ} → run b1 b2 b3 p ≡ Table t → run b1 b2 b3 q ≡ Table s → (k : ℕ) (b : Buffers) → SameCut g b1 b2 b3 k b t s
+  pub ran-alike : {t s : List ℕ} → ends b1 b2 b3 p ≡ Filled t → ends b1 b2 b3 q ≡ Filled s → (k : ℕ) (b : Buffers)
+      → SameCut g b1 b2 b3 k b t s
   ran-alike r u k b = same-cut g b1 b2 b3 k b (ran-same r u)
 
   -- and with no malformed batch and a total that fits, both do
-  pub any-order-cuts : firstMalformed p ≡ 0 → firstMalformed q ≡ 0 → weightOf (leaves p) ≤ limit → CutAlike g b1 b2 b3 p q
+  pub any-order-cuts : firstMalformed p ≡ 0 → firstMalformed q ≡ 0 → weightOf (leaves p) ≤ limit
+      → CutAlike g b1 b2 b3 p q
   any-order-cuts m n h =
       let ran = any-order b1 b2 b3 e p q y z m n π h in
       record {
@@ -49,11 +53,13 @@ module _ (b1 b2 b3 : ℕ) {g : Grid} (e : gridOf b1 b2 b3 ≡ Of g) (p q : Plan)
         alike = ran-alike (ran .0) (ran .1 ∙ ran .0);
       }
 
-module _ (b1 b2 b3 : ℕ) {g : Grid} (e : gridOf b1 b2 b3 ≡ Of g) (p : Plan) (y : BytesIn p) (h : weightOf (leaves p) ≤ limit) where
-  -- how a plan whose total fits ends: refused with the number of its first malformed batch, or else with the table of its colours
-  pub plan-ends : run b1 b2 b3 p ≡ ranOf (firstMalformed p) (tableOf g (leaves p))
-  plan-ends = run-is b1 b2 b3 e p y h
+module _ (b1 b2 b3 : ℕ) {g : Grid} (e : gridOf b1 b2 b3 ≡ chosen.Accepted g) (p : Plan) (y : BytesIn p)
+    (h : weightOf (leaves p) ≤ limit) where
+  -- how a plan whose total fits ends: refused with the number of its first malformed batch, or else with the table of
+  -- its colours
+  pub plan-ends : ends b1 b2 b3 p ≡ endedOf (firstMalformed p) (tableOf g (leaves p))
+  plan-ends = ends-is b1 b2 b3 e p y h
 
   -- a plan with a malformed batch is refused with that batch's number
-  pub malformed-is-refused : {n : ℕ} → firstMalformed p ≡ suc n → run b1 b2 b3 p ≡ Refused (suc n)
+  pub malformed-is-refused : {n : ℕ} → firstMalformed p ≡ suc n → ends b1 b2 b3 p ≡ Stopped (suc n)
   malformed-is-refused m = malformed-refused b1 b2 b3 e p y h m

@@ -4,39 +4,62 @@
 use mathlib.Core.Path.{_≡_, refl}
 use mathlib.Core.Bool.{false}
 use mathlib.Core.List.{[], map, List·Memᴰ}
-use Rattle.grid.specs.Answer.{refuse, whenDone}
-use Rattle.grid.specs.Range.{listFrom, sumFrom, allFrom}
+use Rattle.basics.specs.Answer.{refuse, whenDone}
+use Rattle.basics.specs.Range.{listFrom, sumFrom, allFrom}
 use Rattle.grid.specs.Size.{choices, shiftIn, shiftOf, binOf, spanOf}
-use Rattle.grid.specs.Grid.{choose, shiftAt, gridWith, gridOf, gridAnswer, onGrid, numberOn, binsOf, placeOf, binAt, colourPlace, colourAt}
-use Rattle.table.specs.Cell.{wide, wideList}
+use Rattle.basics.specs.Dimension.{choose}
+use Rattle.grid.specs.Grid.{shiftAt, gridWith, gridOf, gridAnswer, onGrid, numberOn, binsOf, placeOf, binAt}
+use Rattle.grid.specs.Grid.{colourPlace}
+use Rattle.pixels.specs.Colour.{colourAt}
+use Rattle.table.specs.Table.{tableLen, isSized, viewOf, written}
 use Rattle.table.specs.Sound.{between, inBounds, spanAt, binSound, total, sound}
-use Rattle.loader.specs.Load.{share, adds, sumOver, weightOf, loaded, tableOf, weightedAt, batchOf, loadNumberOn, loadNumber, loadLater}
-use Rattle.sums.specs.Box.{minAt, maxAt, sum3, binSum, boxSum, statsOf, lowSide, highSide}
+use Rattle.loader.specs.Load.{share, adds, sumOver, weightOf, loaded, tableOf, weightedAt, batchOf, loadNumberOn}
+use Rattle.loader.specs.Load.{loadNumber, loadLater}
+use Rattle.boxes.specs.Box.{minAt, maxAt, lowSide, highSide}
+use Rattle.sums.specs.Box.{sum3, binSum, boxSum, statsOf}
 use Rattle.sums.specs.Moments.{belowSum, momentsOf}
-use Rattle.spread.specs.Spread.{quotientOf, oneBin, spreadOf, scoreOf}
+use Rattle.spread.specs.Spread.{quotientOf, spreadOf, scoreOf}
+use Rattle.boxes.specs.Box.{oneBin}
 use Rattle.spread.specs.Cut.{positionAnswer, positionOf, positionAt, laterWins, better, bestRun, bestIn, bestCut}
 use Rattle.heap.specs.Heap.{climb, putIn, sink, enter, takeOut}
-use Rattle.rounds.specs.Loop.{itself, wholeOf, startRoom, start, roomAfter, usedAfter, goesOn, roundRoom, roundUsed, round, rounds, heapOf, boxSpread, placesOf, boxesOf}
-use Rattle.cutter.specs.Fronts.{flat, filled}
+use Rattle.rounds.specs.Loop.{withSpread, startRoom, start, roomAfter, boxesAfter, aboveZero, roundRoom, roundBoxes}
+use Rattle.rounds.specs.Loop.{round}
+use Rattle.rounds.specs.Loop.{rounds, heapOf, placesOf, boxesOf}
+use Rattle.boxes.specs.Box.{wholeOf}
+use Rattle.cutter.specs.Fronts.{joinAll, filled}
 use Rattle.cutter.specs.Palette.{meanOf, colourOf, countOf, bytesOf, itsColour, itsCount, paletteLater, countsLater}
-use Rattle.cutter.specs.Map.{lies, holds, indexFrom, mapOf}
-use Rattle.cutter.specs.Cut.{longEnough, cutNumberOn, cutNumber, refusedRecord, doneRecord, recordOn, cutRecord, boundsOf, listOf, boxList, laterOn, cutLater}
-use Rattle.promises.specs.Cases.{Case, loadsOf, tableAfter, positionIn, lentTo, outcome, times, empties, plain, weighted, loadGives, at, nowhere, box, recordWith, done, refusedWith, blackWhite, blackWhiteTable, blackWhiteMoments, reds, redsTable, redsMoments, fullCell, sizeOne, cases}
+use Rattle.boxes.specs.Holds.{lies, holds, holdsAt}
+use Rattle.cutter.specs.Map.{indexFrom, mapOf}
+use Rattle.cutter.specs.Cut.{resultsOn, longEnough, cutNumberOn, cutNumber, refusedRecord, doneRecord, recordOn}
+use Rattle.cutter.specs.Cut.{cutRecord}
+use Rattle.cutter.specs.Cut.{listOf, boxList, laterOn, cutLater}
+use Rattle.promises.specs.Cases.{Case, loadsOf, tableAfter, positionIn, lentTo, outcome, times, empties, plain}
+use Rattle.promises.specs.Cases.{weighted, loadGives, at, nowhere, box, recordWith, done, refusedWith, blackWhite}
+use Rattle.promises.specs.Cases.{blackWhiteTable, blackWhiteMoments, reds, redsTable, redsMoments, fullCell}
+use Rattle.promises.specs.Cases.{sizeOne, cases}
 use Rattle.promises.specs.Listing.{grid8, fourPixels, fourTable}
 use Rattle.promises.proofs.Each.{each}
 
 pub worked : map outcome cases ≡ map (λ c. c .expected) cases
-unfolding loadsOf tableAfter positionIn lentTo outcome times empties plain weighted loadGives at nowhere box recordWith done refusedWith blackWhite blackWhiteTable blackWhiteMoments reds redsTable redsMoments fullCell sizeOne cases
-    refuse whenDone listFrom sumFrom allFrom choices shiftIn shiftOf binOf spanOf choose shiftAt gridWith gridOf gridAnswer onGrid numberOn binsOf placeOf binAt colourPlace colourAt
-    wide wideList between inBounds spanAt binSound total sound
+unfolding loadsOf tableAfter positionIn lentTo outcome times empties plain weighted loadGives at nowhere box recordWith
+    done refusedWith blackWhite blackWhiteTable blackWhiteMoments reds redsTable redsMoments fullCell sizeOne cases
+    refuse whenDone listFrom sumFrom allFrom choices shiftIn shiftOf binOf spanOf choose shiftAt gridWith gridOf
+    gridAnswer onGrid numberOn binsOf placeOf binAt colourPlace colourAt
+    tableLen isSized viewOf written between inBounds spanAt binSound total sound
     share adds sumOver weightOf loaded weightedAt batchOf loadNumberOn loadNumber loadLater
     minAt maxAt sum3 binSum boxSum statsOf lowSide highSide belowSum momentsOf
     quotientOf oneBin spreadOf scoreOf positionAnswer positionOf positionAt laterWins better bestRun bestIn bestCut
     climb putIn sink enter takeOut
-    itself wholeOf startRoom start roomAfter usedAfter goesOn roundRoom roundUsed round rounds heapOf boxSpread placesOf boxesOf
-    meanOf colourOf countOf bytesOf itsColour itsCount flat filled paletteLater countsLater lies holds indexFrom mapOf
-    longEnough cutNumberOn cutNumber refusedRecord doneRecord recordOn cutRecord boundsOf listOf boxList laterOn cutLater
-    lib.Ieee.ofInt lib.Ieee.mul lib.Ieee.add lib.Ieee.sub lib.Ieee.div lib.Ieee.neg lib.Ieee.lt lib.Ieee.le lib.Ieee.round lib.Ieee.size lib.Ieee.span lib.Ieee.climb lib.Ieee.units lib.Ieee.odd lib.Ieee.sum lib.Ieee.eq lib.Count.trailingZeros
+    withSpread wholeOf startRoom start roomAfter boxesAfter aboveZero roundRoom roundBoxes round rounds heapOf placesOf
+    boxesOf
+    meanOf colourOf countOf bytesOf itsColour itsCount joinAll filled paletteLater countsLater lies holdsAt holds
+    indexFrom
+    mapOf
+    longEnough cutNumberOn cutNumber refusedRecord doneRecord recordOn cutRecord listOf boxList laterOn resultsOn
+    cutLater
+    lib.Ieee.ofInt lib.Ieee.mul lib.Ieee.add lib.Ieee.sub lib.Ieee.div lib.Ieee.neg lib.Ieee.lt lib.Ieee.le
+    lib.Ieee.round lib.Ieee.size lib.Ieee.span lib.Ieee.climb lib.Ieee.units lib.Ieee.odd lib.Ieee.sum lib.Ieee.eq
+    lib.Count.trailingZeros
 worked = refl
 
 pub each-worked : {c : Case} → List·Memᴰ c cases → outcome c ≡ c .expected
@@ -44,5 +67,7 @@ each-worked m = each outcome (λ c. c .expected) cases worked m
 
 -- the example of the listing program: the table of its four pixels
 pub four-added : tableOf grid8 (batchOf fourPixels false []) ≡ fourTable
-unfolding fourPixels fourTable tableOf listFrom binOf choose shiftAt binsOf placeOf binAt colourPlace colourAt wideList share adds sumOver loaded weightedAt batchOf
+unfolding fourPixels fourTable tableOf listFrom binOf choose shiftAt binsOf placeOf binAt colourPlace colourAt tableLen
+    written
+    share adds sumOver loaded weightedAt batchOf
 four-added = refl

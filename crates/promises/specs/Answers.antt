@@ -4,7 +4,7 @@ use mathlib.Core.Logic.{_⊎_}
 use mathlib.Core.Bool.{Bool, true, false}
 use mathlib.Core.List.{List, [], _∷_, List·Memᴰ}
 use Prim.Native.Nat.{ℕ}
-use Rattle.grid.specs.Answer.{Answer}
+use Rattle.basics.specs.Answer.{Answer}
 use Rattle.grid.specs.Size.{choices}
 
 -- number 0, "done", with its values; and the number of a refusal, with none

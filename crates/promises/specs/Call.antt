@@ -4,11 +4,12 @@ use mathlib.Core.List.{List}
 use Prim.Native.Nat.{ℕ, _+_, _*_, _≤_, _<_}
 use lib.ListN.{length, getD}
 use lib.Ieee.{nan}
-use Rattle.sums.specs.declared.Bounds.{Bounds}
-use Rattle.rounds.specs.Loop.{noBox, spent, boxSpread}
-use Rattle.cutter.specs.declared.CutRecord.{CutRecord}
+use Rattle.boxes.specs.declared.sides.Bounds.{Bounds}
+use Rattle.boxes.specs.Box.{noBox}
+use Rattle.rounds.specs.Loop.{withZero}
+use Rattle.cutter.specs.declared.call.CutRecord.{CutRecord}
 use Rattle.cutter.specs.Cut.{Buffers}
-use Rattle.seluvava.specs.declared.CutAnswer.{CutAnswer}
+use Rattle.seluvava.specs.declared.cut.CutAnswer.{CutAnswer}
 use Rattle.seluvava.specs.Cut.{Lent}
 use Rattle.promises.specs.Tiling.{boxIn}
 
@@ -29,12 +30,14 @@ boxRead bytes i =
       b1 = getD bytes (6 * i + 5) 0;
     }
 
--- what is told and left behind is the record r and the buffers after it: the boxes with their spreads in order, and behind them what stood there
+-- what is told and left behind is the record r and the buffers after it: the boxes with their spreads in order, and
+-- behind them what stood there
 pub record TellsCut (r : CutRecord) (after : Buffers) (old : Lent) (told : CutAnswer) (later : Lent) : Type 0 where
   pub answer : told ≡ record { number = r .number; boxes = r .boxes }
   pub buffers : later .buffers ≡ after
   pub box : (i : ℕ) → i < r .boxes → boxRead (later .boxes) i ≡ boxIn r i
-  pub spread : (i : ℕ) → i < r .boxes → getD (later .spreads) i nan ≡ getD (r .places) i (boxSpread (spent noBox)) .spread
+  pub spread : (i : ℕ) → i < r .boxes
+      → getD (later .spreads) i nan ≡ getD (r .places) i (withZero noBox) .spread
   pub boxes-stay : (j : ℕ) → getD (later .boxes) (6 * r .boxes + j) 0 ≡ getD (old .boxes) (6 * r .boxes + j) 0
   pub spreads-stay : (j : ℕ) → getD (later .spreads) (r .boxes + j) nan ≡ getD (old .spreads) (r .boxes + j) nan
   pub boxes-long : length (later .boxes) ≡ length (old .boxes)

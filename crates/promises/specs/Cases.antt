@@ -1,4 +1,5 @@
--- P1 to P10 (document 01, "Worked boxes") as one table: what is loaded and cut, and what is to come out. Definitions only.
+-- P1 to P10 (document 01, "Worked boxes") as one table: what is loaded and cut, and what is to come out. Definitions
+-- only.
 use mathlib.Core.Bool.{true, false}
 use mathlib.Core.List.{List, [], _∷_, _++_}
 use Prim.Native.Nat.{ℕ, zero, suc, _-_, _*_}
@@ -6,14 +7,14 @@ use lib.IntN.{pos}
 use lib.ListN.{length, replicate}
 use lib.Ieee.{Float, inf, fin}
 use Rattle.grid.specs.Grid.{gridOf, onGrid}
-use Rattle.table.specs.Cell.{wide}
+use Rattle.table.specs.Table.{tableLen, viewOf}
 use Rattle.loader.specs.Load.{loadNumber, loadLater}
 use Rattle.loader.specs.Plan.{Batch}
 use Rattle.spread.specs.Spread.{zeroOf}
-use Rattle.spread.specs.Cut.{Told, positionAnswer, bestCut}
-use Rattle.rounds.specs.declared.BoxSpread.{BoxSpread}
-use Rattle.rounds.specs.Loop.{wholeOf}
-use Rattle.cutter.specs.declared.CutRecord.{CutRecord}
+use Rattle.spread.specs.Cut.{ScoredAnswer, positionAnswer, bestCut}
+use Rattle.rounds.specs.declared.gather.BoxSpread.{BoxSpread}
+use Rattle.boxes.specs.Box.{wholeOf}
+use Rattle.cutter.specs.declared.call.CutRecord.{CutRecord}
 use Rattle.cutter.specs.Cut.{Buffers, buffers, cutRecord, cutLater}
 
 -- the number of a load, and the table then
@@ -21,10 +22,11 @@ pub record AfterLoad : Type 0 where
   pub number : ℕ
   pub table : List ℕ
 
--- what comes out: each load's number and table, the best position of the whole grid, the record of the cut, and what was lent to it
+-- what comes out: each load's number and table, the best position of the whole grid, the record of the cut, and what
+-- was lent to it
 pub record Outcome : Type 0 where
   pub loads : List AfterLoad
-  pub position : Told
+  pub position : ScoredAnswer
   pub cut : CutRecord
   pub later : Buffers
 
@@ -40,25 +42,25 @@ pub record Case : Type 0 where
 unfoldable pub loadsOf : ℕ → ℕ → ℕ → List ℕ → List Batch → List AfterLoad
 loadsOf b1 b2 b3 t [] = []
 loadsOf b1 b2 b3 t (b ∷ bs) =
-    let number = loadNumber b1 b2 b3 t (b .colours) (b .given) (b .weights) in
-    let table = loadLater b1 b2 b3 t (b .colours) (b .given) (b .weights) in
+    let number = loadNumber b1 b2 b3 t (b .colours) (b .weighted) (b .weights) in
+    let table = loadLater b1 b2 b3 t (b .colours) (b .weighted) (b .weights) in
     record { number = number; table = table } ∷ loadsOf b1 b2 b3 table bs
 
 unfoldable pub tableAfter : ℕ → ℕ → ℕ → List ℕ → List Batch → List ℕ
 tableAfter b1 b2 b3 t [] = t
-tableAfter b1 b2 b3 t (b ∷ bs) = tableAfter b1 b2 b3 (loadLater b1 b2 b3 t (b .colours) (b .given) (b .weights)) bs
+tableAfter b1 b2 b3 t (b ∷ bs) = tableAfter b1 b2 b3 (loadLater b1 b2 b3 t (b .colours) (b .weighted) (b .weights)) bs
 
 -- no position
-unfoldable pub nowhere : Told
+unfoldable pub nowhere : ScoredAnswer
 nowhere = record { number = 0; values = []; scores = [] }
 
 -- the best position to cut the whole grid
-unfoldable pub positionIn : ℕ → ℕ → ℕ → List ℕ → Told
-positionIn b1 b2 b3 t = onGrid (gridOf b1 b2 b3) nowhere (λ g. positionAnswer (bestCut g (wide t) (wholeOf g)))
+unfoldable pub positionIn : ℕ → ℕ → ℕ → List ℕ → ScoredAnswer
+positionIn b1 b2 b3 t = onGrid (gridOf b1 b2 b3) nowhere (λ g. positionAnswer (bestCut g (viewOf t) (wholeOf g)))
 
 -- what is lent to the cut: long enough for every k here, and nowhere zero
 unfoldable pub lentTo : ℕ → Buffers
-lentTo bins = buffers (replicate (5 * bins) 5) (replicate 780 7) (replicate 260 9) (replicate bins 3)
+lentTo bins = buffers (replicate (tableLen bins) 5) (replicate 780 7) (replicate 260 9) (replicate bins 3)
 
 unfoldable pub outcome : Case → Outcome
 outcome c =
@@ -86,28 +88,35 @@ empties n = times n (0 ∷ 0 ∷ 0 ∷ 0 ∷ 0 ∷ [])
 
 -- colours without weights, whatever list is lent, and with weights
 unfoldable pub plain : List ℕ → Batch
-plain colours = record { colours = colours; given = false; weights = 8 ∷ [] }
+plain colours = record { colours = colours; weighted = false; weights = 8 ∷ [] }
 
 unfoldable pub weighted : List ℕ → List ℕ → Batch
-weighted colours weights = record { colours = colours; given = true; weights = weights }
+weighted colours weights = record { colours = colours; weighted = true; weights = weights }
 
 unfoldable pub loadGives : ℕ → List ℕ → AfterLoad
 loadGives number table = record { number = number; table = table }
 
 -- dimension and bin, with the score
-unfoldable pub at : ℕ → ℕ → Float → Told
+unfoldable pub at : ℕ → ℕ → Float → ScoredAnswer
 at dimension bin score = record { number = 0; values = dimension ∷ bin ∷ []; scores = score ∷ [] }
 
 -- a box of three ranges, with its spread
 unfoldable pub box : ℕ × ℕ → ℕ × ℕ → ℕ × ℕ → Float → BoxSpread
-box r gr b spread = record { r0 = r .0; r1 = r .1; g0 = gr .0; g1 = gr .1; b0 = b .0; b1 = b .1; spread = spread }
+box r gr b spread =
+    record { bounds = record { r0 = r .0; r1 = r .1; g0 = gr .0; g1 = gr .1; b0 = b .0; b1 = b .1 }; spread = spread }
 
 -- "places past the last box are all zeros"
 unfoldable pub recordWith : ℕ → List BoxSpread → CutRecord
 recordWith number xs =
-    record { number = number; boxes = length xs; places = xs ++ replicate (256 - length xs) (box (0, 0) (0, 0) (0, 0) zeroOf) }
+    record {
+      number = number;
+      boxes = length xs;
+      places =
+          xs ++ replicate (256 - length xs) (box (0, 0) (0, 0) (0, 0) zeroOf);
+    }
 
--- a cut that is done: its boxes, moments, colours, counts and map; "Places past the filled front of palette and counts stay"
+-- a cut that is done: its boxes, moments, colours, counts and map; "Places past the filled front of palette and counts
+-- stay"
 pub record Done : Type 0 where
   pub boxes : List BoxSpread
   pub work : List ℕ
@@ -115,17 +124,18 @@ pub record Done : Type 0 where
   pub counts : List ℕ
   pub map : List ℕ
 
-unfoldable pub done : List AfterLoad → Told → Done → Outcome
+unfoldable pub done : List AfterLoad → ScoredAnswer → Done → Outcome
 done loads position d =
     record {
       loads = loads;
       position = position;
       cut = recordWith 0 (d .boxes);
-      later = buffers (d .work) (d .colours ++ replicate (780 - length (d .colours)) 7) (d .counts ++ replicate (260 - length (d .counts)) 9) (d .map);
+      later = buffers (d .work) (d .colours ++ replicate (780 - length (d .colours)) 7)
+          (d .counts ++ replicate (260 - length (d .counts)) 9) (d .map);
     }
 
 -- "A refusal returns its number and, from a cut, zero boxes and box places all zero, and writes nothing"
-unfoldable pub refusedWith : ℕ → List AfterLoad → Told → ℕ → Outcome
+unfoldable pub refusedWith : ℕ → List AfterLoad → ScoredAnswer → ℕ → Outcome
 refusedWith number loads position bins =
     record { loads = loads; position = position; cut = recordWith number []; later = lentTo bins }
 
@@ -151,7 +161,8 @@ redsTable =
     ++ (1 ∷ 255 ∷ 0 ∷ 0 ∷ 65025 ∷ empties 3))
 
 unfoldable pub redsMoments : List ℕ
-redsMoments = times 4 (1 ∷ 0 ∷ 0 ∷ 0 ∷ 0 ∷ []) ++ (times 8 (2 ∷ 64 ∷ 0 ∷ 0 ∷ 4096 ∷ []) ++ times 4 (3 ∷ 319 ∷ 0 ∷ 0 ∷ 69121 ∷ []))
+redsMoments =
+    times 4 (1 ∷ 0 ∷ 0 ∷ 0 ∷ 0 ∷ []) ++ (times 8 (2 ∷ 64 ∷ 0 ∷ 0 ∷ 4096 ∷ []) ++ times 4 (3 ∷ 319 ∷ 0 ∷ 0 ∷ 69121 ∷ []))
 
 -- (9, 9, 9) as often as a table can hold it
 unfoldable pub fullCell : List ℕ
@@ -171,7 +182,8 @@ sizeOne b1 b2 b3 =
 -- ---- the table
 unfoldable pub cases : List Case
 cases =
-    -- P1 "grid 2,2,2; black weight 1, white weight 3; k=2: palette (0,0,0), (255,255,255), counts 1, 3; map bins 0..3 are 0, 4..7 are 1"
+    -- P1 "grid 2,2,2; black weight 1, white weight 3; k=2: palette (0,0,0), (255,255,255), counts 1, 3; map bins 0..3
+    -- are 0, 4..7 are 1"
     record {
       sizes = (2, 2, 2);
       table = empties 8;
@@ -237,7 +249,9 @@ cases =
       table = empties 8;
       batches = plain (0 ∷ 0 ∷ 0 ∷ 0 ∷ 128 ∷ 128 ∷ []) ∷ [];
       k = 2;
-      expected = done (loadGives 0 ((1 ∷ 0 ∷ 0 ∷ 0 ∷ 0 ∷ empties 2) ++ (1 ∷ 0 ∷ 128 ∷ 128 ∷ 32768 ∷ empties 4)) ∷ []) (at 1 1 (fin true 1 (pos 15)))
+      expected =
+          done (loadGives 0 ((1 ∷ 0 ∷ 0 ∷ 0 ∷ 0 ∷ empties 2) ++ (1 ∷ 0 ∷ 128 ∷ 128 ∷ 32768 ∷ empties 4)) ∷ [])
+          (at 1 1 (fin true 1 (pos 15)))
           (record {
             boxes = box (0, 2) (0, 1) (0, 2) zeroOf ∷ box (0, 2) (1, 2) (0, 2) zeroOf ∷ [];
             work = times 2 (times 3 (1 ∷ 0 ∷ 0 ∷ 0 ∷ 0 ∷ []) ++ (2 ∷ 0 ∷ 128 ∷ 128 ∷ 32768 ∷ []));
@@ -252,7 +266,9 @@ cases =
       table = empties 64;
       batches = plain (0 ∷ 0 ∷ 0 ∷ 192 ∷ 0 ∷ 0 ∷ []) ∷ [];
       k = 2;
-      expected = done (loadGives 0 ((1 ∷ 0 ∷ 0 ∷ 0 ∷ 0 ∷ empties 47) ++ (1 ∷ 192 ∷ 0 ∷ 0 ∷ 36864 ∷ empties 15)) ∷ []) (at 0 1 (fin true 9 (pos 12)))
+      expected =
+          done (loadGives 0 ((1 ∷ 0 ∷ 0 ∷ 0 ∷ 0 ∷ empties 47) ++ (1 ∷ 192 ∷ 0 ∷ 0 ∷ 36864 ∷ empties 15)) ∷ [])
+          (at 0 1 (fin true 9 (pos 12)))
           (record {
             boxes = box (0, 1) (0, 4) (0, 4) zeroOf ∷ box (1, 4) (0, 4) (0, 4) zeroOf ∷ [];
             work = times 48 (1 ∷ 0 ∷ 0 ∷ 0 ∷ 0 ∷ []) ++ times 16 (2 ∷ 192 ∷ 0 ∷ 0 ∷ 36864 ∷ []);
@@ -261,7 +277,8 @@ cases =
             map = replicate 16 0 ++ replicate 48 1;
           });
     }
-    -- P7 "grid 4,2,2; reds 0, 64, 255, other components 0; k=2: boxes r 0..2 and 2..4, spreads 2048 and 0"; 2048 is 1·2^11
+    -- P7 "grid 4,2,2; reds 0, 64, 255, other components 0; k=2: boxes r 0..2 and 2..4, spreads 2048 and 0"; 2048 is
+    -- 1·2^11
     ∷ record {
       sizes = (4, 2, 2);
       table = empties 16;
@@ -284,14 +301,16 @@ cases =
       k = 3;
       expected = done (loadGives 0 redsTable ∷ []) (at 0 2 (fin true 67073 (pos 0)))
           (record {
-            boxes = box (2, 4) (0, 2) (0, 2) zeroOf ∷ box (0, 1) (0, 2) (0, 2) zeroOf ∷ box (1, 2) (0, 2) (0, 2) zeroOf ∷ [];
+            boxes = box (2, 4) (0, 2) (0, 2) zeroOf ∷ box (0, 1) (0, 2) (0, 2) zeroOf ∷ box (1, 2) (0, 2) (0, 2) zeroOf
+                ∷ [];
             work = redsMoments;
             colours = 255 ∷ 0 ∷ 0 ∷ 0 ∷ 0 ∷ 0 ∷ 64 ∷ 0 ∷ 0 ∷ [];
             counts = 1 ∷ 1 ∷ 1 ∷ [];
             map = replicate 4 1 ++ (replicate 4 2 ++ replicate 8 0);
           });
     }
-    -- P9 "one colour with weight 4,294,967,295 loads; one more of weight 1 gives 7"; and with k=1 the start stays, at infinity
+    -- P9 "one colour with weight 4,294,967,295 loads; one more of weight 1 gives 7"; and with k=1 the start stays, at
+    -- infinity
     ∷ record {
       sizes = (2, 2, 2);
       table = empties 8;

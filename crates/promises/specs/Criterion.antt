@@ -1,11 +1,13 @@
--- Wu's criterion over whole numbers (ACM Transactions on Graphics 11(4), 1992): the exact spread of a box and the exact score of a
+-- Wu's criterion over whole numbers (ACM Transactions on Graphics 11(4), 1992): the exact spread of a box and the exact
+-- score of a
 -- position, as fractions. Definitions only.
 use mathlib.Core.Path.{_≡_}
 use Prim.Native.Nat.{ℕ, _+_, _*_, _≤_, _<_}
-use Rattle.grid.specs.declared.Grid.{Grid}
+use Rattle.grid.specs.declared.place.Grid.{Grid}
 use Rattle.table.specs.Cell.{View}
-use Rattle.sums.specs.declared.Bounds.{Bounds}
-use Rattle.sums.specs.Box.{boxSum, minAt, maxAt, lowSide, highSide}
+use Rattle.boxes.specs.declared.sides.Bounds.{Bounds}
+use Rattle.sums.specs.Box.{boxSum}
+use Rattle.boxes.specs.Box.{minAt, maxAt, lowSide, highSide}
 use Rattle.spread.specs.Spread.{exactQ}
 use Rattle.spread.specs.Best.{Split}
 

@@ -3,22 +3,22 @@ use mathlib.Core.Path.{_≡_}
 use mathlib.Core.List.{List}
 use Prim.Native.Nat.{ℕ, _*_, _≤_}
 use lib.ListN.{length}
-use Rattle.grid.specs.declared.Grid.{Grid}
-use Rattle.grid.specs.Range.{sumFrom}
+use Rattle.grid.specs.declared.place.Grid.{Grid}
+use Rattle.basics.specs.Range.{sumFrom}
 use Rattle.grid.specs.Grid.{binsOf}
-use Rattle.table.specs.Cell.{wide}
+use Rattle.table.specs.Table.{tableLen, viewOf}
 use Rattle.sums.specs.Box.{marks}
 use Rattle.cutter.specs.Cut.{Buffers}
 
 -- the occupied bins of a table: those of weight above 0
 unfoldable pub occupiedBins : Grid → List ℕ → ℕ
-occupiedBins g t = sumFrom 0 (binsOf g) (λ p. marks (wide t) p 0)
+occupiedBins g t = sumFrom 0 (binsOf g) (λ p. marks (viewOf t) p 0)
 
 -- k in 1..256, and what is lent to a cut is as long as it should be
 pub record Lends (g : Grid) (k : ℕ) (b : Buffers) : Type 0 where
   pub least : 1 ≤ k
   pub most : k ≤ 256
-  pub work : length (b .work) ≡ 5 * binsOf g
-  pub palette : 3 * k ≤ length (b .palette)
-  pub counts : k ≤ length (b .counts)
-  pub map : length (b .map) ≡ binsOf g
+  pub work : length (b .work) ≡ tableLen (binsOf g)
+  pub palette : 3 * k ≤ length (b .results .palette)
+  pub counts : k ≤ length (b .results .counts)
+  pub map : length (b .results .map) ≡ binsOf g

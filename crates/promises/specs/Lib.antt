@@ -7,5 +7,4 @@ pub mod Full
 pub mod Order
 pub mod Mapping
 pub mod Criterion
-pub mod Determined
 pub mod Listing

@@ -1,10 +1,11 @@
--- The listing program over its whole input (document 01, "The listing program"), by the definitions of the contracts of `lines`: what
+-- The listing program over its whole input (document 01, "The listing program"), by the definitions of the contracts of
+-- `lines`: what
 -- was read so far, batch by batch, and what is then written. Definitions only.
 use mathlib.Core.Path.{_≡_}
 use mathlib.Core.List.{List, [], _∷_, _++_}
 use Prim.Native.Nat.{ℕ, _%_, _<_}
 use lib.ListN.{length, getD, replicate}
-use Rattle.grid.specs.declared.Grid.{Grid}
+use Rattle.grid.specs.declared.place.Grid.{Grid}
 use Rattle.lines.specs.Listing.{emptyTable, textOf}
 use Rattle.lines.specs.Reading.{Progress, progress, afterAll}
 
@@ -34,7 +35,7 @@ fourPixels = 0 ∷ 0 ∷ 0 ∷ 255 ∷ 255 ∷ 255 ∷ 255 ∷ 255 ∷ 255 ∷ 2
 
 -- the grid 8,8,8, whose shifts are 5
 abbrev pub grid8 : Grid
-grid8 = record { s1 = 5; s2 = 5; s3 = 5; b1 = 8; b2 = 8; b3 = 8 }
+grid8 = record { shift1 = 5; shift2 = 5; shift3 = 5; size1 = 8; size2 = 8; size3 = 8 }
 
 -- their table: black once in the first of the 512 bins, white three times in the last
 unfoldable pub fourTable : List ℕ

@@ -12,12 +12,16 @@ module _ (b1 b2 b3 k : ℕ) (t : List ℕ) (b : Buffers) where
   cutBoxes = cutRecord b1 b2 b3 k t b .boxes
 
   abbrev pub cutMap : List ℕ
-  cutMap = cutLater b1 b2 b3 k t b .map
+  cutMap = cutLater b1 b2 b3 k t b .results .map
 
   abbrev pub cutFront : List ℕ
-  cutFront = frontOf (cutLater b1 b2 b3 k t b .palette) cutBoxes
+  cutFront = frontOf (cutLater b1 b2 b3 k t b .results .palette) cutBoxes
 
 -- over the call itself: the same number, and the same index for every pixel
 pub record SameIndices (b1 b2 b3 : ℕ) (m o : List ℕ) : Type 0 where
-  pub number : (colours : ℕ) (frame indices : List ℕ) (first pixels : ℕ) → mapNumber b1 b2 b3 m colours frame indices first pixels ≡ mapNumber b1 b2 b3 o colours frame indices first pixels
-  pub later : (colours : ℕ) (frame indices : List ℕ) (first pixels : ℕ) → mapLater b1 b2 b3 m colours frame indices first pixels ≡ mapLater b1 b2 b3 o colours frame indices first pixels
+  pub number : (paletteColours : ℕ) (frame indices : List ℕ) (first pixels : ℕ)
+      → mapNumber b1 b2 b3 m paletteColours frame indices first pixels
+      ≡ mapNumber b1 b2 b3 o paletteColours frame indices first pixels
+  pub later : (paletteColours : ℕ) (frame indices : List ℕ) (first pixels : ℕ)
+      → mapLater b1 b2 b3 m paletteColours frame indices first pixels
+      ≡ mapLater b1 b2 b3 o paletteColours frame indices first pixels

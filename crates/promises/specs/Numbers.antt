@@ -1,4 +1,5 @@
--- When each number applies to a call, and what a call is given that nothing refuses (document 01, "Numbers a caller gets back").
+-- When each number applies to a call, and what a call is given that nothing refuses (document 01, "Numbers a caller
+-- gets back").
 -- Definitions only.
 use mathlib.Core.Path.{_≡_}
 use mathlib.Core.Bool.{Bool, true, false, not, _&&_, _||_, cond}
@@ -6,15 +7,15 @@ use mathlib.Core.List.{List, [], _∷_}
 use Prim.Native.Nat.{ℕ, zero, suc, _+_, _*_, _/_, _%_, _≤_}
 use lib.Dec.{eqb, leb, ltb}
 use lib.ListN.{length}
-use Rattle.grid.specs.declared.Grid.{Grid}
-use Rattle.grid.specs.declared.Chosen.{Chosen}
-use Rattle.grid.specs.declared.Chosen.the-variants.{Of}
+use Rattle.grid.specs.declared.place.Grid.{Grid}
+use Rattle.grid.specs.declared.place.Chosen.{Chosen}
+use Rattle.grid.specs.declared.place.Chosen.the-variants as chosen
 use Rattle.grid.specs.Grid.{gridOf, gridAnswer, onGrid, binsOf}
-use Rattle.table.specs.Cell.{wide}
+use Rattle.table.specs.Table.{Sized, isSized, viewOf}
 use Rattle.table.specs.Sound.{limit, total, sound}
 use Rattle.loader.specs.Load.{weightOf, batchOf}
 use Rattle.cutter.specs.Cut.{Buffers, lengthsOf, longEnough}
-use Rattle.mapper.specs.Band.{allBelow}
+use Rattle.band.specs.Band.{allBelow}
 use Rattle.seluvava.specs.Cut.{Lent, hasRoom}
 
 -- ---- which numbers apply
@@ -50,9 +51,9 @@ loadTests c t colours given weights =
     (1, noGrid c)
     ∷ (3, not (eqb (length colours % 3) 0))
     ∷ (4, given && not (eqb (length weights) (length colours / 3)))
-    ∷ (5, onBins c (λ g. not (eqb (length t) (5 * binsOf g))))
-    ∷ (6, onBins c (λ g. not (sound limit g (wide t))))
-    ∷ (7, onBins c (λ g. ltb limit (total g (wide t) + weightOf (batchOf colours given weights))))
+    ∷ (5, onBins c (λ g. not (isSized t (binsOf g))))
+    ∷ (6, onBins c (λ g. not (sound limit g (viewOf t))))
+    ∷ (7, onBins c (λ g. ltb limit (total g (viewOf t) + weightOf (batchOf colours given weights))))
     ∷ []
 
 unfoldable pub loadApplies : ℕ → ℕ → ℕ → List ℕ → List ℕ → Bool → List ℕ → ℕ → Bool
@@ -62,11 +63,11 @@ loadApplies b1 b2 b3 t colours given weights = applies (loadTests (gridOf b1 b2 
 unfoldable pub mergeTests : Chosen → List ℕ → List ℕ → Tests
 mergeTests c t s =
     (1, noGrid c)
-    ∷ (5, onBins c (λ g. not (eqb (length t) (5 * binsOf g))))
-    ∷ (5, onBins c (λ g. not (eqb (length s) (5 * binsOf g))))
-    ∷ (6, onBins c (λ g. not (sound limit g (wide t))))
-    ∷ (6, onBins c (λ g. not (sound limit g (wide s))))
-    ∷ (7, onBins c (λ g. ltb limit (total g (wide t) + total g (wide s))))
+    ∷ (5, onBins c (λ g. not (isSized t (binsOf g))))
+    ∷ (5, onBins c (λ g. not (isSized s (binsOf g))))
+    ∷ (6, onBins c (λ g. not (sound limit g (viewOf t))))
+    ∷ (6, onBins c (λ g. not (sound limit g (viewOf s))))
+    ∷ (7, onBins c (λ g. ltb limit (total g (viewOf t) + total g (viewOf s))))
     ∷ []
 
 unfoldable pub mergeApplies : ℕ → ℕ → ℕ → List ℕ → List ℕ → ℕ → Bool
@@ -79,74 +80,60 @@ cutTests c k t b room =
     ∷ (2, not (leb 1 k && leb k 256))
     ∷ (5, onBins c (λ g. not (longEnough g k (length t) (lengthsOf b))))
     ∷ (5, not room)
-    ∷ (6, onBins c (λ g. not (sound limit g (wide t))))
-    ∷ (8, onBins c (λ g. eqb (total g (wide t)) 0))
+    ∷ (6, onBins c (λ g. not (sound limit g (viewOf t))))
+    ∷ (8, onBins c (λ g. eqb (total g (viewOf t)) 0))
     ∷ []
 
 unfoldable pub cutApplies : ℕ → ℕ → ℕ → ℕ → List ℕ → Buffers → ℕ → Bool
 cutApplies b1 b2 b3 k t b = applies (cutTests (gridOf b1 b2 b3) k t b true)
 
 unfoldable pub callApplies : ℕ → ℕ → ℕ → ℕ → List ℕ → Lent → ℕ → Bool
-callApplies b1 b2 b3 k t l = applies (cutTests (gridOf b1 b2 b3) k t (l .buffers) (hasRoom k (length (l .boxes)) (length (l .spreads))))
+callApplies b1 b2 b3 k t l =
+    applies (cutTests (gridOf b1 b2 b3) k t (l .buffers) (hasRoom k (length (l .boxes)) (length (l .spreads))))
 
 -- "map and paint 1, 3, 5, 9"; `lengths` are those that only one of them is lent
 unfoldable pub bandTests : Chosen → List ℕ → ℕ → Bool → List ℕ → ℕ → ℕ → Tests
-bandTests c map colours lengths frame first pixels =
+bandTests c map paletteColours lengths frame first pixels =
     (1, noGrid c)
     ∷ (3, not (eqb (length frame % 3) 0))
     ∷ (5, onBins c (λ g. not (eqb (length map) (binsOf g))))
     ∷ (5, not lengths)
     ∷ (5, ltb (length frame / 3) (first + pixels))
-    ∷ (9, not (allBelow colours map))
+    ∷ (9, not (allBelow paletteColours map))
     ∷ []
 
--- "map is told the palette's length in colours, and anything outside 1..256 gives 5"; "index buffer exactly one byte per frame pixel"
+-- "map is told the palette's length in colours, and anything outside 1..256 gives 5"; "index buffer exactly one byte
+-- per frame pixel"
 unfoldable pub mapApplies : ℕ → ℕ → ℕ → List ℕ → ℕ → List ℕ → List ℕ → ℕ → ℕ → ℕ → Bool
-mapApplies b1 b2 b3 map colours frame indices first pixels =
-    applies (bandTests (gridOf b1 b2 b3) map colours ((leb 1 colours && leb colours 256) && eqb (length indices) (length frame / 3)) frame first pixels)
+mapApplies b1 b2 b3 map paletteColours frame indices first pixels =
+    applies
+    (bandTests (gridOf b1 b2 b3) map paletteColours
+    ((leb 1 paletteColours && leb paletteColours 256) && eqb (length indices) (length frame / 3)) frame first pixels)
 
 -- "the palette for painting 3..768 bytes, a multiple of three"
 unfoldable pub paintApplies : ℕ → ℕ → ℕ → List ℕ → List ℕ → List ℕ → ℕ → ℕ → ℕ → Bool
 paintApplies b1 b2 b3 map palette frame first pixels =
-    applies (bandTests (gridOf b1 b2 b3) map (length palette / 3) ((leb 3 (length palette) && leb (length palette) 768) && eqb (length palette % 3) 0) frame first pixels)
+    applies (bandTests (gridOf b1 b2 b3) map (length palette / 3)
+    ((leb 3 (length palette) && leb (length palette) 768) && eqb (length palette % 3) 0) frame first pixels)
 
--- ---- what a call is given that nothing refuses; of a cut it is `CanCut`
+-- ---- what a call is given that nothing refuses; of a cut, a mapping and a painting it is `CanCut`, `CanMap`,
+-- `CanPaint`
 -- no 1: each size is among the seven; and on their grid, none of the call's other numbers
 pub record OnGrid (b1 b2 b3 : ℕ) (Can : Grid → Type 0) : Type 0 where
   pub g : Grid
-  pub chosen : gridOf b1 b2 b3 ≡ Of g
+  pub chosen : gridOf b1 b2 b3 ≡ chosen.Accepted g
   pub can : Can g
 
 -- of a load, no 3, 4, 5, 6, 7
 pub record CanLoad (t colours : List ℕ) (given : Bool) (weights : List ℕ) (g : Grid) : Type 0 where
   pub threes : length colours % 3 ≡ 0
   pub paired : given ≡ true → length weights ≡ length colours / 3
-  pub lent : length t ≡ 5 * binsOf g
-  pub is-sound : sound limit g (wide t) ≡ true
-  pub fits : total g (wide t) + weightOf (batchOf colours given weights) ≤ limit
+  pub lent : Sized t (binsOf g)
+  pub is-sound : sound limit g (viewOf t) ≡ true
+  pub fits : total g (viewOf t) + weightOf (batchOf colours given weights) ≤ limit
 
 -- of a merge, no 5, 6, 7
 pub record CanMerge (t s : List ℕ) (g : Grid) : Type 0 where
-  pub lent : (length t ≡ 5 * binsOf g) × (length s ≡ 5 * binsOf g)
-  pub are-sound : (sound limit g (wide t) ≡ true) × (sound limit g (wide s) ≡ true)
-  pub fits : total g (wide t) + total g (wide s) ≤ limit
-
--- of a mapping, no 3, 5, 9
-pub record CanMap (map : List ℕ) (colours : ℕ) (frame indices : List ℕ) (first pixels : ℕ) (g : Grid) : Type 0 where
-  pub threes : length frame % 3 ≡ 0
-  pub lent : length map ≡ binsOf g
-  pub some : 1 ≤ colours
-  pub few : colours ≤ 256
-  pub one-each : length indices ≡ length frame / 3
-  pub inside : first + pixels ≤ length frame / 3
-  pub below : allBelow colours map ≡ true
-
--- of a painting, the same numbers: "the palette for painting 3..768 bytes, a multiple of three"
-pub record CanPaint (map palette frame : List ℕ) (first pixels : ℕ) (g : Grid) : Type 0 where
-  pub threes : length frame % 3 ≡ 0
-  pub lent : length map ≡ binsOf g
-  pub some : 3 ≤ length palette
-  pub few : length palette ≤ 768
-  pub whole : length palette % 3 ≡ 0
-  pub inside : first + pixels ≤ length frame / 3
-  pub below : allBelow (length palette / 3) map ≡ true
+  pub lent : Sized t (binsOf g) × Sized s (binsOf g)
+  pub are-sound : (sound limit g (viewOf t) ≡ true) × (sound limit g (viewOf s) ≡ true)
+  pub fits : total g (viewOf t) + total g (viewOf s) ≤ limit

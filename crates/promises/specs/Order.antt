@@ -3,27 +3,30 @@ use mathlib.Core.Path.{_≡_}
 use mathlib.Core.List.{List}
 use Prim.Native.Nat.{ℕ}
 use lib.ListN.{getD}
-use Rattle.grid.specs.declared.Rgb.{Rgb}
-use Rattle.grid.specs.declared.Grid.{Grid}
+use Rattle.pixels.specs.declared.colour.Rgb.{Rgb}
+use Rattle.grid.specs.declared.place.Grid.{Grid}
 use Rattle.grid.specs.Grid.{colourPlace}
-use Rattle.loader.specs.Plan.{Plan, Table, run}
+use Rattle.loader.specs.Plan.{Plan, Filled, ends}
 use Rattle.cutter.specs.Cut.{Buffers, cutRecord, cutLater}
 
--- two tables that a cut tells nothing apart by: the same boxes with their spreads, palette, counts, map and work table, and the same
+-- two tables that a cut tells nothing apart by: the same boxes with their spreads, palette, counts, map and work table,
+-- and the same
 -- index for every pixel, which "is the map's byte at its bin"
 pub record SameCut (g : Grid) (b1 b2 b3 k : ℕ) (b : Buffers) (t s : List ℕ) : Type 0 where
   pub boxes : cutRecord b1 b2 b3 k t b ≡ cutRecord b1 b2 b3 k s b
-  pub palette : cutLater b1 b2 b3 k t b .palette ≡ cutLater b1 b2 b3 k s b .palette
-  pub counts : cutLater b1 b2 b3 k t b .counts ≡ cutLater b1 b2 b3 k s b .counts
-  pub map : cutLater b1 b2 b3 k t b .map ≡ cutLater b1 b2 b3 k s b .map
+  pub palette : cutLater b1 b2 b3 k t b .results .palette ≡ cutLater b1 b2 b3 k s b .results .palette
+  pub counts : cutLater b1 b2 b3 k t b .results .counts ≡ cutLater b1 b2 b3 k s b .results .counts
+  pub map : cutLater b1 b2 b3 k t b .results .map ≡ cutLater b1 b2 b3 k s b .results .map
   pub work : cutLater b1 b2 b3 k t b .work ≡ cutLater b1 b2 b3 k s b .work
-  pub pixel : (c : Rgb) → getD (cutLater b1 b2 b3 k t b .map) (colourPlace g c) 0 ≡ getD (cutLater b1 b2 b3 k s b .map) (colourPlace g c) 0
+  pub pixel : (c : Rgb)
+      → getD (cutLater b1 b2 b3 k t b .results .map) (colourPlace g c) 0
+      ≡ getD (cutLater b1 b2 b3 k s b .results .map) (colourPlace g c) 0
 
 -- two plans that run to the same table, which is cut alike for every k and whatever is lent
 pub record CutAlike (g : Grid) (b1 b2 b3 : ℕ) (p q : Plan) : Type 0 where
   pub first : List ℕ
   pub second : List ℕ
-  pub first-ran : run b1 b2 b3 p ≡ Table first
-  pub second-ran : run b1 b2 b3 q ≡ Table second
+  pub first-ran : ends b1 b2 b3 p ≡ Filled first
+  pub second-ran : ends b1 b2 b3 q ≡ Filled second
   pub same : first ≡ second
   pub alike : (k : ℕ) (b : Buffers) → SameCut g b1 b2 b3 k b first second

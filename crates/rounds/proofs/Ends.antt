@@ -1,8 +1,10 @@
--- How the loop ends: with k boxes, or with none that is to be cut. Until then the heap is in order, and no spread is a NaN.
+-- How the loop ends: with k boxes, or with none that is to be cut. Until then the heap is in order, and no spread is a
+-- NaN.
 -- Assumes nothing.
 use mathlib.Core.Path.{_≡_, refl, sym, ap, subst, _∙_}
 use mathlib.Core.Logic.{_≢_}
 use mathlib.Core.Bool.{Bool, true, false, cond, true≢false}
+use mathlib.Core.List.{List}
 use Prim.Native.Nat.{ℕ, zero, suc, _+_, _-_, _*_, _≤_, _<_}
 use native.Mathlib.Nat.{lt-of-not-le}
 use native.Mathlib.Decide.{decLe}
@@ -10,48 +12,52 @@ use native.Mathlib.Omega.{arith}
 use borrow.Author.Tests.{eq-eqb}
 use lib.ListN.{length}
 use lib.Ieee.{Float, nan, inf, fin, up, down, lt, eq}
-use Rattle.grid.specs.declared.Grid.{Grid}
+use Rattle.grid.specs.declared.place.Grid.{Grid}
 use Rattle.grid.specs.Grid.{Accepted}
 use Rattle.table.specs.Cell.{View}
 use Rattle.table.specs.Sound.{limit, total}
 use Rattle.table.proofs.Soundness.{Sound}
-use Rattle.sums.specs.declared.Bounds.{Bounds}
-use Rattle.sums.specs.Box.{boxSum, statsOf, lowSide, highSide, Within}
+use Rattle.boxes.specs.declared.sides.Bounds.{Bounds}
+use Rattle.sums.specs.Box.{boxSum, statsOf}
+use Rattle.boxes.specs.Box.{lowSide, highSide, Within}
 use Rattle.spread.specs.Spread.{zeroOf, spreadOf}
 use Rattle.spread.proofs.Finite.{spread-finite}
-use Rattle.heap.specs.Heap.{Item, Room, item, putIn, takeOut, InOrder, NoNaN}
-use Rattle.floats.proofs.Compare.{not-less-trans, finite-number}
+use Rattle.heap.specs.Heap.{item, putIn, takeOut, InOrder, NoNaN}
+use Rattle.basics.proofs.Compare.{not-less-trans, finite-number}
 use Rattle.heap.proofs.Order.{put-in-order, take-out-order, top-greatest}
-use Rattle.rounds.specs.Loop.{Heap, noItem, itself, spent, startRoom, start, goesOn, roundRoom, roundUsed, round, rounds, heapOf}
-use Rattle.rounds.proofs.Turning.{room-stops, used-stops, round-cases}
-use Rattle.rounds.proofs.Filled.{InUse, Each, Kept, Fit, fit-kept, left-long, put-back, two-more, each-put, others, atStart, start-each, start-fit}
+use Rattle.rounds.specs.declared.gather.BoxSpread.{BoxSpread}
+use Rattle.rounds.specs.Loop.{bySpread, Heap, noItem, withSpread, withZero, startRoom, start, aboveZero}
+use Rattle.rounds.specs.Loop.{roundRoom, roundBoxes, round, rounds, heapOf}
+use Rattle.rounds.proofs.OneRound.{room-stops, boxes-stops, round-cases}
+use Rattle.rounds.proofs.Filled.{InUse, Each, Kept, Fit, fit-kept, left-long, put-back, two-more, each-put}
+use Rattle.rounds.proofs.Filled.{others, atStart, start-each, start-fit}
 use Rattle.rounds.proofs.Fuel.{need, need-none, need-less, rounds-full, rounds-on, rounds-stop, start-need}
 
 -- ---- no spread is a NaN
-pub record Sane (g : Grid) (v : View) (x : Item Bounds) : Type 0 where
+pub record Sane (g : Grid) (v : View) (x : BoxSpread) : Type 0 where
   pub fit : Fit g v x
   pub number : x .spread ≢ nan
 
 module _ {g : Grid} {v : View} (s : Sound limit g v) where
-  itself-number : {x : Bounds} → Within g x → (boxSum g v x 0 ≡ 0 → ⊥) → itself g v x .spread ≢ nan
-  unfolding itself
-  itself-number {x} w n = finite-number (spreadOf x (statsOf g v x)) (spread-finite s w (omega (arith, n)))
+  spread-number : {x : Bounds} → Within g x → (boxSum g v x 0 ≡ 0 → ⊥) → withSpread g v x .spread ≢ nan
+  unfolding withSpread
+  spread-number {x} w n = finite-number (spreadOf x (statsOf g v x)) (spread-finite s w (omega (arith, n)))
 
   pub sane-kept : Kept g v (Sane g v)
-  unfolding itself
+  unfolding withSpread
   sane-kept =
       record {
-        spent-too = λ x h q. record { fit = fit-kept g v .spent-too x (h .fit) q; number = finite-number zeroOf tt };
+        zero-too = λ x h q. record { fit = fit-kept g v .zero-too x (h .fit) q; number = finite-number zeroOf tt };
         sides-too = λ x h q.
             let both = fit-kept g v .sides-too x (h .fit) q in (
-              record { fit = both .0; number = itself-number (both .0 .within) (both .0 .some) },
-              record { fit = both .1; number = itself-number (both .1 .within) (both .1 .some) },
+              record { fit = both .0; number = spread-number (both .0 .within) (both .0 .some) },
+              record { fit = both .1; number = spread-number (both .1 .within) (both .1 .some) },
             );
       }
 
 -- ---- a spread that goes on is one above 0, where it is a number
-cold-of : (s : Float) → lt zeroOf s ≡ false → goesOn s ≡ false
-unfolding goesOn
+cold-of : (s : Float) → lt zeroOf s ≡ false → aboveZero s ≡ false
+unfolding aboveZero
 cold-of s e = rw e refl
 
 itself-equal : (s : Float) → s ≢ nan → eq s s ≡ true
@@ -62,8 +68,8 @@ itself-equal (inf false) n = refl
 itself-equal (fin true m e) n = rw (eq-eqb (m * up e * down e) (m * up e * down e) refl) refl
 itself-equal (fin false m e) n = rw (eq-eqb (m * up e * down e) (m * up e * down e) refl) refl
 
-pub of-cold : (s : Float) → s ≢ nan → goesOn s ≡ false → lt zeroOf s ≡ false
-unfolding goesOn
+pub of-cold : (s : Float) → s ≢ nan → aboveZero s ≡ false → lt zeroOf s ≡ false
+unfolding aboveZero
 of-cold s n e = go (lt zeroOf s) e
   where
     go : (b : Bool) → cond b (eq s s) false ≡ false → b ≡ false
@@ -71,91 +77,110 @@ of-cold s n e = go (lt zeroOf s) e
     go false e = refl
 
 -- ---- a heap in order, whose boxes are sane
-pub record Ordered (g : Grid) (v : View) (h : Room Bounds) (n : ℕ) : Type 0 where
+pub record Ordered (g : Grid) (v : View) (h : List BoxSpread) (n : ℕ) : Type 0 where
   pub sane : Each (Sane g v) h n
-  pub order : InOrder noItem h n
+  pub order : InOrder bySpread noItem h n
 
-numbers : {g : Grid} {v : View} {h : Room Bounds} {n : ℕ} → ((p : ℕ) → p < n → Sane g v (item noItem h p)) → NoNaN noItem h n
+numbers : {g : Grid} {v : View} {h : List BoxSpread} {n : ℕ} → ((p : ℕ) → p < n → Sane g v (item noItem h p))
+    → NoNaN bySpread noItem h n
 numbers e = record { number = λ p l. e p l .number }
 
 -- a box put in
-put-ordered : {g : Grid} {v : View} (h : Room Bounds) {n : ℕ} → length h ≡ 256 → n < 256 → ((p : ℕ) → p < n → Sane g v (item noItem h p)) → InOrder noItem h n
-    → (x : Item Bounds) → Sane g v x → Ordered g v (putIn noItem h n x) (n + 1)
+put-ordered : {g : Grid} {v : View} (h : List BoxSpread) {n : ℕ} → length h ≡ 256 → n < 256
+    → ((p : ℕ) → p < n → Sane g v (item noItem h p)) → InOrder bySpread noItem h n
+    → (x : BoxSpread) → Sane g v x → Ordered g v (putIn bySpread noItem h n x) (n + 1)
 put-ordered {g} {v} h {n} long l sane order x has =
     record {
       sane = each-put (Sane g v) h long l sane has;
-      order = subst (InOrder noItem (putIn noItem h n x)) (next n) (put-in-order noItem h n x (omega arith) (numbers sane) (has .number) order);
+      order = subst (InOrder bySpread noItem (putIn bySpread noItem h n x)) (next n)
+          (put-in-order bySpread noItem h n x (omega arith) (numbers sane) (has .number) order);
     }
   where
     next : (n : ℕ) → suc n ≡ n + 1
     next n = omega arith
 
 module _ {g : Grid} {v : View} (s : Sound limit g v) where
-  pub ordered-round : {h : Room Bounds} {n : ℕ} → Ordered g v h n → n < 256 → Ordered g v (roundRoom g v h n) (roundUsed g v h n)
+  pub ordered-round : {h : List BoxSpread} {n : ℕ} → Ordered g v h n → n < 256
+      → Ordered g v (roundRoom g v h n) (roundBoxes g v h n)
   ordered-round {h} {n} o l =
       round-cases g v h n (Ordered g v)
-      (λ off. subst (Ordered g v (putIn noItem rest (n - 1) top)) (put-back u) (put-ordered rest (left-long u) (omega arith) rest-sane rest-order top (o .sane .each 0 (u .some))))
-      (λ on none. put-ordered rest (left-long u) (omega arith) rest-sane rest-order (spent (top .box)) (sane-kept s .spent-too top (o .sane .each 0 (u .some)) none))
+      (λ off. subst (Ordered g v (putIn bySpread noItem rest (n - 1) top)) (put-back u)
+      (put-ordered rest (left-long u) (omega arith) rest-sane rest-order top (o .sane .each 0 (u .some))))
+      (λ on none. put-ordered rest (left-long u) (omega arith) rest-sane rest-order (withZero (top .bounds))
+      (sane-kept s .zero-too top (o .sane .each 0 (u .some)) none))
       (λ d i sc on q.
       let both = sane-kept s .sides-too top (o .sane .each 0 (u .some)) q in
-      let low = put-ordered rest (left-long u) (omega arith) rest-sane rest-order (itself g v (lowSide (top .box) d i)) (both .0) in
-      subst (Ordered g v (putIn noItem (putIn noItem rest (n - 1) (itself g v (lowSide (top .box) d i))) (n - 1 + 1) (itself g v (highSide (top .box) d i)))) (two-more (n - 1))
-      (put-ordered (putIn noItem rest (n - 1) (itself g v (lowSide (top .box) d i))) (low .sane .in-use .long) (omega arith) (low .sane .each) (low .order) (itself g v (highSide (top .box) d i)) (both .1)))
+      let low = put-ordered rest (left-long u) (omega arith) rest-sane rest-order
+      (withSpread g v (lowSide (top .bounds) d i)) (both .0) in
+      subst (Ordered g v
+      (putIn bySpread noItem (putIn bySpread noItem rest (n - 1) (withSpread g v (lowSide (top .bounds) d i)))
+      (n - 1 + 1) (withSpread g v (highSide (top .bounds) d i)))) (two-more (n - 1))
+      (put-ordered (putIn bySpread noItem rest (n - 1) (withSpread g v (lowSide (top .bounds) d i)))
+      (low .sane .in-use .long) (omega arith) (low .sane .each) (low .order)
+      (withSpread g v (highSide (top .bounds) d i)) (both .1)))
     where
       u : InUse h n
       u = o .sane .in-use
 
-      top : Item Bounds
+      top : BoxSpread
       top = item noItem h 0
 
-      rest : Room Bounds
-      rest = takeOut noItem h n
+      rest : List BoxSpread
+      rest = takeOut bySpread noItem h n
 
       rest-sane : (p : ℕ) → p < n - 1 → Sane g v (item noItem rest p)
       rest-sane = others (Sane g v) h (o .sane)
 
-      rest-order : InOrder noItem rest (n - 1)
-      rest-order = take-out-order noItem h n (u .some) (omega (arith, u .long, u .most)) (numbers (o .sane .each)) (o .order)
+      rest-order : InOrder bySpread noItem rest (n - 1)
+      rest-order =
+          take-out-order bySpread noItem h n (u .some) (omega (arith, u .long, u .most)) (numbers (o .sane .each))
+          (o .order)
 
 -- ---- boxes that are not to be cut
-abbrev pub Cold : Item Bounds → Type 0
-Cold x = goesOn (x .spread) ≡ false
+abbrev pub Cold : BoxSpread → Type 0
+Cold x = aboveZero (x .spread) ≡ false
 
 -- where the top is not, none is
-all-cold : {g : Grid} {v : View} {h : Room Bounds} {n : ℕ} → Ordered g v h n → Cold (item noItem h 0) → (p : ℕ) → p < n → Cold (item noItem h p)
+all-cold : {g : Grid} {v : View} {h : List BoxSpread} {n : ℕ} → Ordered g v h n → Cold (item noItem h 0) → (p : ℕ)
+    → p < n → Cold (item noItem h p)
 all-cold {g} {v} {h} {n} o cold p l =
     cold-of (item noItem h p .spread)
-    (not-less-trans zeroOf (item noItem h 0 .spread) (item noItem h p .spread) (o .sane .each 0 (o .sane .in-use .some) .number)
+    (not-less-trans zeroOf (item noItem h 0 .spread) (item noItem h p .spread)
+    (o .sane .each 0 (o .sane .in-use .some) .number)
     (of-cold (item noItem h 0 .spread) (o .sane .each 0 (o .sane .in-use .some) .number) cold)
-    (top-greatest noItem h n (o .order) (numbers (o .sane .each)) p l))
+    (top-greatest bySpread noItem h n (o .order) (numbers (o .sane .each)) p l))
 
 -- ---- the end
 -- a heap with k boxes, or with none that is to be cut
-pub data Ended (k : ℕ) (h : Room Bounds) (n : ℕ) : Type 0 where
+pub data Ended (k : ℕ) (h : List BoxSpread) (n : ℕ) : Type 0 where
   full : k ≤ n → Ended k h n
   cold : Each Cold h n → Ended k h n
 
 -- a round that stops leaves none that is to be cut
-stop-cold : (g : Grid) (v : View) {h : Room Bounds} {n : ℕ} → Ordered g v h n → Cold (item noItem h 0) → Each Cold (roundRoom g v h n) (roundUsed g v h n)
+stop-cold : (g : Grid) (v : View) {h : List BoxSpread} {n : ℕ} → Ordered g v h n → Cold (item noItem h 0)
+    → Each Cold (roundRoom g v h n) (roundBoxes g v h n)
 stop-cold g v {h} {n} o c =
     let u = o .sane .in-use in
     let all : Each Cold h n = record { in-use = u; each = all-cold o c } in
-    rw (room-stops g v h n c, used-stops g v h n c)
-    (subst (Each Cold (putIn noItem (takeOut noItem h n) (n - 1) (item noItem h 0))) (put-back u)
-    (each-put Cold (takeOut noItem h n) (left-long u) (omega (arith, u .some, u .most)) (others Cold h all) c))
+    rw (room-stops g v h n c, boxes-stops g v h n c)
+    (subst (Each Cold (putIn bySpread noItem (takeOut bySpread noItem h n) (n - 1) (item noItem h 0))) (put-back u)
+    (each-put Cold (takeOut bySpread noItem h n) (left-long u) (omega (arith, u .some, u .most)) (others Cold h all) c))
 
 module _ {g : Grid} {v : View} (s : Sound limit g v) (k : ℕ) (most : k ≤ 256) where
   -- after as many rounds as are needed
-  pub rounds-end : (f : ℕ) (h : Heap) → Ordered g v (h .room) (h .used) → need k (h .room) (h .used) ≤ f → Ended k (rounds f g v k h .room) (rounds f g v k h .used)
+  pub rounds-end : (f : ℕ) (h : Heap) → Ordered g v (h .room) (h .boxes) → need k (h .room) (h .boxes) ≤ f
+      → Ended k (rounds f g v k h .room) (rounds f g v k h .boxes)
   unfolding round
-  rounds-end zero h o p = let l = need-none k (h .room) (h .used) p in rw (rounds-full g v k h zero l) (full l)
+  rounds-end zero h o p = let l = need-none k (h .room) (h .boxes) p in rw (rounds-full g v k h zero l) (full l)
   rounds-end (suc f) h o p =
-      go (decLe k (h .used)) (goesOn (item noItem (h .room) 0 .spread)) refl
-      (λ l on. rounds-end f (round g v h) (ordered-round s o (omega arith)) (omega (arith, need-less g v k most (h .room) (h .used) (o .sane .in-use) l on)))
+      go (decLe k (h .boxes)) (aboveZero (item noItem (h .room) 0 .spread)) refl
+      (λ l on. rounds-end f (round g v h) (ordered-round s o (omega arith))
+      (omega (arith, need-less g v k most (h .room) (h .boxes) (o .sane .in-use) l on)))
     where
-      go : Dec (k ≤ h .used) → (b : Bool) → goesOn (item noItem (h .room) 0 .spread) ≡ b
-          → (h .used < k → goesOn (item noItem (h .room) 0 .spread) ≡ true → Ended k (rounds f g v k (round g v h) .room) (rounds f g v k (round g v h) .used))
-          → Ended k (rounds (suc f) g v k h .room) (rounds (suc f) g v k h .used)
+      go : Dec (k ≤ h .boxes) → (b : Bool) → aboveZero (item noItem (h .room) 0 .spread) ≡ b
+          → (h .boxes < k → aboveZero (item noItem (h .room) 0 .spread) ≡ true
+          → Ended k (rounds f g v k (round g v h) .room) (rounds f g v k (round g v h) .boxes))
+          → Ended k (rounds (suc f) g v k h .room) (rounds (suc f) g v k h .boxes)
       go (yes l) b t after = rw (rounds-full g v k h (suc f) l) (full l)
       go (no l) true t after = rw (rounds-on g v k h f (lt-of-not-le l) t) (after (lt-of-not-le l) t)
       go (no l) false t after = rw (rounds-stop g v k h f (lt-of-not-le l) t) (cold (stop-cold g v o t))
@@ -171,8 +196,10 @@ unfolding isInf
 start-sane a l = record { fit = start-fit a l; number = λ q. true≢false (ap isInf q) }
 
 start-ordered : {g : Grid} {v : View} → Accepted g → 0 < total g v → Ordered g v (startRoom g) 1
-start-ordered {g} a l = record { sane = start-each g (start-sane a l); order = record { under = λ p m k. absurd (omega arith) } }
+start-ordered {g} a l =
+    record { sane = start-each g (start-sane a l); order = record { under = λ p m k. absurd (omega arith) } }
 
-pub heap-end : {g : Grid} {v : View} → Sound limit g v → Accepted g → 0 < total g v → (k : ℕ) → k ≤ 256 → Ended k (heapOf g v k .room) (heapOf g v k .used)
+pub heap-end : {g : Grid} {v : View} → Sound limit g v → Accepted g → 0 < total g v → (k : ℕ) → k ≤ 256
+    → Ended k (heapOf g v k .room) (heapOf g v k .boxes)
 unfolding heapOf start
 heap-end {g} s a l k most = rounds-end s k most (2 * k) (start g) (start-ordered a l) (omega (arith, start-need g k))

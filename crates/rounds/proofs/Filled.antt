@@ -2,38 +2,43 @@
 -- Assumes nothing.
 use mathlib.Core.Path.{_≡_, refl, subst, _∙_}
 use mathlib.Core.Bool.{Bool, true, false, cond}
+use mathlib.Core.List.{List}
 use Prim.Native.Nat.{ℕ, zero, suc, _+_, _-_, _*_, _≤_, _<_}
 use native.Mathlib.Omega.{arith}
 use lib.Dec.{ltb}
 use lib.ListN.{length, replicate, length-set, length-replicate}
 use lib.Ieee.{Float, inf}
 use borrow.Author.Tests.{ltb-true}
-use Rattle.grid.specs.declared.Grid.{Grid}
+use Rattle.grid.specs.declared.place.Grid.{Grid}
 use Rattle.grid.specs.Grid.{Accepted}
 use Rattle.table.specs.Cell.{View}
 use Rattle.table.specs.Sound.{total}
 use Rattle.table.proofs.Soundness.{total-is}
-use Rattle.sums.specs.declared.Bounds.{Bounds}
-use Rattle.sums.specs.Box.{boxSum, lowSide, highSide, Within}
-use Rattle.spread.specs.declared.Position.the-variants.{At, Nowhere}
+use Rattle.sums.specs.Box.{boxSum}
+use Rattle.boxes.specs.Box.{lowSide, highSide, Within}
+use Rattle.spread.specs.declared.position.Position.the-variants.{At, Nowhere}
 use Rattle.spread.specs.Cut.{bestCut}
 use Rattle.spread.proofs.Best.{answered}
-use Rattle.heap.specs.Heap.{Item, Room, item, putIn, takeOut}
+use Rattle.heap.specs.Heap.{item, putIn, takeOut}
 use Rattle.heap.proofs.Keeps.{put-in-long, put-in-all, take-out-long, take-out-all}
-use Rattle.rounds.specs.Loop.{Heap, noBox, noItem, itself, spent, wholeOf, startRoom, goesOn, roundRoom, roundUsed, round, rounds, start, heapOf}
-use Rattle.rounds.proofs.Grids.{whole-within, whole-sum}
-use Rattle.rounds.proofs.Turning.{low-box, high-box, round-cases}
+use Rattle.rounds.specs.declared.gather.BoxSpread.{BoxSpread}
+use Rattle.rounds.specs.Loop.{bySpread, Heap, noItem, withSpread, withZero, startRoom, aboveZero, roundRoom}
+use Rattle.rounds.specs.Loop.{roundBoxes, round, rounds, start, heapOf}
+use Rattle.boxes.specs.Box.{noBox, wholeOf}
+use Rattle.boxes.proofs.Whole.{whole-within}
+use Rattle.rounds.proofs.Grids.{whole-sum}
+use Rattle.rounds.proofs.OneRound.{low-box, high-box, round-cases}
 
 -- a room with n places in use
-pub record InUse (h : Room Bounds) (n : ℕ) : Type 0 where
+pub record InUse (h : List BoxSpread) (n : ℕ) : Type 0 where
   pub long : length h ≡ 256
   pub some : 0 < n
   pub most : n ≤ 256
 
 -- once its top has left, and a box was put back, or two put in
-module _ {h : Room Bounds} {n : ℕ} (u : InUse h n) where
-  pub left-long : length (takeOut noItem h n) ≡ 256
-  left-long = take-out-long noItem h n (u .some) (omega (arith, u .long, u .most)) ∙ u .long
+module _ {h : List BoxSpread} {n : ℕ} (u : InUse h n) where
+  pub left-long : length (takeOut bySpread noItem h n) ≡ 256
+  left-long = take-out-long bySpread noItem h n (u .some) (omega (arith, u .long, u .most)) ∙ u .long
 
   pub put-back : n - 1 + 1 ≡ n
   put-back = omega (arith, u .some)
@@ -42,36 +47,46 @@ pub two-more : (m : ℕ) → m + 1 + 1 ≡ m + 2
 two-more m = omega arith
 
 -- that, where each box in use has a property
-pub record Each (P : Item Bounds → Type 0) (h : Room Bounds) (n : ℕ) : Type 0 where
+pub record Each (P : BoxSpread → Type 0) (h : List BoxSpread) (n : ℕ) : Type 0 where
   pub in-use : InUse h n
   pub each : (p : ℕ) → p < n → P (item noItem h p)
 
 -- a property that a box put back with 0.0 keeps, and that both sides of a cut have
-pub record Kept (g : Grid) (v : View) (P : Item Bounds → Type 0) : Type 0 where
-  pub spent-too : (x : Item Bounds) → P x → bestCut g v (x .box) ≡ Nowhere → P (spent (x .box))
-  pub sides-too : (x : Item Bounds) → P x → {d i : ℕ} {s : Float} → bestCut g v (x .box) ≡ At d i s
-      → P (itself g v (lowSide (x .box) d i)) × P (itself g v (highSide (x .box) d i))
+pub record Kept (g : Grid) (v : View) (P : BoxSpread → Type 0) : Type 0 where
+  pub zero-too : (x : BoxSpread) → P x → bestCut g v (x .bounds) ≡ Nowhere → P (withZero (x .bounds))
+  pub sides-too : (x : BoxSpread) → P x → {d i : ℕ} {s : Float} → bestCut g v (x .bounds) ≡ At d i s
+      → P (withSpread g v (lowSide (x .bounds) d i)) × P (withSpread g v (highSide (x .bounds) d i))
 
-module _ (P : Item Bounds → Type 0) (h : Room Bounds) where
+module _ (P : BoxSpread → Type 0) (h : List BoxSpread) where
   -- a box put in
-  pub each-put : {n : ℕ} → length h ≡ 256 → n < 256 → ((p : ℕ) → p < n → P (item noItem h p)) → {x : Item Bounds} → P x → Each P (putIn noItem h n x) (n + 1)
+  pub each-put : {n : ℕ} → length h ≡ 256 → n < 256 → ((p : ℕ) → p < n → P (item noItem h p)) → {x : BoxSpread} → P x
+      → Each P (putIn bySpread noItem h n x) (n + 1)
   each-put {n} long room all {x} has =
       record {
-        in-use = record { long = put-in-long noItem h n x (omega arith) ∙ long; some = omega arith; most = omega arith };
-        each = λ p l. put-in-all noItem h n x (omega arith) P has all p (omega arith);
+        in-use = record {
+          long = put-in-long bySpread noItem h n x (omega arith)
+              ∙ long;
+          some = omega arith;
+          most = omega arith;
+        };
+        each = λ p l. put-in-all bySpread noItem h n x (omega arith) P has all p (omega arith);
       }
 
   -- the others, once the top has left
-  pub others : {n : ℕ} → Each P h n → (p : ℕ) → p < n - 1 → P (item noItem (takeOut noItem h n) p)
-  others {n} e = take-out-all noItem h n (e .in-use .some) (omega (arith, e .in-use .long, e .in-use .most)) P (e .each)
+  pub others : {n : ℕ} → Each P h n → (p : ℕ) → p < n - 1 → P (item noItem (takeOut bySpread noItem h n) p)
+  others {n} e =
+      take-out-all bySpread noItem h n (e .in-use .some) (omega (arith, e .in-use .long, e .in-use .most)) P (e .each)
 
 -- one round
-pub each-round : {g : Grid} {v : View} {P : Item Bounds → Type 0} → Kept g v P → {h : Room Bounds} {n : ℕ} → Each P h n → n < 256 → Each P (roundRoom g v h n) (roundUsed g v h n)
+pub each-round : {g : Grid} {v : View} {P : BoxSpread → Type 0} → Kept g v P → {h : List BoxSpread} {n : ℕ} → Each P h n
+    → n < 256 → Each P (roundRoom g v h n) (roundBoxes g v h n)
 each-round {g} {v} {P} k {h} {n} e l =
     let top : P (item noItem h 0) = e .each 0 (e .in-use .some) in
     round-cases g v h n (Each P)
-    (λ off. subst (Each P _) (put-back (e .in-use)) (each-put P _ (left-long (e .in-use)) (omega arith) (others P h e) top))
-    (λ on none. each-put P _ (left-long (e .in-use)) (omega arith) (others P h e) (k .spent-too (item noItem h 0) top none))
+    (λ off. subst (Each P _) (put-back (e .in-use))
+    (each-put P _ (left-long (e .in-use)) (omega arith) (others P h e) top))
+    (λ on none. each-put P _ (left-long (e .in-use)) (omega arith) (others P h e)
+    (k .zero-too (item noItem h 0) top none))
     (λ d i s on q.
     let both = k .sides-too (item noItem h 0) top q in
     let low = each-put P _ (left-long (e .in-use)) (omega arith) (others P h e) (both .0) in
@@ -79,48 +94,54 @@ each-round {g} {v} {P} k {h} {n} e l =
 
 -- the places in use alone
 any-kept : (g : Grid) (v : View) → Kept g v (λ x. Unit {0})
-any-kept g v = record { spent-too = λ x p q. tt; sides-too = λ x p q. (tt, tt) }
+any-kept g v = record { zero-too = λ x p q. tt; sides-too = λ x p q. (tt, tt) }
 
-pub in-use-round : (g : Grid) (v : View) {h : Room Bounds} {n : ℕ} → InUse h n → n < 256 → InUse (roundRoom g v h n) (roundUsed g v h n)
-in-use-round g v {h} {n} u l = each-round (any-kept g v) {h = h} {n = n} (record { in-use = u; each = λ p m. tt }) l .in-use
+pub in-use-round : (g : Grid) (v : View) {h : List BoxSpread} {n : ℕ} → InUse h n → n < 256
+    → InUse (roundRoom g v h n) (roundBoxes g v h n)
+in-use-round g v {h} {n} u l =
+    each-round (any-kept g v) {h = h} {n = n} (record { in-use = u; each = λ p m. tt }) l .in-use
 
 -- all rounds
-pub each-rounds : {g : Grid} {v : View} {P : Item Bounds → Type 0} → Kept g v P → (k f : ℕ) → k ≤ 256 → (h : Heap) → Each P (h .room) (h .used) → Each P (rounds f g v k h .room) (rounds f g v k h .used)
+pub each-rounds : {g : Grid} {v : View} {P : BoxSpread → Type 0} → Kept g v P → (k f : ℕ) → k ≤ 256 → (h : Heap)
+    → Each P (h .room) (h .boxes) → Each P (rounds f g v k h .room) (rounds f g v k h .boxes)
 unfolding rounds round
 each-rounds kept k zero most h e = e
 each-rounds {g} {v} {P} kept k (suc f) most h e =
-    go (ltb (h .used) k) refl (goesOn (item noItem (h .room) 0 .spread)) (λ r. each-rounds kept k f most (round g v h) r)
+    go (ltb (h .boxes) k) refl (aboveZero (item noItem (h .room) 0 .spread))
+    (λ r. each-rounds kept k f most (round g v h) r)
   where
-    next : h .used < k → Each P (roundRoom g v (h .room) (h .used)) (roundUsed g v (h .room) (h .used))
+    next : h .boxes < k → Each P (roundRoom g v (h .room) (h .boxes)) (roundBoxes g v (h .room) (h .boxes))
     next l = each-round kept e (omega arith)
 
-    go : (a : Bool) → ltb (h .used) k ≡ a → (b : Bool)
-        → (Each P (round g v h .room) (round g v h .used) → Each P (rounds f g v k (round g v h) .room) (rounds f g v k (round g v h) .used))
-        → Each P (cond a (cond b (rounds f g v k (round g v h)) (round g v h)) h .room) (cond a (cond b (rounds f g v k (round g v h)) (round g v h)) h .used)
+    go : (a : Bool) → ltb (h .boxes) k ≡ a → (b : Bool)
+        → (Each P (round g v h .room) (round g v h .boxes)
+        → Each P (rounds f g v k (round g v h) .room) (rounds f g v k (round g v h) .boxes))
+        → Each P (cond a (cond b (rounds f g v k (round g v h)) (round g v h)) h .room)
+        (cond a (cond b (rounds f g v k (round g v h)) (round g v h)) h .boxes)
     go false q b after = e
-    go true q false after = next (ltb-true (h .used) k q)
-    go true q true after = after (next (ltb-true (h .used) k q))
+    go true q false after = next (ltb-true (h .boxes) k q)
+    go true q true after = after (next (ltb-true (h .boxes) k q))
 
 -- ---- every box in use is one of the grid
-abbrev pub OfGrid : Grid → Item Bounds → Type 0
-OfGrid g x = Within g (x .box)
+abbrev pub OfGrid : Grid → BoxSpread → Type 0
+OfGrid g x = Within g (x .bounds)
 
 pub of-grid-kept : (g : Grid) (v : View) → Kept g v (OfGrid g)
-unfolding itself
-of-grid-kept g v = record { spent-too = λ x h q. h; sides-too = λ x h q. (low-box v h q, high-box v h q) }
+unfolding withSpread
+of-grid-kept g v = record { zero-too = λ x h q. h; sides-too = λ x h q. (low-box v h q, high-box v h q) }
 
 -- ---- no box is empty
-pub record Fit (g : Grid) (v : View) (x : Item Bounds) : Type 0 where
-  pub within : Within g (x .box)
-  pub some : boxSum g v (x .box) 0 ≡ 0 → ⊥
+pub record Fit (g : Grid) (v : View) (x : BoxSpread) : Type 0 where
+  pub within : Within g (x .bounds)
+  pub some : boxSum g v (x .bounds) 0 ≡ 0 → ⊥
 
 pub fit-kept : (g : Grid) (v : View) → Kept g v (Fit g v)
-unfolding itself
+unfolding withSpread
 fit-kept g v =
     record {
-      spent-too = λ x h q. record { within = h .within; some = h .some };
+      zero-too = λ x h q. record { within = h .within; some = h .some };
       sides-too = λ x h {d} {i} {s} q.
-          let a = answered g v (x .box) q .1 .split in (
+          let a = answered g v (x .bounds) q .1 .split in (
             record { within = low-box v (h .within) q; some = a .low },
             record { within = high-box v (h .within) q; some = a .high },
           );
@@ -128,20 +149,20 @@ fit-kept g v =
 
 -- ---- the start
 -- the whole grid at infinity
-abbrev pub atStart : Grid → Item Bounds
-atStart g = record { spread = inf false; box = wholeOf g }
+abbrev pub atStart : Grid → BoxSpread
+atStart g = record { spread = inf false; bounds = wholeOf g }
 
 pub start-in-use : (g : Grid) → InUse (startRoom g) 1
 unfolding startRoom
 start-in-use g =
     record {
-      long = length-set (replicate 256 (spent noBox)) 0 (atStart g) ∙ length-replicate 256 (spent noBox);
+      long = length-set (replicate 256 (withZero noBox)) 0 (atStart g) ∙ length-replicate 256 (withZero noBox);
       some = omega arith;
       most = omega arith;
     }
 
 -- it is the only box in use
-pub start-each : {P : Item Bounds → Type 0} (g : Grid) → P (atStart g) → Each P (startRoom g) 1
+pub start-each : {P : BoxSpread → Type 0} (g : Grid) → P (atStart g) → Each P (startRoom g) 1
 unfolding startRoom
 start-each {P} g has = record { in-use = start-in-use g; each = λ p m. first p (omega arith) }
   where
@@ -153,35 +174,37 @@ pub start-fit : {g : Grid} {v : View} → Accepted g → 0 < total g v → Fit g
 start-fit {g} {v} a l = record { within = whole-within a; some = λ e. omega (arith, total-is g v, whole-sum g v 0) }
 
 -- ---- the heap at the end
-pub heap-fit : {g : Grid} {v : View} → Accepted g → 0 < total g v → (k : ℕ) → k ≤ 256 → Each (Fit g v) (heapOf g v k .room) (heapOf g v k .used)
+pub heap-fit : {g : Grid} {v : View} → Accepted g → 0 < total g v → (k : ℕ) → k ≤ 256
+    → Each (Fit g v) (heapOf g v k .room) (heapOf g v k .boxes)
 unfolding heapOf start
 heap-fit {g} {v} a l k most = each-rounds (fit-kept g v) k (2 * k) most (start g) (start-each g (start-fit a l))
 
-pub heap-in-use : (g : Grid) (v : View) (k : ℕ) → k ≤ 256 → InUse (heapOf g v k .room) (heapOf g v k .used)
+pub heap-in-use : (g : Grid) (v : View) (k : ℕ) → k ≤ 256 → InUse (heapOf g v k .room) (heapOf g v k .boxes)
 unfolding heapOf start
 heap-in-use g v k most = each-rounds (any-kept g v) k (2 * k) most (start g) (start-each g tt) .in-use
 
 -- no more than k boxes
-round-most : (g : Grid) (v : View) (h : Room Bounds) (n : ℕ) → 0 < n → roundUsed g v h n ≤ n + 1
+round-most : (g : Grid) (v : View) (h : List BoxSpread) (n : ℕ) → 0 < n → roundBoxes g v h n ≤ n + 1
 round-most g v h n l =
     round-cases g v h n (λ r m. m ≤ n + 1) (λ off. omega arith) (λ on none. omega arith) (λ d i s on q. omega arith)
 
-pub rounds-most : (g : Grid) (v : View) (k : ℕ) → k ≤ 256 → (f : ℕ) (h : Heap) → InUse (h .room) (h .used) → h .used ≤ k → rounds f g v k h .used ≤ k
+pub rounds-most : (g : Grid) (v : View) (k : ℕ) → k ≤ 256 → (f : ℕ) (h : Heap) → InUse (h .room) (h .boxes)
+    → h .boxes ≤ k → rounds f g v k h .boxes ≤ k
 unfolding rounds round
 rounds-most g v k most zero h u l = l
 rounds-most g v k most (suc f) h u l =
-    go (ltb (h .used) k) refl (goesOn (item noItem (h .room) 0 .spread))
+    go (ltb (h .boxes) k) refl (aboveZero (item noItem (h .room) 0 .spread))
     (λ m. rounds-most g v k most f (round g v h) (in-use-round g v u (omega arith)) (next m))
   where
-    next : h .used < k → roundUsed g v (h .room) (h .used) ≤ k
-    next m = omega (arith, round-most g v (h .room) (h .used) (u .some))
+    next : h .boxes < k → roundBoxes g v (h .room) (h .boxes) ≤ k
+    next m = omega (arith, round-most g v (h .room) (h .boxes) (u .some))
 
-    go : (a : Bool) → ltb (h .used) k ≡ a → (b : Bool) → (h .used < k → rounds f g v k (round g v h) .used ≤ k)
-        → cond a (cond b (rounds f g v k (round g v h)) (round g v h)) h .used ≤ k
+    go : (a : Bool) → ltb (h .boxes) k ≡ a → (b : Bool) → (h .boxes < k → rounds f g v k (round g v h) .boxes ≤ k)
+        → cond a (cond b (rounds f g v k (round g v h)) (round g v h)) h .boxes ≤ k
     go false q b after = l
-    go true q false after = next (ltb-true (h .used) k q)
-    go true q true after = after (ltb-true (h .used) k q)
+    go true q false after = next (ltb-true (h .boxes) k q)
+    go true q true after = after (ltb-true (h .boxes) k q)
 
-pub heap-most : (g : Grid) (v : View) (k : ℕ) → 1 ≤ k → k ≤ 256 → heapOf g v k .used ≤ k
+pub heap-most : (g : Grid) (v : View) (k : ℕ) → 1 ≤ k → k ≤ 256 → heapOf g v k .boxes ≤ k
 unfolding heapOf start
 heap-most g v k least most = rounds-most g v k most (2 * k) (start g) (start-in-use g) least

@@ -2,6 +2,7 @@
 -- Assumes nothing.
 use mathlib.Core.Path.{_≡_, refl, sym, ap, _∙_}
 use mathlib.Core.Bool.{Bool, true, false, cond, true≢false}
+use mathlib.Core.List.{List}
 use Prim.Native.Nat.{ℕ, zero, suc, _+_, _-_, _*_, _≤_, _<_}
 use native.Mathlib.Nat.{le-trans, lt-of-not-le}
 use native.Mathlib.Decide.{decLe}
@@ -10,53 +11,56 @@ use borrow.Author.Tests.{ltb-true, le-ltb, lt-ltb}
 use lib.Dec.{ltb}
 use lib.ListN.{length, take}
 use lib.Ieee.{lt, eq}
-use Rattle.grid.specs.declared.Grid.{Grid}
+use Rattle.grid.specs.declared.place.Grid.{Grid}
 use Rattle.table.specs.Cell.{View}
-use Rattle.sums.specs.declared.Bounds.{Bounds}
-use Rattle.sums.specs.Box.{lowSide, highSide}
-use Rattle.heap.specs.Heap.{Item, Room, item, putIn, takeOut, sumItems}
+use Rattle.boxes.specs.declared.sides.Bounds.{Bounds}
+use Rattle.boxes.specs.Box.{lowSide, highSide}
+use Rattle.heap.specs.Heap.{item, putIn, takeOut, sumItems}
 use Rattle.heap.proofs.Keeps.{put-in-long, put-in-sum, take-out-sum}
-use Rattle.rounds.specs.Loop.{Heap, noItem, itself, spent, startRoom, start, goesOn, roundRoom, roundUsed, round, rounds, heapOf}
-use Rattle.rounds.proofs.Turning.{round-cases}
+use Rattle.rounds.specs.declared.gather.BoxSpread.{BoxSpread}
+use Rattle.rounds.specs.Loop.{bySpread, Heap, noItem, withSpread, withZero, startRoom, start, aboveZero}
+use Rattle.rounds.specs.Loop.{roundRoom, roundBoxes, round, rounds, heapOf}
+use Rattle.rounds.proofs.OneRound.{round-cases}
 use Rattle.rounds.proofs.Filled.{InUse, left-long, two-more, start-in-use, in-use-round}
 
 -- ---- one step of the loop
 module _ (g : Grid) (v : View) (k : ℕ) (h : Heap) where
-  pub rounds-full : (f : ℕ) → k ≤ h .used → rounds f g v k h ≡ h
+  pub rounds-full : (f : ℕ) → k ≤ h .boxes → rounds f g v k h ≡ h
   unfolding rounds
   rounds-full zero l = refl
-  rounds-full (suc f) l = rw (le-ltb (h .used) k l) refl
+  rounds-full (suc f) l = rw (le-ltb (h .boxes) k l) refl
 
-  module _ (f : ℕ) (l : h .used < k) where
-    pub rounds-on : goesOn (item noItem (h .room) 0 .spread) ≡ true → rounds (suc f) g v k h ≡ rounds f g v k (round g v h)
+  module _ (f : ℕ) (l : h .boxes < k) where
+    pub rounds-on : aboveZero (item noItem (h .room) 0 .spread) ≡ true
+        → rounds (suc f) g v k h ≡ rounds f g v k (round g v h)
     unfolding rounds
-    rounds-on e = rw (lt-ltb (h .used) k l, e) refl
+    rounds-on e = rw (lt-ltb (h .boxes) k l, e) refl
 
-    pub rounds-stop : goesOn (item noItem (h .room) 0 .spread) ≡ false → rounds (suc f) g v k h ≡ round g v h
+    pub rounds-stop : aboveZero (item noItem (h .room) 0 .spread) ≡ false → rounds (suc f) g v k h ≡ round g v h
     unfolding rounds
-    rounds-stop e = rw (lt-ltb (h .used) k l, e) refl
+    rounds-stop e = rw (lt-ltb (h .boxes) k l, e) refl
 
 -- ---- 1 for a box that is to be cut
-unfoldable pub hot : Item Bounds → ℕ
-hot x = cond (goesOn (x .spread)) 1 0
+unfoldable pub hot : BoxSpread → ℕ
+hot x = cond (aboveZero (x .spread)) 1 0
 
-hot-high : (x : Item Bounds) → hot x ≤ 1
+hot-high : (x : BoxSpread) → hot x ≤ 1
 unfolding hot
-hot-high x = go (goesOn (x .spread))
+hot-high x = go (aboveZero (x .spread))
   where
     go : (b : Bool) → cond b 1 0 ≤ 1
     go true = omega arith
     go false = omega arith
 
-hot-spent : (x : Bounds) → hot (spent x) ≡ 0
-unfolding hot goesOn lt
-hot-spent x = refl
+hot-zero : (x : Bounds) → hot (withZero x) ≡ 0
+unfolding hot aboveZero lt
+hot-zero x = refl
 
 -- how many rounds there are still to come at most: none where there are k boxes
-unfoldable pub need : ℕ → Room Bounds → ℕ → ℕ
+unfoldable pub need : ℕ → List BoxSpread → ℕ → ℕ
 need k h n = cond (ltb n k) (2 * (k - 1 - n) + sumItems hot (take n h) + 1) 0
 
-module _ (k : ℕ) (h : Room Bounds) (n : ℕ) where
+module _ (k : ℕ) (h : List BoxSpread) (n : ℕ) where
   need-is : n < k → need k h n ≡ 2 * (k - 1 - n) + sumItems hot (take n h) + 1
   unfolding need
   need-is l = rw (lt-ltb n k l) refl
@@ -75,34 +79,50 @@ module _ (k : ℕ) (h : Room Bounds) (n : ℕ) where
   need-none p = elim (decLe k n) [ yes l ↦ l | no l ↦ absurd (omega (arith, need-is (lt-of-not-le l))) ]
 
 -- a box put in
-hot-put : (h : Room Bounds) (n : ℕ) (x : Item Bounds) → length h ≡ 256 → n < 256 → sumItems hot (take (n + 1) (putIn noItem h n x)) ≡ hot x + sumItems hot (take n h)
-hot-put h n x long l = ap (λ (m : ℕ). sumItems hot (take m (putIn noItem h n x))) (next n) ∙ put-in-sum noItem h n x (omega arith) hot
+hot-put : (h : List BoxSpread) (n : ℕ) (x : BoxSpread) → length h ≡ 256 → n < 256
+    → sumItems hot (take (n + 1) (putIn bySpread noItem h n x)) ≡ hot x + sumItems hot (take n h)
+hot-put h n x long l =
+    ap (λ (m : ℕ). sumItems hot (take m (putIn bySpread noItem h n x))) (next n)
+    ∙ put-in-sum bySpread noItem h n x (omega arith) hot
   where
     next : (n : ℕ) → n + 1 ≡ suc n
     next n = omega arith
 
 -- one round less is needed after a round of a box that is to be cut
-pub need-less : (g : Grid) (v : View) (k : ℕ) → k ≤ 256 → (h : Room Bounds) (n : ℕ) → InUse h n → n < k
-    → goesOn (item noItem h 0 .spread) ≡ true → suc (need k (roundRoom g v h n) (roundUsed g v h n)) ≤ need k h n
+pub need-less : (g : Grid) (v : View) (k : ℕ) → k ≤ 256 → (h : List BoxSpread) (n : ℕ) → InUse h n → n < k
+    → aboveZero (item noItem h 0 .spread) ≡ true → suc (need k (roundRoom g v h n) (roundBoxes g v h n)) ≤ need k h n
 unfolding hot
 need-less g v k most h n u l on =
     round-cases g v h n (λ r m. suc (need k r m) ≤ need k h n)
     (λ off. absurd (clash on off))
-    (λ yes none. above (need-high k (putIn noItem rest (n - 1) (spent (top .box))) (n - 1 + 1) _ (λ m. omega (arith, before, hot-put rest (n - 1) (spent (top .box)) (left-long u) (omega arith), hot-spent (top .box)))))
+    (λ yes none.
+    above (need-high k (putIn bySpread noItem rest (n - 1) (withZero (top .bounds))) (n - 1 + 1) _
+    (λ m. omega (
+      arith,
+      before,
+      hot-put rest (n - 1) (withZero (top .bounds)) (left-long u) (omega arith),
+      hot-zero
+          (top .bounds),
+    ))))
     (λ d i s yes q.
-    let low = itself g v (lowSide (top .box) d i) in
-    let high = itself g v (highSide (top .box) d i) in
-    let put = putIn noItem rest (n - 1) low in
-    let put-long : length put ≡ 256 = put-in-long noItem rest (n - 1) low (omega (arith, left-long u)) ∙ left-long u in
-    let last : sumItems hot (take (n - 1 + 2) (putIn noItem put (n - 1 + 1) high)) ≡ hot high + sumItems hot (take (n - 1 + 1) put) =
-    ap (λ (m : ℕ). sumItems hot (take m (putIn noItem put (n - 1 + 1) high))) (sym (two-more (n - 1))) ∙ hot-put put (n - 1 + 1) high put-long (omega arith) in
-    above (need-high k (putIn noItem put (n - 1 + 1) high) (n - 1 + 2) _ (λ m. omega (arith, before, last, hot-put rest (n - 1) low (left-long u) (omega arith), hot-high low, hot-high high))))
+    let low = withSpread g v (lowSide (top .bounds) d i) in
+    let high = withSpread g v (highSide (top .bounds) d i) in
+    let put = putIn bySpread noItem rest (n - 1) low in
+    let put-long : length put ≡ 256 = put-in-long bySpread noItem rest (n - 1) low (omega (arith, left-long u))
+    ∙ left-long u in
+    let last : sumItems hot (take (n - 1 + 2) (putIn bySpread noItem put (n - 1 + 1) high))
+    ≡ hot high + sumItems hot (take (n - 1 + 1) put) =
+    ap (λ (m : ℕ). sumItems hot (take m (putIn bySpread noItem put (n - 1 + 1) high))) (sym (two-more (n - 1)))
+    ∙ hot-put put (n - 1 + 1) high put-long (omega arith) in
+    above (need-high k (putIn bySpread noItem put (n - 1 + 1) high) (n - 1 + 2) _
+    (λ m. omega
+    (arith, before, last, hot-put rest (n - 1) low (left-long u) (omega arith), hot-high low, hot-high high))))
   where
-    top : Item Bounds
+    top : BoxSpread
     top = item noItem h 0
 
-    rest : Room Bounds
-    rest = takeOut noItem h n
+    rest : List BoxSpread
+    rest = takeOut bySpread noItem h n
 
     clash : {b : Bool} → b ≡ true → b ≡ false → ⊥
     clash p q = true≢false (sym p ∙ q)
@@ -111,32 +131,45 @@ need-less g v k most h n u l on =
     top-hot = ap (λ (b : Bool). cond b 1 0) on
 
     before : 1 + sumItems hot (take (n - 1) rest) ≡ sumItems hot (take n h)
-    before = ap (λ (m : ℕ). m + sumItems hot (take (n - 1) rest)) (sym top-hot) ∙ take-out-sum noItem h n (u .some) (omega (arith, u .long, u .most)) hot
+    before =
+        ap (λ (m : ℕ). m + sumItems hot (take (n - 1) rest)) (sym top-hot)
+        ∙ take-out-sum bySpread noItem h n (u .some) (omega (arith, u .long, u .most)) hot
 
     above : {m : ℕ} → m ≤ 2 * (k - 1 - n) + sumItems hot (take n h) → suc m ≤ need k h n
     above {m} p = omega (arith, need-is k h n l)
 
 -- ---- more rounds than are needed change nothing
 module _ (g : Grid) (v : View) (k : ℕ) (most : k ≤ 256) where
-  pub stable : (f e : ℕ) (h : Heap) → InUse (h .room) (h .used) → need k (h .room) (h .used) ≤ f → need k (h .room) (h .used) ≤ e → rounds f g v k h ≡ rounds e g v k h
+  pub stable : (f e : ℕ) (h : Heap) → InUse (h .room) (h .boxes) → need k (h .room) (h .boxes) ≤ f
+      → need k (h .room) (h .boxes) ≤ e → rounds f g v k h ≡ rounds e g v k h
   unfolding round
   stable zero zero h u p q = refl
-  stable zero (suc e) h u p q = rounds-full g v k h zero (need-none k (h .room) (h .used) p) ∙ sym (rounds-full g v k h (suc e) (need-none k (h .room) (h .used) p))
-  stable (suc f) zero h u p q = rounds-full g v k h (suc f) (need-none k (h .room) (h .used) q) ∙ sym (rounds-full g v k h zero (need-none k (h .room) (h .used) q))
+  stable zero (suc e) h u p q =
+      rounds-full g v k h zero (need-none k (h .room) (h .boxes) p)
+      ∙ sym (rounds-full g v k h (suc e) (need-none k (h .room) (h .boxes) p))
+  stable (suc f) zero h u p q =
+      rounds-full g v k h (suc f) (need-none k (h .room) (h .boxes) q)
+      ∙ sym (rounds-full g v k h zero (need-none k (h .room) (h .boxes) q))
   stable (suc f) (suc e) h u p q =
-      go (decLe k (h .used)) (goesOn (item noItem (h .room) 0 .spread)) refl
-      (λ l on. stable f e (round g v h) (in-use-round g v u (omega arith)) (omega (arith, need-less g v k most (h .room) (h .used) u l on)) (omega (arith, need-less g v k most (h .room) (h .used) u l on)))
+      go (decLe k (h .boxes)) (aboveZero (item noItem (h .room) 0 .spread)) refl
+      (λ l on. stable f e (round g v h) (in-use-round g v u (omega arith))
+      (omega (arith, need-less g v k most (h .room) (h .boxes) u l on))
+      (omega (arith, need-less g v k most (h .room) (h .boxes) u l on)))
     where
-      go : Dec (k ≤ h .used) → (b : Bool) → goesOn (item noItem (h .room) 0 .spread) ≡ b
-          → (h .used < k → goesOn (item noItem (h .room) 0 .spread) ≡ true → rounds f g v k (round g v h) ≡ rounds e g v k (round g v h))
+      go : Dec (k ≤ h .boxes) → (b : Bool) → aboveZero (item noItem (h .room) 0 .spread) ≡ b
+          → (h .boxes < k → aboveZero (item noItem (h .room) 0 .spread) ≡ true
+          → rounds f g v k (round g v h) ≡ rounds e g v k (round g v h))
           → rounds (suc f) g v k h ≡ rounds (suc e) g v k h
       go (yes l) b t after = rounds-full g v k h (suc f) l ∙ sym (rounds-full g v k h (suc e) l)
-      go (no l) true t after = rounds-on g v k h f (lt-of-not-le l) t ∙ after (lt-of-not-le l) t ∙ sym (rounds-on g v k h e (lt-of-not-le l) t)
-      go (no l) false t after = rounds-stop g v k h f (lt-of-not-le l) t ∙ sym (rounds-stop g v k h e (lt-of-not-le l) t)
+      go (no l) true t after =
+          rounds-on g v k h f (lt-of-not-le l) t ∙ after (lt-of-not-le l) t
+          ∙ sym (rounds-on g v k h e (lt-of-not-le l) t)
+      go (no l) false t after =
+          rounds-stop g v k h f (lt-of-not-le l) t ∙ sym (rounds-stop g v k h e (lt-of-not-le l) t)
 
 -- ---- the start
 start-hot : (g : Grid) → sumItems hot (take 1 (startRoom g)) ≡ 1
-unfolding startRoom sumItems hot goesOn lt eq
+unfolding startRoom sumItems hot aboveZero lt eq
 start-hot g = refl
 
 pub start-need : (g : Grid) (k : ℕ) → need k (startRoom g) 1 ≤ 2 * k - 2
@@ -145,37 +178,38 @@ start-need g k = need-high k (startRoom g) 1 (2 * k - 2) (λ m. omega (arith, st
 -- 2·k − 2 rounds are enough
 pub enough : (g : Grid) (v : View) (k f : ℕ) → k ≤ 256 → 2 * k - 2 ≤ f → rounds f g v k (start g) ≡ heapOf g v k
 unfolding start heapOf
-enough g v k f m h = stable g v k m f (2 * k) (start g) (start-in-use g) (le-trans (start-need g k) h) (omega (arith, start-need g k))
+enough g v k f m h =
+    stable g v k m f (2 * k) (start g) (start-in-use g) (le-trans (start-need g k) h) (omega (arith, start-need g k))
 
 -- ---- what is still to come, from a room with n places in use: it gives the heap at the end
-pub record ToCome (g : Grid) (v : View) (k : ℕ) (h : Room Bounds) (n : ℕ) : Type 0 where
+pub record ToCome (g : Grid) (v : View) (k : ℕ) (h : List BoxSpread) (n : ℕ) : Type 0 where
   pub so-far : ℕ
   pub left : ℕ
   pub covers : need k h n ≤ left
-  pub gives : rounds left g v k (record { room = h; used = n; rounds = so-far }) ≡ heapOf g v k
+  pub gives : rounds left g v k (record { room = h; boxes = n; rounds = so-far }) ≡ heapOf g v k
 
 -- the heap at the end
-pub record AtEnd (g : Grid) (v : View) (k : ℕ) (h : Room Bounds) (n : ℕ) : Type 0 where
+pub record AtEnd (g : Grid) (v : View) (k : ℕ) (h : List BoxSpread) (n : ℕ) : Type 0 where
   pub room : h ≡ heapOf g v k .room
-  pub used : n ≡ heapOf g v k .used
+  pub boxes : n ≡ heapOf g v k .boxes
 
-at-end : {g : Grid} {v : View} {k : ℕ} {h : Heap} → h ≡ heapOf g v k → AtEnd g v k (h .room) (h .used)
-at-end e = record { room = ap (λ (h : Heap). h .room) e; used = ap (λ (h : Heap). h .used) e }
+at-end : {g : Grid} {v : View} {k : ℕ} {h : Heap} → h ≡ heapOf g v k → AtEnd g v k (h .room) (h .boxes)
+at-end e = record { room = ap (λ (h : Heap). h .room) e; boxes = ap (λ (h : Heap). h .boxes) e }
 
 module _ {g : Grid} {v : View} {k : ℕ} where
-  pub come-start : {h : Room Bounds} → h ≡ startRoom g → ToCome g v k h 1
+  pub come-start : {h : List BoxSpread} → h ≡ startRoom g → ToCome g v k h 1
   unfolding heapOf start
   come-start e =
       record {
         so-far = 0;
         left = 2 * k;
         covers = rw e (omega (arith, start-need g k));
-        gives = λ i. rounds (2 * k) g v k (record { room = e i; used = 1; rounds = 0 });
+        gives = λ i. rounds (2 * k) g v k (record { room = e i; boxes = 1; rounds = 0 });
       }
 
-  module _ {h : Room Bounds} {n : ℕ} (c : ToCome g v k h n) where
+  module _ {h : List BoxSpread} {n : ℕ} (c : ToCome g v k h n) where
     here : Heap
-    here = record { room = h; used = n; rounds = c .so-far }
+    here = record { room = h; boxes = n; rounds = c .so-far }
 
     -- k boxes
     pub come-full : k ≤ n → AtEnd g v k h n
@@ -184,7 +218,7 @@ module _ {g : Grid} {v : View} {k : ℕ} where
 
     module _ (l : n < k) where
       -- the last round
-      pub come-stop : goesOn (item noItem h 0 .spread) ≡ false → AtEnd g v k (roundRoom g v h n) (roundUsed g v h n)
+      pub come-stop : aboveZero (item noItem h 0 .spread) ≡ false → AtEnd g v k (roundRoom g v h n) (roundBoxes g v h n)
       unfolding here round
       come-stop off = at-end (go (c .left) (c .covers) (c .gives))
         where
@@ -193,11 +227,13 @@ module _ {g : Grid} {v : View} {k : ℕ} where
           go (suc f) m e = sym (rounds-stop g v k here f l off) ∙ e
 
       -- one of others
-      pub come-round : k ≤ 256 → InUse h n → goesOn (item noItem h 0 .spread) ≡ true → ToCome g v k (roundRoom g v h n) (roundUsed g v h n)
+      pub come-round : k ≤ 256 → InUse h n → aboveZero (item noItem h 0 .spread) ≡ true
+          → ToCome g v k (roundRoom g v h n) (roundBoxes g v h n)
       unfolding here round
       come-round most u on = go (c .left) (c .covers) (c .gives)
         where
-          go : (f : ℕ) → need k h n ≤ f → rounds f g v k here ≡ heapOf g v k → ToCome g v k (roundRoom g v h n) (roundUsed g v h n)
+          go : (f : ℕ) → need k h n ≤ f → rounds f g v k here ≡ heapOf g v k
+              → ToCome g v k (roundRoom g v h n) (roundBoxes g v h n)
           go zero m e = absurd (omega (arith, need-is k h n l))
           go (suc f) m e =
               record {

@@ -11,23 +11,23 @@ use borrow.Author.Tests.{lt-ltb, le-ltb}
 use lib.Dec.{ltb}
 use lib.ListN.{length, getD, set, replicate, length-set, length-replicate, getD-replicate}
 use lib.Seq.{getD-set-same, getD-set-other}
-use Rattle.grid.proofs.Range.{list-is}
-use Rattle.sums.specs.declared.Bounds.{Bounds}
-use Rattle.heap.specs.Heap.{Room, item}
-use Rattle.rounds.specs.declared.BoxSpread.{BoxSpread}
-use Rattle.rounds.specs.Loop.{noBox, noItem, spent, boxSpread, placesOf}
+use Rattle.basics.proofs.Range.{list-is}
+use Rattle.heap.specs.Heap.{item}
+use Rattle.rounds.specs.declared.gather.BoxSpread.{BoxSpread}
+use Rattle.boxes.specs.Box.{noBox}
+use Rattle.rounds.specs.Loop.{noItem, withZero, placesOf}
 
 -- a place without a box
 abbrev pub noPlace : BoxSpread
-noPlace = boxSpread (spent noBox)
+noPlace = withZero noBox
 
 -- 256 places, of which the first n have their boxes
-pub record Gathered (h : Room Bounds) (n : ℕ) (places : List BoxSpread) : Type 0 where
+pub record Gathered (h : List BoxSpread) (n : ℕ) (places : List BoxSpread) : Type 0 where
   pub long : length places ≡ 256
-  pub front : (p : ℕ) → p < n → getD places p noPlace ≡ boxSpread (item noItem h p)
+  pub front : (p : ℕ) → p < n → getD places p noPlace ≡ item noItem h p
   pub rest : (p : ℕ) → n ≤ p → p < 256 → getD places p noPlace ≡ noPlace
 
-pub gathered-none : (h : Room Bounds) {x : BoxSpread} → x ≡ noPlace → Gathered h 0 (replicate 256 x)
+pub gathered-none : (h : List BoxSpread) {x : BoxSpread} → x ≡ noPlace → Gathered h 0 (replicate 256 x)
 gathered-none h {x} e =
     record {
       long = length-replicate 256 x;
@@ -35,7 +35,8 @@ gathered-none h {x} e =
       rest = λ p l m. getD-replicate 256 p x noPlace m ∙ e;
     }
 
-pub gathered-more : {h : Room Bounds} {n : ℕ} {places : List BoxSpread} → Gathered h n places → n < 256 → {x : BoxSpread} → x ≡ boxSpread (item noItem h n) → Gathered h (n + 1) (set places n x)
+pub gathered-more : {h : List BoxSpread} {n : ℕ} {places : List BoxSpread} → Gathered h n places → n < 256
+    → {x : BoxSpread} → x ≡ item noItem h n → Gathered h (n + 1) (set places n x)
 gathered-more {h} {n} {places} g l {x} e =
     record {
       long = length-set places n x ∙ g .long;
@@ -43,13 +44,19 @@ gathered-more {h} {n} {places} g l {x} e =
       rest = λ p m k. getD-set-other places n p x noPlace (omega arith) ∙ g .rest p (omega arith) k;
     }
   where
-    at : (p : ℕ) → p < n + 1 → Dec (p ≡ n) → getD (set places n x) p noPlace ≡ boxSpread (item noItem h p)
+    at : (p : ℕ) → p < n + 1 → Dec (p ≡ n) → getD (set places n x) p noPlace ≡ item noItem h p
     at p m (yes q) = rw q (getD-set-same places n x noPlace (omega (arith, g .long)) ∙ e)
     at p m (no q) = getD-set-other places n p x noPlace q ∙ g .front p (omega arith)
 
-pub gathered-is : {h : Room Bounds} {n : ℕ} {places : List BoxSpread} → Gathered h n places → places ≡ placesOf h n
+pub gathered-is : {h : List BoxSpread} {n : ℕ} {places : List BoxSpread} → Gathered h n places → places ≡ placesOf h n
 unfolding placesOf
-gathered-is {h} {n} {places} g = list-is 256 (λ i. boxSpread (cond (ltb i n) (item noItem h i) (spent noBox))) places noPlace (g .long) at
+gathered-is {h} {n} {places} g =
+    list-is 256 (λ i. cond (ltb i n) (item noItem h i) (withZero noBox)) places noPlace (g .long) at
   where
-    at : (p : ℕ) → p < 256 → getD places p noPlace ≡ boxSpread (cond (ltb p n) (item noItem h p) (spent noBox))
-    at p l = elim (decLe n p) [ yes m ↦ rw (le-ltb p n m) (g .rest p m l) | no m ↦ rw (lt-ltb p n (lt-of-not-le m)) (g .front p (lt-of-not-le m)) ]
+    at : (p : ℕ) → p < 256 → getD places p noPlace ≡ cond (ltb p n) (item noItem h p) (withZero noBox)
+    at p l =
+        elim (decLe n p) [
+          | yes m ↦ rw (le-ltb p n m) (g .rest p m l)
+          | no m ↦ rw (lt-ltb p n (lt-of-not-le m))
+              (g .front p (lt-of-not-le m))
+        ]

@@ -1,5 +1,5 @@
 pub mod Packing
-pub mod Turning
+pub mod OneRound
 pub mod Grids
 pub mod Filled
 pub mod Fuel

@@ -1,2 +1,2 @@
-pub mod Pack
 pub mod Loop
+pub mod Inner

@@ -9,25 +9,28 @@ use borrow.Author.Tests.{le-leb, lt-leb, leb-true, not-false}
 use lib.Dec.{eqb, leb}
 use lib.ListN.{length}
 use lib.Ieee.{Float}
-use Rattle.grid.specs.declared.Grid.{Grid}
-use Rattle.grid.specs.declared.Chosen.{Chosen}
-use Rattle.grid.specs.declared.Chosen.the-variants as chosen
-use Rattle.grid.specs.Answer.{refuse, whenDone}
+use Rattle.grid.specs.declared.place.Grid.{Grid}
+use Rattle.grid.specs.declared.place.Chosen.{Chosen}
+use Rattle.grid.specs.declared.place.Chosen.the-variants as chosen
+use Rattle.basics.specs.Answer.{refuse, whenDone}
 use Rattle.grid.specs.Grid.{gridOf, gridAnswer, onGrid, numberOn, binsOf}
 use Rattle.grid.proofs.Places.{chose, bins-high}
-use Rattle.grid.proofs.Range.{and-left, and-right}
-use Rattle.grid.proofs.Ends.{passed}
-use Rattle.table.specs.Cell.{wide}
+use Rattle.basics.proofs.Range.{and-left, and-right}
+use Rattle.basics.proofs.Ends.{passed}
+use Rattle.table.specs.Table.{tableLen, viewOf}
 use Rattle.table.specs.Sound.{limit, total, sound, unsoundNumber}
-use Rattle.cutter.specs.declared.CutRecord.{CutRecord}
+use Rattle.cutter.specs.declared.call.CutRecord.{CutRecord}
 use Rattle.cutter.specs.Fronts.{filled}
-use Rattle.cutter.specs.Cut.{Buffers, lengthsOf, longEnough, cutNumberOn, cutNumber, refusedRecord, cutRecord, cutLater}
+use Rattle.cutter.specs.Cut.{lengthsRight, Buffers, lengthsOf, longEnough, cutNumberOn, cutNumber, refusedRecord}
+use Rattle.cutter.specs.Cut.{cutRecord, cutLater}
 use Rattle.cutter.proofs.Fronts.{filled-none}
 use Rattle.cutter.proofs.Laws.{record-number, cut-refuses}
-use Rattle.seluvava.specs.declared.CutAnswer.{CutAnswer}
-use Rattle.seluvava.specs.Sizes.{binsFor}
+use Rattle.seluvava.specs.declared.cut.CutAnswer.{CutAnswer}
+use Rattle.seluvava.specs.Sizes.{binsFor, tableLenFor}
 use Rattle.seluvava.proofs.Boxes.{six, one}
-use Rattle.seluvava.specs.Cut.{Lent, lent, hasRoom, allLong, callNumberOn, callNumber, cutAnswer, boxBytes, spreadOf, told, callLater, roomOn, roomNumber}
+use Rattle.seluvava.specs.Cut.{Lent, lent, hasRoom, allLong, callNumberOn, callNumber, cutAnswer, itsBytes}
+use Rattle.seluvava.specs.Cut.{spreadOf, told, callLater}
+use Rattle.seluvava.specs.Inner.{roomOn, roomNumber}
 
 module _ (b1 b2 b3 : ℕ) where
   -- ---- sizes
@@ -35,17 +38,17 @@ module _ (b1 b2 b3 : ℕ) where
   unfolding binsFor onGrid
   bins-refused e = rw e refl
 
-  pub bins-on : {g : Grid} → gridOf b1 b2 b3 ≡ chosen.Of g → binsFor b1 b2 b3 ≡ binsOf g
+  pub bins-on : {g : Grid} → gridOf b1 b2 b3 ≡ chosen.Accepted g → binsFor b1 b2 b3 ≡ binsOf g
   unfolding binsFor onGrid
   bins-on e = rw e refl
 
-  pub bins-small : binsFor b1 b2 b3 ≤ 2097152
-  unfolding binsFor onGrid
-  bins-small = go (gridOf b1 b2 b3) refl
-    where
-      go : (c : Chosen) → gridOf b1 b2 b3 ≡ c → onGrid c 0 binsOf ≤ 2097152
-      go (chosen.Of g) e = bins-high (chose b1 b2 b3 g e .accepted)
-      go chosen.Refused e = omega arith
+  pub len-refused : gridOf b1 b2 b3 ≡ chosen.Refused → tableLenFor b1 b2 b3 ≡ 0
+  unfolding tableLenFor onGrid
+  len-refused e = rw e refl
+
+  pub len-on : {g : Grid} → gridOf b1 b2 b3 ≡ chosen.Accepted g → tableLenFor b1 b2 b3 ≡ tableLen (binsOf g)
+  unfolding tableLenFor onGrid
+  len-on e = rw e refl
 
   -- ---- the room for the boxes
   module _ (k boxes spreads : ℕ) where
@@ -53,7 +56,8 @@ module _ (b1 b2 b3 : ℕ) where
     unfolding roomNumber numberOn onGrid gridAnswer
     room-refused e = rw e refl
 
-    pub room-on : {g : Grid} → gridOf b1 b2 b3 ≡ chosen.Of g → roomNumber b1 b2 b3 k boxes spreads ≡ roomOn k boxes spreads
+    pub room-on : {g : Grid} → gridOf b1 b2 b3 ≡ chosen.Accepted g
+        → roomNumber b1 b2 b3 k boxes spreads ≡ roomOn k boxes spreads
     unfolding roomNumber numberOn onGrid
     room-on e = rw e refl
 
@@ -108,7 +112,7 @@ roomy b1 b2 b3 k boxes spreads = go (gridOf b1 b2 b3)
     never q = omega arith
 
     go : (c : Chosen) → onGrid c (gridAnswer c .number) (λ g. roomOn k boxes spreads) ≡ 0 → Roomy k boxes spreads
-    go (chosen.Of g) e = roomy-on k boxes spreads e
+    go (chosen.Accepted g) e = roomy-on k boxes spreads e
     go chosen.Refused e = absurd (never e)
 
 -- ---- the call: what it answers, and what it leaves behind
@@ -119,7 +123,10 @@ abbrev answer-of : CutRecord → CutAnswer
 answer-of r = told-of (r .number) (r .boxes)
 
 -- 2, and 5 for any of the lengths: those of one kind may be asked for before the others
-stages : (size long room : Bool) (rest : ℕ) → refuse (not size) 2 (refuse (not (long && room)) 5 rest) ≡ whenDone (refuse (not size) 2 (refuse (not room) 5 0)) (refuse (not size) 2 (refuse (not long) 5 rest)) (refuse (not size) 2 (refuse (not room) 5 0))
+stages : (size long room : Bool) (rest : ℕ)
+    → refuse (not size) 2 (refuse (not (long && room)) 5 rest)
+    ≡ whenDone (refuse (not size) 2 (refuse (not room) 5 0)) (refuse (not size) 2 (refuse (not long) 5 rest))
+    (refuse (not size) 2 (refuse (not room) 5 0))
 unfolding refuse whenDone
 stages false long room rest = refl
 stages true true true rest = refl
@@ -136,10 +143,15 @@ module _ (b1 b2 b3 k : ℕ) (t : List ℕ) (l : Lent) where
   unfolding callNumber callNumberOn allLong cutNumber cutNumberOn roomNumber roomOn numberOn onGrid gridAnswer whenDone
   in-stages = go (gridOf b1 b2 b3)
     where
-      go : (c : Chosen) → numberOn c (λ g. callNumberOn g k t l) ≡ whenDone (numberOn c (λ g. roomOn k (length (l .boxes)) (length (l .spreads)))) (numberOn c (λ g. cutNumberOn limit g k t (lengthsOf (l .buffers)))) (numberOn c (λ g. roomOn k (length (l .boxes)) (length (l .spreads))))
-      go (chosen.Of g) =
-          stages (leb 1 k && leb k 256) (longEnough g k (length t) (lengthsOf (l .buffers))) (hasRoom k (length (l .boxes)) (length (l .spreads)))
-          (refuse (not (sound limit g (wide t))) unsoundNumber (refuse (eqb (total g (wide t)) 0) 8 0))
+      go : (c : Chosen)
+          → numberOn c (λ g. callNumberOn g k t l)
+          ≡ whenDone (numberOn c (λ g. roomOn k (length (l .boxes)) (length (l .spreads))))
+          (numberOn c (λ g. cutNumberOn limit g k (lengthsRight g k t (l .buffers)) (viewOf t)))
+          (numberOn c (λ g. roomOn k (length (l .boxes)) (length (l .spreads))))
+      go (chosen.Accepted g) =
+          stages (leb 1 k && leb k 256) (longEnough g k (length t) (lengthsOf (l .buffers)))
+          (hasRoom k (length (l .boxes)) (length (l .spreads)))
+          (refuse (not (sound limit g (viewOf t))) unsoundNumber (refuse (eqb (total g (viewOf t)) 0) 8 0))
       go chosen.Refused = refl
 
   abbrev Ends : CutAnswer → Lent → Type 0
@@ -147,19 +159,22 @@ module _ (b1 b2 b3 k : ℕ) (t : List ℕ) (l : Lent) where
 
   -- the boxes of a record written out, beside its buffers
   abbrev written : CutRecord → Buffers → Lent
-  written r b = lent b (filled 6 boxBytes (told r) (l .boxes)) (filled 1 spreadOf (told r) (l .spreads))
+  written r b = lent b (filled 6 itsBytes (told r) (l .boxes)) (filled 1 spreadOf (told r) (l .spreads))
 
   -- what a cut with room leaves behind
   abbrev cut : Lent
   cut = written (cutRecord b1 b2 b3 k t (l .buffers)) (cutLater b1 b2 b3 k t (l .buffers))
 
   -- "A refusal .. writes nothing", and tells of no box
-  pub call-kept : {n : ℕ} → callNumber b1 b2 b3 k t l ≡ suc n → (cutAnswer b1 b2 b3 k t l ≡ told-of (suc n) 0) × (callLater b1 b2 b3 k t l ≡ l)
+  pub call-kept : {n : ℕ} → callNumber b1 b2 b3 k t l ≡ suc n
+      → (cutAnswer b1 b2 b3 k t l ≡ told-of (suc n) 0) × (callLater b1 b2 b3 k t l ≡ l)
   unfolding cutAnswer callLater whenDone
   call-kept e = (rw e refl, rw e refl)
 
   -- and a call that is done has the boxes of the record
-  pub call-has : callNumber b1 b2 b3 k t l ≡ 0 → (cutAnswer b1 b2 b3 k t l ≡ told-of 0 (cutRecord b1 b2 b3 k t (l .buffers) .boxes)) × (callLater b1 b2 b3 k t l ≡ cut)
+  pub call-has : callNumber b1 b2 b3 k t l ≡ 0
+      → (cutAnswer b1 b2 b3 k t l ≡ told-of 0 (cutRecord b1 b2 b3 k t (l .buffers) .boxes))
+      × (callLater b1 b2 b3 k t l ≡ cut)
   unfolding cutAnswer callLater whenDone
   call-has e = (rw e refl, rw e refl)
 
@@ -176,27 +191,39 @@ module _ (b1 b2 b3 k : ℕ) (t : List ℕ) (l : Lent) where
             (ap (λ (i : ℕ). told-of i 0) z ∙ sym (kept .0), sym (kept .1))
 
     -- where there is room: the cut's number, and its boxes written out
-    cut-ends : n ≡ 0 → Ends (told-of (cutRecord b1 b2 b3 k t (l .buffers) .number) (cutRecord b1 b2 b3 k t (l .buffers) .boxes)) cut
+    cut-ends : n ≡ 0
+        → Ends (told-of (cutRecord b1 b2 b3 k t (l .buffers) .number) (cutRecord b1 b2 b3 k t (l .buffers) .boxes)) cut
     unfolding whenDone told refusedRecord
     cut-ends z = go (cutNumber b1 b2 b3 k t (l .buffers)) refl
       where
         same : callNumber b1 b2 b3 k t l ≡ cutNumber b1 b2 b3 k t (l .buffers)
         same = in-stages ∙ rw (← e, z) refl
 
-        go : (m : ℕ) → cutNumber b1 b2 b3 k t (l .buffers) ≡ m → Ends (told-of (cutRecord b1 b2 b3 k t (l .buffers) .number) (cutRecord b1 b2 b3 k t (l .buffers) .boxes)) cut
+        go : (m : ℕ) → cutNumber b1 b2 b3 k t (l .buffers) ≡ m
+            → Ends (told-of (cutRecord b1 b2 b3 k t (l .buffers) .number) (cutRecord b1 b2 b3 k t (l .buffers) .boxes))
+            cut
         go zero q =
-            let has = call-has (same ∙ q) in
-            (ap (λ (i : ℕ). told-of i (cutRecord b1 b2 b3 k t (l .buffers) .boxes)) (record-number b1 b2 b3 k t (l .buffers) ∙ q) ∙ sym (has .0), sym (has .1))
+            let has = call-has (same ∙ q) in (
+              ap (λ (i : ℕ). told-of i (cutRecord b1 b2 b3 k t (l .buffers) .boxes))
+                  (record-number b1 b2 b3 k t (l .buffers) ∙ q) ∙ sym (has .0),
+              sym (has .1),
+            )
         go (suc m) q =
             let kept = call-kept {n = m} (same ∙ q) in
             let none = cut-refuses b1 b2 b3 k t (l .buffers) q in (
               ap answer-of (none .0) ∙ sym (kept .0),
-              (λ i. written (none .0 i) (none .1 i)) ∙ (λ i. lent (l .buffers) (filled-none 6 boxBytes six (l .boxes) i) (filled-none 1 spreadOf one (l .spreads) i)) ∙ sym (kept .1),
+              (λ i. written (none .0 i) (none .1 i))
+                  ∙ (λ i. lent (l .buffers) (filled-none 6 itsBytes six (l .boxes) i)
+                  (filled-none 1 spreadOf one (l .spreads) i)) ∙ sym (kept .1),
             )
 
-    pub call-done : n ≡ 0 → {r : CutRecord} → r ≡ cutRecord b1 b2 b3 k t (l .buffers) → {b : Buffers} {boxes : List ℕ} {spreads : List Float} → b ≡ cutLater b1 b2 b3 k t (l .buffers) → boxes ≡ filled 6 boxBytes (told r) (l .boxes) → spreads ≡ filled 1 spreadOf (told r) (l .spreads) → Ends (answer-of r) (lent b boxes spreads)
+    pub call-done : n ≡ 0 → {r : CutRecord} → r ≡ cutRecord b1 b2 b3 k t (l .buffers)
+        → {b : Buffers} {boxes : List ℕ} {spreads : List Float} → b ≡ cutLater b1 b2 b3 k t (l .buffers)
+        → boxes ≡ filled 6 itsBytes (told r) (l .boxes) → spreads ≡ filled 1 spreadOf (told r) (l .spreads)
+        → Ends (answer-of r) (lent b boxes spreads)
     call-done z q later p s =
         let ends = cut-ends z in (
           ap answer-of q ∙ ends .0,
-          (λ i. lent (later i) (p i) (s i)) ∙ ap (λ (r : CutRecord). written r (cutLater b1 b2 b3 k t (l .buffers))) q ∙ ends .1,
+          (λ i. lent (later i) (p i) (s i)) ∙ ap (λ (r : CutRecord). written r (cutLater b1 b2 b3 k t (l .buffers))) q
+              ∙ ends .1,
         )

@@ -1,20 +1,21 @@
 -- The call cut for C and Rust, which writes its boxes and their spreads into lent arrays. Definitions only.
-use mathlib.Core.Bool.{Bool, not, _&&_}
+use mathlib.Core.Bool.{Bool, _&&_}
 use mathlib.Core.List.{List, [], _∷_}
 use Prim.Native.Nat.{ℕ, _*_}
-use lib.Dec.{eqb, leb}
+use lib.Dec.{leb}
 use lib.ListN.{length, take}
 use lib.Ieee.{Float}
-use Rattle.grid.specs.declared.Grid.{Grid}
-use Rattle.grid.specs.Answer.{refuse, whenDone}
+use Rattle.grid.specs.declared.place.Grid.{Grid}
+use Rattle.basics.specs.Answer.{whenDone}
 use Rattle.grid.specs.Grid.{gridOf, numberOn}
-use Rattle.table.specs.Cell.{wide}
-use Rattle.table.specs.Sound.{limit, total, sound, unsoundNumber}
-use Rattle.rounds.specs.declared.BoxSpread.{BoxSpread}
-use Rattle.cutter.specs.declared.CutRecord.{CutRecord}
-use Rattle.cutter.specs.Fronts.{filled, putFrom}
-use Rattle.cutter.specs.Cut.{Buffers, lengthsOf, longEnough, cutRecord, cutLater}
-use Rattle.seluvava.specs.declared.CutAnswer.{CutAnswer}
+use Rattle.table.specs.Table.{Table, viewOf}
+use Rattle.table.specs.Sound.{limit}
+use Rattle.boxes.specs.Bytes.{boxBytes}
+use Rattle.rounds.specs.declared.gather.BoxSpread.{BoxSpread}
+use Rattle.cutter.specs.declared.call.CutRecord.{CutRecord}
+use Rattle.cutter.specs.Fronts.{filled}
+use Rattle.cutter.specs.Cut.{Buffers, lengthsOf, longEnough, cutNumberOn, cutRecord, cutLater}
+use Rattle.seluvava.specs.declared.cut.CutAnswer.{CutAnswer}
 
 -- what is lent to be written
 pub record Lent : Type 0 where
@@ -31,29 +32,26 @@ hasRoom k boxes spreads = leb (6 * k) boxes && leb k spreads
 
 -- no "lent length is wrong": those that every cut is lent are right, and there is room for the boxes
 unfoldable pub allLong : Grid → ℕ → ℕ → Lent → Bool
-allLong g k table l = longEnough g k table (lengthsOf (l .buffers)) && hasRoom k (length (l .boxes)) (length (l .spreads))
+allLong g k table l =
+    longEnough g k table (lengthsOf (l .buffers)) && hasRoom k (length (l .boxes)) (length (l .spreads))
 
--- the number of the call on an accepted grid
-unfoldable pub callNumberOn : Grid → ℕ → List ℕ → Lent → ℕ
-callNumberOn g k t l =
-    refuse (not (leb 1 k && leb k 256)) 2
-    (refuse (not (allLong g k (length t) l)) 5
-    (refuse (not (sound limit g (wide t))) unsoundNumber
-    (refuse (eqb (total g (wide t)) 0) 8 0)))
+-- the number of the call on an accepted grid: that of a cut, where 5 is any of its lengths
+unfoldable pub callNumberOn : Grid → ℕ → Table → Lent → ℕ
+callNumberOn g k t l = cutNumberOn limit g k (allLong g k (length t) l) (viewOf t)
 
-unfoldable pub callNumber : ℕ → ℕ → ℕ → ℕ → List ℕ → Lent → ℕ
+unfoldable pub callNumber : ℕ → ℕ → ℕ → ℕ → Table → Lent → ℕ
 callNumber b1 b2 b3 k t l = numberOn (gridOf b1 b2 b3) (λ g. callNumberOn g k t l)
 
 -- "A refusal returns its number and, from a cut, zero boxes"
-unfoldable pub cutAnswer : ℕ → ℕ → ℕ → ℕ → List ℕ → Lent → CutAnswer
+unfoldable pub cutAnswer : ℕ → ℕ → ℕ → ℕ → Table → Lent → CutAnswer
 cutAnswer b1 b2 b3 k t l =
     let n = callNumber b1 b2 b3 k t l in
     record { number = n; boxes = whenDone n (cutRecord b1 b2 b3 k t (l .buffers) .boxes) 0 }
 
 -- ---- what was lent, afterwards
--- the six bytes of a box: of each dimension where it begins, and where it ends
-unfoldable pub boxBytes : BoxSpread → List ℕ
-boxBytes x = x .r0 ∷ x .r1 ∷ x .g0 ∷ x .g1 ∷ x .b0 ∷ x .b1 ∷ []
+-- what a box gives the bytes, and what it gives the spreads
+unfoldable pub itsBytes : BoxSpread → List ℕ
+itsBytes x = boxBytes (x .bounds)
 
 unfoldable pub spreadOf : BoxSpread → List Float
 spreadOf x = x .spread ∷ []
@@ -63,24 +61,13 @@ unfoldable pub told : CutRecord → List BoxSpread
 told r = take (r .boxes) (r .places)
 
 -- "A refusal .. writes nothing"
-unfoldable pub callLater : ℕ → ℕ → ℕ → ℕ → List ℕ → Lent → Lent
+unfoldable pub callLater : ℕ → ℕ → ℕ → ℕ → Table → Lent → Lent
 callLater b1 b2 b3 k t l =
     let r = cutRecord b1 b2 b3 k t (l .buffers) in
     whenDone (callNumber b1 b2 b3 k t l)
     (record {
       buffers = cutLater b1 b2 b3 k t (l .buffers);
-      boxes = filled 6 boxBytes (told r) (l .boxes);
+      boxes = filled 6 itsBytes (told r) (l .boxes);
       spreads = filled 1 spreadOf (told r) (l .spreads);
     })
     l
-
--- ---- what the code asks first: 1, 2, and 5 where there is no room for the boxes
-unfoldable pub roomOn : ℕ → ℕ → ℕ → ℕ
-roomOn k boxes spreads = refuse (not (leb 1 k && leb k 256)) 2 (refuse (not (hasRoom k boxes spreads)) 5 0)
-
-unfoldable pub roomNumber : ℕ → ℕ → ℕ → ℕ → ℕ → ℕ → ℕ
-roomNumber b1 b2 b3 k boxes spreads = numberOn (gridOf b1 b2 b3) (λ g. roomOn k boxes spreads)
-
--- ---- one box
-unfoldable pub withBoxAt : List ℕ → ℕ → BoxSpread → List ℕ
-withBoxAt old i x = putFrom old (6 * i) (boxBytes x)

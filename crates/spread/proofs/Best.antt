@@ -1,5 +1,5 @@
--- What the best position says: it lies strictly inside the box and both sides have weight, and there is none exactly where no
--- position has weight on both sides.
+-- What the best position says: it lies strictly inside the box and both sides have weight, and there is none exactly
+-- where no position has weight on both sides.
 -- Assumes nothing.
 use mathlib.Core.Path.{_≡_, refl, sym, ap, _∙_}
 use mathlib.Core.Logic.{_⊎_, inl, inr, ⊎-elim}
@@ -12,15 +12,19 @@ use borrow.Author.Tests.{eq-eqb, ne-eqb}
 use lib.Arith.{lt-of-le-ne}
 use lib.Dec.{eqb}
 use lib.Ieee.{Float, lt}
-use Rattle.grid.specs.declared.Grid.{Grid}
-use Rattle.grid.specs.Grid.{choose, placeOf}
+use Rattle.grid.specs.declared.place.Grid.{Grid}
+use Rattle.basics.specs.Dimension.{choose}
+use Rattle.grid.specs.Grid.{placeOf}
 use Rattle.table.specs.Cell.{View}
-use Rattle.sums.specs.declared.Bounds.{Bounds}
-use Rattle.sums.specs.declared.Stats.{Stats}
-use Rattle.sums.specs.Box.{boxSum, statsOf, minAt, maxAt, lowSide, highSide, InBox}
-use Rattle.sums.proofs.Laws.{bins-empty, in-low, in-high, in-box}
-use Rattle.spread.specs.declared.Position.{Position}
-use Rattle.spread.specs.declared.Position.the-variants.{At, Nowhere}
+use Rattle.boxes.specs.declared.sides.Bounds.{Bounds}
+use Rattle.sums.specs.declared.box_sums.Stats.{Stats}
+use Rattle.sums.specs.Box.{boxSum, statsOf}
+use Rattle.boxes.specs.Box.{minAt, maxAt, lowSide, highSide}
+use Rattle.boxes.proofs.Within.{InBox}
+use Rattle.sums.proofs.Laws.{bins-empty}
+use Rattle.boxes.proofs.Within.{in-low, in-high, in-box}
+use Rattle.spread.specs.declared.position.Position.{Position}
+use Rattle.spread.specs.declared.position.Position.the-variants.{At, Nowhere}
 use Rattle.spread.specs.Spread.{scoreOf}
 use Rattle.spread.specs.Cut.{positionOf, positionAt, better, laterWins, bestRun, bestIn, bestCut}
 use Rattle.spread.specs.Best.{Split, Good}
@@ -45,9 +49,11 @@ module _ (g : Grid) (v : View) (x : Bounds) (d bin : ℕ) where
   unfolding positionAt positionOf statsOf
   not-split n = go (ℕ-discrete (boxSum g v (lowSide x d bin) 0) 0) (ℕ-discrete (boxSum g v (highSide x d bin) 0) 0)
     where
-      go : Dec (boxSum g v (lowSide x d bin) 0 ≡ 0) → Dec (boxSum g v (highSide x d bin) 0 ≡ 0) → positionAt g v x d bin ≡ Nowhere
+      go : Dec (boxSum g v (lowSide x d bin) 0 ≡ 0) → Dec (boxSum g v (highSide x d bin) 0 ≡ 0)
+          → positionAt g v x d bin ≡ Nowhere
       go (yes e) h = rw (eq-eqb (boxSum g v (lowSide x d bin) 0) 0 e) refl
-      go (no e) (yes h) = rw (ne-eqb (boxSum g v (lowSide x d bin) 0) 0 e, eq-eqb (boxSum g v (highSide x d bin) 0) 0 h) refl
+      go (no e) (yes h) =
+          rw (ne-eqb (boxSum g v (lowSide x d bin) 0) 0 e, eq-eqb (boxSum g v (highSide x d bin) 0) 0 h) refl
       go (no e) (no h) = absurd (n (record { low = e; high = h }))
 
   -- an answer has weight on both sides
@@ -55,16 +61,24 @@ module _ (g : Grid) (v : View) (x : Bounds) (d bin : ℕ) where
   unfolding positionAt positionOf statsOf
   split-of {e} {i} {s} q =
       record {
-        low = λ z. never (sym (ap (λ (t : Bool). cond t Nowhere (cond (eqb (boxSum g v (highSide x d bin) 0) 0) Nowhere (At d bin (scoreOf low high)))) (eq-eqb (boxSum g v (lowSide x d bin) 0) 0 z)) ∙ q);
+        low =
+            λ z. never (sym (ap (λ (t : Bool). cond t Nowhere
+            (cond (eqb (boxSum g v (highSide x d bin) 0) 0) Nowhere (At d bin (scoreOf low high))))
+            (eq-eqb (boxSum g v (lowSide x d bin) 0) 0 z)) ∙ q);
         high = λ z. never (sym (go (eqb (boxSum g v (lowSide x d bin) 0) 0) z) ∙ q);
       }
     where
-      go : (t : Bool) → boxSum g v (highSide x d bin) 0 ≡ 0 → cond t Nowhere (cond (eqb (boxSum g v (highSide x d bin) 0) 0) Nowhere (At d bin (scoreOf low high))) ≡ Nowhere
+      go : (t : Bool) → boxSum g v (highSide x d bin) 0 ≡ 0
+          → cond t Nowhere (cond (eqb (boxSum g v (highSide x d bin) 0) 0) Nowhere (At d bin (scoreOf low high)))
+          ≡ Nowhere
       go true z = refl
-      go false z = ap (λ (t : Bool). cond t Nowhere (At d bin (scoreOf low high))) (eq-eqb (boxSum g v (highSide x d bin) 0) 0 z)
+      go false z =
+          ap (λ (t : Bool). cond t Nowhere (At d bin (scoreOf low high)))
+          (eq-eqb (boxSum g v (highSide x d bin) 0) 0 z)
 
   -- an answer is this position, with its score
-  pub position-good : minAt x d < bin → bin < maxAt x d → {e i : ℕ} {s : Float} → positionAt g v x d bin ≡ At e i s → (e ≡ d) × (i ≡ bin) × Good g v x d bin s
+  pub position-good : minAt x d < bin → bin < maxAt x d → {e i : ℕ} {s : Float} → positionAt g v x d bin ≡ At e i s
+      → (e ≡ d) × (i ≡ bin) × Good g v x d bin s
   position-good h l {e} {i} {s} q =
       let both = split-of q in
       let same : At e i s ≡ At d bin (scoreOf low high) = sym q ∙ split-here both in
@@ -99,7 +113,8 @@ better-nowhere (At e k y) (At f l z) q = never (sym (go (lt z y) q))
 
 -- ---- a run of positions
 module _ (g : Grid) (v : View) (x : Bounds) (d first : ℕ) where
-  run-at : (n : ℕ) {e i : ℕ} {s : Float} → bestRun g v x d first n ≡ At e i s → (k : ℕ) × ((k < n) × (positionAt g v x d (first + k) ≡ At e i s))
+  run-at : (n : ℕ) {e i : ℕ} {s : Float} → bestRun g v x d first n ≡ At e i s → (k : ℕ)
+      × ((k < n) × (positionAt g v x d (first + k) ≡ At e i s))
   unfolding bestRun
   run-at zero q = never q
   run-at (suc n) q =
@@ -115,11 +130,13 @@ module _ (g : Grid) (v : View) (x : Bounds) (d first : ℕ) where
       let both = better-nowhere (bestRun g v x d first n) (positionAt g v x d (first + n)) q in
       go (ℕ-discrete k n) (both .1) (λ l. run-none-at n (both .0) k l)
     where
-      go : Dec (k ≡ n) → positionAt g v x d (first + n) ≡ Nowhere → (k < n → positionAt g v x d (first + k) ≡ Nowhere) → positionAt g v x d (first + k) ≡ Nowhere
+      go : Dec (k ≡ n) → positionAt g v x d (first + n) ≡ Nowhere
+          → (k < n → positionAt g v x d (first + k) ≡ Nowhere) → positionAt g v x d (first + k) ≡ Nowhere
       go (yes e) here before = rw e here
       go (no e) here before = before (omega arith)
 
-  run-all-none : (n : ℕ) → ((k : ℕ) → k < n → positionAt g v x d (first + k) ≡ Nowhere) → bestRun g v x d first n ≡ Nowhere
+  run-all-none : (n : ℕ) → ((k : ℕ) → k < n → positionAt g v x d (first + k) ≡ Nowhere) → bestRun g v x d first n
+      ≡ Nowhere
   unfolding bestRun better laterWins
   run-all-none zero h = refl
   run-all-none (suc n) h = rw (run-all-none n (λ k l. h k (omega arith)), h n (omega arith)) refl
@@ -139,9 +156,11 @@ module _ (g : Grid) (v : View) (x : Bounds) where
   in-none d q bin h l s =
       let k = bin - (minAt x d + 1) in
       let here : (minAt x d + 1) + (bin - (minAt x d + 1)) ≡ bin = omega arith in
-      never (sym (rw here at (run-none-at g v x d (minAt x d + 1) (maxAt x d - (minAt x d + 1)) q k (omega arith))) ∙ split-here g v x d bin s)
+      never (sym (rw here at (run-none-at g v x d (minAt x d + 1) (maxAt x d - (minAt x d + 1)) q k (omega arith)))
+      ∙ split-here g v x d bin s)
 
-  in-all-none : (d : ℕ) → ((bin : ℕ) → minAt x d < bin → bin < maxAt x d → Split g v x d bin → ⊥) → bestIn g v x d ≡ Nowhere
+  in-all-none : (d : ℕ) → ((bin : ℕ) → minAt x d < bin → bin < maxAt x d → Split g v x d bin → ⊥) → bestIn g v x d
+      ≡ Nowhere
   unfolding bestIn
   in-all-none d h =
       run-all-none g v x d (minAt x d + 1) (maxAt x d - (minAt x d + 1))
@@ -152,7 +171,8 @@ module _ (g : Grid) (v : View) (x : Bounds) where
   unfolding bestCut
   answered {d} {i} {s} q =
       ⊎-elim
-      (λ two. ⊎-elim (λ p. from 0 (omega arith) (in-good 0 p)) (λ p. from 1 (omega arith) (in-good 1 p)) (better-at (bestIn g v x 0) (bestIn g v x 1) two))
+      (λ two. ⊎-elim (λ p. from 0 (omega arith) (in-good 0 p)) (λ p. from 1 (omega arith) (in-good 1 p))
+      (better-at (bestIn g v x 0) (bestIn g v x 1) two))
       (λ p. from 2 (omega arith) (in-good 2 p))
       (better-at (better (bestIn g v x 0) (bestIn g v x 1)) (bestIn g v x 2) q)
     where
@@ -160,23 +180,31 @@ module _ (g : Grid) (v : View) (x : Bounds) where
       from e h r = rw (r .0) (h, r .1)
 
   -- "the second exactly when no position has weight on both sides"
-  pub no-position : bestCut g v x ≡ Nowhere → (d bin : ℕ) → d < 3 → minAt x d < bin → bin < maxAt x d → Split g v x d bin → ⊥
+  pub no-position : bestCut g v x ≡ Nowhere → (d bin : ℕ) → d < 3 → minAt x d < bin → bin < maxAt x d
+      → Split g v x d bin → ⊥
   unfolding bestCut
   no-position q d bin h =
       let outer = better-nowhere (better (bestIn g v x 0) (bestIn g v x 1)) (bestIn g v x 2) q in
       let inner = better-nowhere (bestIn g v x 0) (bestIn g v x 1) (outer .0) in
       at d h (inner .0) (inner .1) (outer .1)
     where
-      at : (d : ℕ) → d < 3 → bestIn g v x 0 ≡ Nowhere → bestIn g v x 1 ≡ Nowhere → bestIn g v x 2 ≡ Nowhere → minAt x d < bin → bin < maxAt x d → Split g v x d bin → ⊥
+      at : (d : ℕ) → d < 3 → bestIn g v x 0 ≡ Nowhere → bestIn g v x 1 ≡ Nowhere → bestIn g v x 2 ≡ Nowhere
+          → minAt x d < bin → bin < maxAt x d → Split g v x d bin → ⊥
       at zero l a b c = in-none 0 a bin
       at (suc zero) l a b c = in-none 1 b bin
       at (suc (suc zero)) l a b c = in-none 2 c bin
       at (suc (suc (suc d))) l a b c = absurd (omega arith)
 
-  pub nowhere : ((d bin : ℕ) → d < 3 → minAt x d < bin → bin < maxAt x d → Split g v x d bin → ⊥) → bestCut g v x ≡ Nowhere
+  pub nowhere : ((d bin : ℕ) → d < 3 → minAt x d < bin → bin < maxAt x d → Split g v x d bin → ⊥) → bestCut g v x
+      ≡ Nowhere
   unfolding bestCut better laterWins
   nowhere h =
-      rw (in-all-none 0 (λ b. h 0 b (omega arith)), in-all-none 1 (λ b. h 1 b (omega arith)), in-all-none 2 (λ b. h 2 b (omega arith))) refl
+      rw (
+        in-all-none 0 (λ b. h 0 b (omega arith)),
+        in-all-none 1 (λ b. h 1 b (omega arith)),
+        in-all-none 2
+            (λ b. h 2 b (omega arith)),
+      ) refl
 
 -- ---- a box with two occupied bins has a position
 module _ (g : Grid) (v : View) (x : Bounds) where

@@ -5,28 +5,22 @@ use mathlib.Core.Bool.{Bool, true, false, cond}
 use Prim.Native.Nat.{ℕ, suc, _+_, _-_, _≤_}
 use native.Mathlib.Nat.{le-trans}
 use native.Mathlib.Omega.{arith}
-use lib.Dec.{T, le→leb, lit<}
-use lib.IntN.{pos}
-use lib.Ieee.{binary64, inFloat}
-use Rattle.grid.specs.declared.Grid.{Grid}
+use lib.Dec.{lit<}
+use Rattle.grid.specs.declared.place.Grid.{Grid}
 use Rattle.grid.proofs.Size.{size-high}
 use Rattle.grid.proofs.Places.{sized-at}
 use Rattle.table.specs.Cell.{View}
 use Rattle.table.specs.Sound.{limit}
 use Rattle.table.proofs.Soundness.{Sound}
-use Rattle.sums.specs.declared.Bounds.{Bounds}
-use Rattle.sums.specs.declared.Stats.{Stats}
-use Rattle.sums.specs.Box.{maxAt, statsOf, lowSide, highSide, Within}
+use Rattle.boxes.specs.declared.sides.Bounds.{Bounds}
+use Rattle.sums.specs.declared.box_sums.Stats.{Stats}
+use Rattle.boxes.specs.Box.{maxAt, lowSide, highSide, Within}
+use Rattle.sums.specs.Box.{statsOf}
 use Rattle.sums.proofs.Laws.{box-sums-high, box-weight-high}
-use Rattle.spread.specs.declared.Position.{Position}
-use Rattle.spread.specs.declared.Position.the-variants.{Nowhere}
+use Rattle.spread.specs.declared.position.Position.{Position}
+use Rattle.spread.specs.declared.position.Position.the-variants.{Nowhere}
 use Rattle.spread.specs.Spread.{Plain}
 use Rattle.spread.specs.Cut.{positionOf, positionAt, laterWins, better, bestRun}
-
--- a whole number up to 2^53 is turned into f64 without loss
-pub casts : (n : ℕ) → n ≤ 9007199254740992 → T (inFloat binary64 (pos n))
-unfolding inFloat
-casts n h = le→leb n 9007199254740992 h
 
 -- the better of two, by which wins
 module _ (a b : Position) where
@@ -39,7 +33,8 @@ module _ (a b : Position) where
   earlier-is-better h = sym (ap (λ (t : Bool). cond t b a) h)
 
 -- ---- the statistics of a box of a sound table are plain
-pub plain-stats : {g : Grid} {v : View} → Sound limit g v → {x : Bounds} → Within g x → {s : Stats} → s ≡ statsOf g v x → Plain s
+pub plain-stats : {g : Grid} {v : View} → Sound limit g v → {x : Bounds} → Within g x → {s : Stats} → s
+    ≡ statsOf g v x → Plain s
 unfolding statsOf
 plain-stats {g} {v} h {x} w e =
     rw e
@@ -56,7 +51,8 @@ end-high w d = le-trans (w .fits d) (size-high (sized-at (w .accepted) d))
 
 -- ---- one position after the other
 module _ (g : Grid) (v : View) (x : Bounds) (d : ℕ) where
-  pub position-is : (bin : ℕ) {low high : Stats} → low ≡ statsOf g v (lowSide x d bin) → high ≡ statsOf g v (highSide x d bin) → {p : Position} → p ≡ positionOf d bin low high → p ≡ positionAt g v x d bin
+  pub position-is : (bin : ℕ) {low high : Stats} → low ≡ statsOf g v (lowSide x d bin) → high
+      ≡ statsOf g v (highSide x d bin) → {p : Position} → p ≡ positionOf d bin low high → p ≡ positionAt g v x d bin
   unfolding positionAt
   position-is bin e f q = q ∙ (λ i. positionOf d bin (e i) (f i))
 
@@ -67,7 +63,8 @@ module _ (g : Grid) (v : View) (x : Bounds) (d : ℕ) where
       none : (first bin : ℕ) → bin ≤ first → 0 ≡ bin - first
       none first bin h = omega arith
 
-  pub run-next : (first bin : ℕ) → first ≤ bin → {best p r : Position} → best ≡ bestRun g v x d first (bin - first) → p ≡ positionAt g v x d bin → r ≡ better best p → r ≡ bestRun g v x d first ((bin + 1) - first)
+  pub run-next : (first bin : ℕ) → first ≤ bin → {best p r : Position} → best ≡ bestRun g v x d first (bin - first)
+      → p ≡ positionAt g v x d bin → r ≡ better best p → r ≡ bestRun g v x d first ((bin + 1) - first)
   unfolding bestRun
   run-next first bin h e f q =
       q

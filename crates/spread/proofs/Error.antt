@@ -1,8 +1,11 @@
 -- How far `round` moves a fraction, in units of the format's smallest value (`grid`).
 -- Assumes nothing.
 use mathlib.Core.Path.{_≡_, sym, subst}
-use Prim.Native.Nat.{ℕ, zero, suc, _+_, _-_, _*_, _/_, _%_, _^_, _≤_, _<_, compare, Ordering, Ordering·lt, Ordering·eq, Ordering·gt}
-use native.Mathlib.Nat.{le-trans, le-of-eq, mul-comm, mul-assoc, mul-left-comm, add-mul, mul-le-mul-left, mul-le-mul-right, not-le-of-lt, zero-lt-suc, mul-pos, div-add-mod', mod-lt, le-div-iff-mul-le, div-lt-iff-lt-mul, div-div-eq-div-mul, one-mul, suc-mul}
+use Prim.Native.Nat.{ℕ, zero, suc, _+_, _-_, _*_, _/_, _%_, _^_, _≤_, _<_, compare, Ordering, Ordering·lt}
+use Prim.Native.Nat.{Ordering·eq, Ordering·gt}
+use native.Mathlib.Nat.{le-trans, le-of-eq, mul-comm, mul-assoc, mul-left-comm, add-mul, mul-le-mul-left}
+use native.Mathlib.Nat.{mul-le-mul-right, not-le-of-lt, zero-lt-suc, mul-pos, div-add-mod', mod-lt, le-div-iff-mul-le}
+use native.Mathlib.Nat.{div-lt-iff-lt-mul, div-div-eq-div-mul, one-mul, suc-mul}
 use native.Mathlib.Omega.{arith}
 use mathlib.Core.Bool.{Bool, false, not}
 use lib.Dec.{T, isLe, isEq, eqb, leb→le, nleb→lt, eqb→eq, eqb-refl}
@@ -24,9 +27,12 @@ Cmp Ordering·eq a b = a ≡ b
 Cmp Ordering·gt a b = b < a
 
 cmp : (a b : ℕ) → Cmp (compare a b) a b
-cmp a b = go (compare a b) (leb→le a b) (nleb→lt a b) (eqb→eq a b) (λ (e : a ≡ b). subst (λ (x : ℕ). T (eqb a x)) e (eqb-refl a))
+cmp a b =
+    go (compare a b) (leb→le a b) (nleb→lt a b) (eqb→eq a b)
+    (λ (e : a ≡ b). subst (λ (x : ℕ). T (eqb a x)) e (eqb-refl a))
   where
-    go : (o : Ordering) → (T (isLe o) → a ≤ b) → (T (not (isLe o)) → b < a) → (T (isEq o) → a ≡ b) → (a ≡ b → T (isEq o)) → Cmp o a b
+    go : (o : Ordering) → (T (isLe o) → a ≤ b) → (T (not (isLe o)) → b < a) → (T (isEq o) → a ≡ b)
+        → (a ≡ b → T (isEq o)) → Cmp o a b
     go Ordering·lt h k e n = lt-of-le-ne (h tt) n
     go Ordering·eq h k e n = e tt
     go Ordering·gt h k e n = k tt
@@ -47,7 +53,8 @@ near-by w r b a Ordering·eq l c e =
 near-by w r b a Ordering·gt l c e = omega (arith, suc-mul w b)
 
 closest-near : (a b : ℕ) → 0 < b → Half (closest a b * b) a b
-closest-near a b B = near-by (a / b) (a % b) b a (compare (a % b * 2) b) (mod-lt a B) (cmp (a % b * 2) b) (div-add-mod' a b)
+closest-near a b B =
+    near-by (a / b) (a % b) b a (compare (a % b * 2) b) (mod-lt a B) (cmp (a % b * 2) b) (div-add-mod' a b)
 
 -- ---- n / c with p digits kept. `spot` is the rounded number
 abbrev pub spot : ℕ → ℕ → ℕ → ℕ
@@ -57,7 +64,8 @@ spot p n c = kept p n c * 2 ^ drop p n c
 pub spot-near : (p n c : ℕ) → 0 < c → Half (spot p n c * c) n (c * 2 ^ drop p n c)
 spot-near p n c C =
     let k = drop p n c in
-    subst (λ (x : ℕ). Half x n (c * 2 ^ k)) (simp (mul-assoc, mul-comm, mul-left-comm)) (closest-near n (c * 2 ^ k) (mul-pos C (pow-pos k)))
+    subst (λ (x : ℕ). Half x n (c * 2 ^ k)) (simp (mul-assoc, mul-comm, mul-left-comm))
+    (closest-near n (c * 2 ^ k) (mul-pos C (pow-pos k)))
 
 less : (z p j : ℕ) → z ≤ p + j → z - p ≤ j
 less z p j h = omega arith
@@ -70,7 +78,8 @@ kept-le : (p n c : ℕ) → kept p n c ≤ 2 ^ p
 kept-le p n c =
     let k = drop p n c in
     let u = c * 2 ^ k in
-    le-trans (nearest-le (n / u) (compare (n % u * 2) u)) (subst (λ (x : ℕ). x < 2 ^ p) (div-div-eq-div-mul n c (2 ^ k)) (kept-lt p (n / c)))
+    le-trans (nearest-le (n / u) (compare (n % u * 2) u))
+    (subst (λ (x : ℕ). x < 2 ^ p) (div-div-eq-div-mul n c (2 ^ k)) (kept-lt p (n / c)))
 
 -- and is rounded to 2 ^ (p + j) at most
 pub spot-le : (p j n c : ℕ) → 0 < c → n < 2 ^ (p + j) * c → spot p n c ≤ 2 ^ (p + j)
@@ -99,13 +108,19 @@ spot-pos p n c P C h =
     let u = c * 2 ^ k in
     let W : 0 < w = le-div-iff-mul-le C .1 (le-trans (le-of-eq (one-mul c)) h) in
     let Z : 0 < size w = size-pos w W in
-    let a : 1 * 2 ^ k ≤ w = le-trans (le-of-eq (one-mul (2 ^ k))) (le-trans (pow-mono (some-left (size w) p P Z)) (size-reaches w (size w - 1) (pred-lt (size w) Z))) in
-    let b : 1 ≤ n / u = subst (λ (x : ℕ). 1 ≤ x) (div-div-eq-div-mul n c (2 ^ k)) (le-div-iff-mul-le (pow-pos k) .1 a) in
+    let a : 1 * 2 ^ k ≤ w =
+    le-trans (le-of-eq (one-mul (2 ^ k))) (le-trans (pow-mono (some-left (size w) p P Z))
+    (size-reaches w (size w - 1) (pred-lt (size w) Z))) in
+    let b : 1 ≤ n / u =
+    subst (λ (x : ℕ). 1 ≤ x) (div-div-eq-div-mul n c (2 ^ k)) (le-div-iff-mul-le (pow-pos k) .1 a) in
     mul-pos (le-trans b (nearest-ge (n / u) (compare (n % u * 2) u))) (pow-pos k)
 
 -- ---- `round`, of either sign
-pub round-value : (f : Format) (s : Bool) (a c : ℕ) → grid f a c < overflow f → HasValue (round f s a c) s (grid f a c) (2 ^ low f)
-round-value f s a c h = subst (λ (z : Float). HasValue z s (grid f a c) (2 ^ low f)) (sym (round-is f s a c)) (units-val f s (kept (prec f) (a * 2 ^ low f) c) (drop (prec f) (a * 2 ^ low f) c) h)
+pub round-value : (f : Format) (s : Bool) (a c : ℕ) → grid f a c < overflow f
+    → HasValue (round f s a c) s (grid f a c) (2 ^ low f)
+round-value f s a c h =
+    subst (λ (z : Float). HasValue z s (grid f a c) (2 ^ low f)) (sym (round-is f s a c))
+    (units-val f s (kept (prec f) (a * 2 ^ low f) c) (drop (prec f) (a * 2 ^ low f) c) h)
 
 -- ---- f64, and how many of its smallest value make one
 abbrev pub F : Format
@@ -115,4 +130,6 @@ abbrev pub U : ℕ
 U = 2 ^ low F
 
 pub round-is-at : {x : Float} (a c : ℕ) → grid F a c < overflow F → x ≡ round F false a c → Is x (grid F a c) U
-round-is-at a c h e = subst (λ (z : Float). Is z (grid F a c) U) (sym e) (is-of (round F false a c) (grid F a c) U (pow-pos 1074) (round-value F false a c h))
+round-is-at a c h e =
+    subst (λ (z : Float). Is z (grid F a c) U) (sym e)
+    (is-of (round F false a c) (grid F a c) U (pow-pos 1074) (round-value F false a c h))

@@ -1,4 +1,5 @@
--- At a sound table every spread of a box that is not empty, and every score of two such boxes and so of a position with weight on both sides, is finite: no NaN and no infinity.
+-- At a sound table every spread of a box that is not empty, and every score of two such boxes and so of a position
+-- with weight on both sides, is finite: no NaN and no infinity.
 -- Assumes nothing.
 use mathlib.Core.Path.{_≡_, refl, sym, ap, _∙_}
 use Prim.Native.Nat.{ℕ, _+_, _*_, _^_, _≤_, _<_}
@@ -10,14 +11,16 @@ use lib.Pow.{pow-pos}
 use lib.Ieee.{Float, nan, inf, fin, add, neg}
 use lib.Ieee.Exact.{HasValue}
 use lib.Ieee.Scale.{grid, finite}
-use Rattle.grid.specs.declared.Grid.{Grid}
+use Rattle.grid.specs.declared.place.Grid.{Grid}
 use Rattle.table.specs.Cell.{View}
 use Rattle.table.specs.Sound.{limit}
 use Rattle.table.proofs.Soundness.{Sound}
-use Rattle.sums.specs.declared.Bounds.{Bounds}
-use Rattle.sums.specs.Box.{boxSum, statsOf, Within}
-use Rattle.sums.proofs.Laws.{low-within, high-within}
-use Rattle.spread.specs.Spread.{oneBin, spreadOf, scoreOf}
+use Rattle.boxes.specs.declared.sides.Bounds.{Bounds}
+use Rattle.sums.specs.Box.{boxSum, statsOf}
+use Rattle.boxes.specs.Box.{Within}
+use Rattle.boxes.proofs.Within.{low-within, high-within}
+use Rattle.boxes.specs.Box.{oneBin}
+use Rattle.spread.specs.Spread.{spreadOf, scoreOf}
 use Rattle.spread.specs.Best.{Good}
 use Rattle.spread.proofs.Numbers.{numbers, quot-is, spread-is, spread-one}
 use Rattle.spread.proofs.Rounding.{Is, add-of}
@@ -41,12 +44,14 @@ neg-finite p = rw (p .same) tt
 both : (p q z : ℕ) → p < z → q < z → p + q < 2 * z
 both p q z h k = omega arith
 
-sum-value : {x y : Float} {p q : ℕ} → Is x p U → Is y q U → p < 2 ^ 1124 → q < 2 ^ 1124 → Is (add F x y) (grid F (p * U + q * U) (U * U)) U
+sum-value : {x y : Float} {p q : ℕ} → Is x p U → Is y q U → p < 2 ^ 1124 → q < 2 ^ 1124
+    → Is (add F x y) (grid F (p * U + q * U) (U * U)) U
 sum-value {p = p} {q} h k l m =
     let a = p * U + q * U in
     let positive : 0 < U * U = mul-pos (pow-pos 1074) (pow-pos 1074) in
     let e : a * U ≡ (p + q) * (U * U) = ap (λ (z : ℕ). z * U) (sym (add-mul p q U)) ∙ mul-assoc (p + q) U U in
-    let small : a * U < 2 ^ (53 + 1072) * (U * U) = lt-of-le-of-lt (le-of-eq e) (mul-lt-mul-of-pos-right {n = 2 ^ 1125} (both p q (2 ^ 1124) l m) positive) in
+    let small : a * U < 2 ^ (53 + 1072) * (U * U) =
+    lt-of-le-of-lt (le-of-eq e) (mul-lt-mul-of-pos-right {n = 2 ^ 1125} (both p q (2 ^ 1124) l m) positive) in
     round-is-at a (U * U) (lt-of-le-of-lt (spot-le 53 1072 (a * U) (U * U) positive small) (lit< tt)) (add-of F h k)
 
 -- ---- boxes of a sound table
@@ -58,7 +63,8 @@ module _ {g : Grid} {v : View} (s : Sound limit g v) {x : Bounds} (w : Within g 
       go true e = rw (spread-one g v x e) tt
       go false e = rw (spread-is g v x e) (close-finite (numbers-close (numbers s w some)))
 
-  pub score-finite : {y : Bounds} → Within g y → 1 ≤ boxSum g v y 0 → T (finite (scoreOf (statsOf g v x) (statsOf g v y)))
+  pub score-finite : {y : Bounds} → Within g y → 1 ≤ boxSum g v y 0
+      → T (finite (scoreOf (statsOf g v x) (statsOf g v y)))
   unfolding scoreOf
   score-finite {y} w' some' =
       let low = numbers s w some in
@@ -66,7 +72,8 @@ module _ {g : Grid} {v : View} (s : Sound limit g v) {x : Bounds} (w : Within g 
       rw (quot-is g v x, quot-is g v y) (neg-finite (sum-value (w-value low) (w-value high) (w-lt low) (w-lt high)))
 
 -- every score of a position with weight on both sides
-pub position-finite : {g : Grid} {v : View} → Sound limit g v → {x : Bounds} → Within g x → {d bin : ℕ} {score : Float} → Good g v x d bin score → T (finite score)
+pub position-finite : {g : Grid} {v : View} → Sound limit g v → {x : Bounds} → Within g x
+    → {d bin : ℕ} {score : Float} → Good g v x d bin score → T (finite score)
 position-finite s w {d} {bin} p =
     rw (p .scored)
     (score-finite s

@@ -1,4 +1,5 @@
--- "The smallest score wins; on a tie the lowest dimension, in it the lowest bin": what the best position of a box says beside every other position with weight on both sides.
+-- "The smallest score wins; on a tie the lowest dimension, in it the lowest bin": what the best position of a box
+-- says beside every other position with weight on both sides.
 -- Assumes nothing.
 use mathlib.Core.Path.{_≡_, refl, sym, subst, _∙_}
 use mathlib.Core.Logic.{_⊎_, inl, inr}
@@ -9,15 +10,15 @@ use native.Mathlib.Omega.{arith}
 use lib.Dec.{T}
 use lib.Ieee.{Float, lt}
 use lib.Ieee.Scale.{finite}
-use Rattle.floats.proofs.Compare.{less-asym, less-through, not-less-trans, not-less-itself, finite-number}
-use Rattle.grid.specs.declared.Grid.{Grid}
+use Rattle.basics.proofs.Compare.{less-asym, less-through, not-less-trans, not-less-itself, finite-number}
+use Rattle.grid.specs.declared.place.Grid.{Grid}
 use Rattle.table.specs.Cell.{View}
 use Rattle.table.specs.Sound.{limit}
 use Rattle.table.proofs.Soundness.{Sound}
-use Rattle.sums.specs.declared.Bounds.{Bounds}
-use Rattle.sums.specs.Box.{minAt, maxAt, Within}
-use Rattle.spread.specs.declared.Position.{Position}
-use Rattle.spread.specs.declared.Position.the-variants.{At, Nowhere}
+use Rattle.boxes.specs.declared.sides.Bounds.{Bounds}
+use Rattle.boxes.specs.Box.{minAt, maxAt, Within}
+use Rattle.spread.specs.declared.position.Position.{Position}
+use Rattle.spread.specs.declared.position.Position.the-variants.{At, Nowhere}
 use Rattle.spread.specs.Cut.{positionAnswer, positionAt, better, laterWins, bestRun, bestIn, bestCut}
 use Rattle.spread.specs.Best.{Good, Candidate, Earlier, Winner, Tells}
 use Rattle.spread.proofs.Best.{never, position-good, good-position}
@@ -38,7 +39,8 @@ abbrev AllFinite : (ℕ → ℕ → Float → Type 0) → Type 0
 AllFinite A = (d i : ℕ) (s : Float) → A d i s → T (finite s)
 
 module _ {A B : ℕ → ℕ → Float → Type 0} where
-  wins-same : ((e j : ℕ) (t : Float) → A e j t → B e j t) → ((e j : ℕ) (t : Float) → B e j t → A e j t) → (p : Position) → Wins A p → Wins B p
+  wins-same : ((e j : ℕ) (t : Float) → A e j t → B e j t) → ((e j : ℕ) (t : Float) → B e j t → A e j t)
+      → (p : Position) → Wins A p → Wins B p
   wins-same to back (At d i s) w =
       record {
         one = to d i s (w .one);
@@ -62,7 +64,8 @@ wins-alone (At d i s) =
 wins-alone Nowhere = λ d i s q. never q
 
 -- the better of two wins over the positions of both, where the second's come after the first's
-module _ {A B : ℕ → ℕ → Float → Type 0} (after : (e j d i : ℕ) (t s : Float) → A e j t → B d i s → Earlier e j d i) (fineA : AllFinite A) (fineB : AllFinite B) where
+module _ {A B : ℕ → ℕ → Float → Type 0} (after : (e j d i : ℕ) (t s : Float) → A e j t → B d i s → Earlier e j d i)
+    (fineA : AllFinite A) (fineB : AllFinite B) where
   abbrev Both : ℕ → ℕ → Float → Type 0
   Both e j t = A e j t ⊎ B e j t
 
@@ -94,7 +97,8 @@ module _ {A B : ℕ → ℕ → Float → Type 0} (after : (e j d i : ℕ) (t s 
 
       earlier-smallest : lt t s ≡ false → {f j : ℕ} {y : Float} → Both f j y → lt y s ≡ false
       earlier-smallest l (inl z) = w .smallest z
-      earlier-smallest l {f} {j} {y} (inr z) = not-less-trans y t s (finite-number t (fineB e k t (u .one))) (u .smallest z) l
+      earlier-smallest l {f} {j} {y} (inr z) =
+          not-less-trans y t s (finite-number t (fineB e k t (u .one))) (u .smallest z) l
 
       earlier-first : {f j : ℕ} {y : Float} → Both f j y → Earlier f j d i → lt s y ≡ true
       earlier-first (inl z) h = w .first z h
@@ -119,12 +123,14 @@ module _ {g : Grid} {v : View} (sound : Sound limit g v) {x : Bounds} (w : Withi
   -- a run of positions
   module _ (d from : ℕ) (low : minAt x d < from) where
     -- its last one
-    here : (n e j : ℕ) (t : Float) → from + n < maxAt x d → positionAt g v x d (from + n) ≡ At e j t → InRun g v x d (from + n) (from + suc n) e j t
+    here : (n e j : ℕ) (t : Float) → from + n < maxAt x d → positionAt g v x d (from + n) ≡ At e j t
+        → InRun g v x d (from + n) (from + suc n) e j t
     here n e j t h q =
         let p = position-good g v x d (from + n) (omega arith) h q in
         record { same = p .0; low = omega (arith, p .1); high = omega (arith, p .1); good = rw (p .0, p .1) (p .2) }
 
-    there : (n e j : ℕ) (t : Float) → InRun g v x d (from + n) (from + suc n) e j t → positionAt g v x d (from + n) ≡ At e j t
+    there : (n e j : ℕ) (t : Float) → InRun g v x d (from + n) (from + suc n) e j t → positionAt g v x d (from + n)
+        ≡ At e j t
     there n e j t r =
         let bin : j ≡ from + n = omega (arith, r .low, r .high) in
         let q = good-position g v x e j (r .good) in
@@ -141,18 +147,24 @@ module _ {g : Grid} {v : View} (sound : Sound limit g v) {x : Bounds} (w : Withi
         fine : AllFinite (λ e j t. positionAt g v x d (from + n) ≡ At e j t)
         fine e j t q = position-finite sound w (here n e j t (omega arith) q .good)
 
-        after : (e j d' i : ℕ) (t s : Float) → InRun g v x d from (from + n) e j t → positionAt g v x d (from + n) ≡ At d' i s → Earlier e j d' i
-        after e j d' i t s r q = let p = here n d' i s (omega arith) q in inr (r .same ∙ sym (p .same), omega (arith, r .high, p .low))
+        after : (e j d' i : ℕ) (t s : Float) → InRun g v x d from (from + n) e j t → positionAt g v x d (from + n)
+            ≡ At d' i s → Earlier e j d' i
+        after e j d' i t s r q = let p = here n d' i s (omega arith) q in
+            inr (r .same ∙ sym (p .same), omega (arith, r .high, p .low))
 
-        to : (e j : ℕ) (t : Float) → InRun g v x d from (from + n) e j t ⊎ (positionAt g v x d (from + n) ≡ At e j t) → InRun g v x d from (from + suc n) e j t
+        to : (e j : ℕ) (t : Float) → InRun g v x d from (from + n) e j t
+            ⊎ (positionAt g v x d (from + n) ≡ At e j t) → InRun g v x d from (from + suc n) e j t
         to e j t (inl r) = record { same = r .same; low = r .low; high = omega (arith, r .high); good = r .good }
-        to e j t (inr q) = let p = here n e j t (omega arith) q in record { same = p .same; low = omega (arith, p .low); high = p .high; good = p .good }
+        to e j t (inr q) = let p = here n e j t (omega arith) q in
+            record { same = p .same; low = omega (arith, p .low); high = p .high; good = p .good }
 
-        back : (e j : ℕ) (t : Float) → InRun g v x d from (from + suc n) e j t → InRun g v x d from (from + n) e j t ⊎ (positionAt g v x d (from + n) ≡ At e j t)
+        back : (e j : ℕ) (t : Float) → InRun g v x d from (from + suc n) e j t
+            → InRun g v x d from (from + n) e j t ⊎ (positionAt g v x d (from + n) ≡ At e j t)
         back e j t r = go (ℕ-discrete j (from + n))
           where
             go : Dec (j ≡ from + n) → InRun g v x d from (from + n) e j t ⊎ (positionAt g v x d (from + n) ≡ At e j t)
-            go (yes k) = inr (there n e j t (record { same = r .same; low = omega arith; high = r .high; good = r .good }))
+            go (yes k) =
+                inr (there n e j t (record { same = r .same; low = omega arith; high = r .high; good = r .good }))
             go (no k) = inl (record { same = r .same; low = r .low; high = omega (arith, r .high); good = r .good })
 
   -- a dimension
@@ -171,8 +183,10 @@ module _ {g : Grid} {v : View} (sound : Sound limit g v) {x : Bounds} (w : Withi
   unfolding bestCut
   best-wins =
       wins-same to back (bestCut g v x)
-      (wins-better after fine (run-finite 2 (minAt x 2 + 1) (maxAt x 2)) (better (bestIn g v x 0) (bestIn g v x 1)) (bestIn g v x 2)
-      (wins-better (λ e j d i t s r q. inl (omega (arith, r .same, q .same))) (run-finite 0 (minAt x 0 + 1) (maxAt x 0)) (run-finite 1 (minAt x 1 + 1) (maxAt x 1))
+      (wins-better after fine (run-finite 2 (minAt x 2 + 1) (maxAt x 2)) (better (bestIn g v x 0) (bestIn g v x 1))
+      (bestIn g v x 2)
+      (wins-better (λ e j d i t s r q. inl (omega (arith, r .same, q .same)))
+      (run-finite 0 (minAt x 0 + 1) (maxAt x 0)) (run-finite 1 (minAt x 1 + 1) (maxAt x 1))
       (bestIn g v x 0) (bestIn g v x 1) (in-wins 0) (in-wins 1))
       (in-wins 2))
     where
@@ -202,7 +216,8 @@ module _ {g : Grid} {v : View} (sound : Sound limit g v) {x : Bounds} (w : Withi
   pub best-first : {d i : ℕ} {s : Float} → bestCut g v x ≡ At d i s → Winner (Candidate g v x) d i s
   best-first q = subst (Wins (Candidate g v x)) q best-wins
 
-  -- "either a position with its float score, or that no position exists; the second exactly when no position has weight on both sides"
+  -- "either a position with its float score, or that no position exists; the second exactly when no position has
+  -- weight on both sides"
   pub best-told : Tells (Candidate g v x) (positionAnswer (bestCut g v x))
   unfolding positionAnswer
   best-told = told (bestCut g v x) best-wins

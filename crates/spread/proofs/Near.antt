@@ -2,8 +2,11 @@
 -- Assumes nothing.
 use mathlib.Core.Path.{_≡_, sym, ap, _∙_, subst}
 use mathlib.Core.Logic.{_⊎_, inl, inr}
-use Prim.Native.Nat.{ℕ, zero, suc, _+_, _-_, _*_, _/_, _%_, _^_, _≤_, _<_, compare, Ordering, Ordering·lt, compare·zero-suc}
-use native.Mathlib.Nat.{le-trans, le-of-eq, lt-of-lt-of-le, lt-irrefl, lt-of-not-le, not-le-of-lt, mul-comm, mul-assoc, mul-add, add-mul, mul-le-mul-right, zero-mul, mul-pos, mul-div-cancel, mul-mod-left, le-div-iff-mul-le, le-of-mul-le-mul-right, le-of-lt}
+use Prim.Native.Nat.{ℕ, zero, suc, _+_, _-_, _*_, _/_, _%_, _^_, _≤_, _<_, compare, Ordering, Ordering·lt}
+use Prim.Native.Nat.{compare·zero-suc}
+use native.Mathlib.Nat.{le-trans, le-of-eq, lt-of-lt-of-le, lt-irrefl, lt-of-not-le, not-le-of-lt, mul-comm}
+use native.Mathlib.Nat.{mul-assoc, mul-add, add-mul, mul-le-mul-right, zero-mul, mul-pos, mul-div-cancel}
+use native.Mathlib.Nat.{mul-mod-left, le-div-iff-mul-le, le-of-mul-le-mul-right, le-of-lt}
 use native.Mathlib.Omega.{arith}
 use native.Mathlib.Decide.{decLe}
 use lib.Pow.{pow-add, pow-pos, pow-mono}
@@ -62,15 +65,23 @@ times j x v k = simp (add-mul, mul-assoc)
 pub near-scale : {j x v : ℕ} (k : ℕ) → Near j x v → Near j (x * k) (v * k)
 near-scale {j} {x} {v} k h =
     record {
-      high = le-trans (le-of-eq (sym (mul-assoc E x k))) (le-trans (mul-le-mul-right k (h .high)) (le-of-eq (times j v v k)));
-      low = le-trans (le-of-eq (sym (mul-assoc E v k))) (le-trans (mul-le-mul-right k (h .low)) (le-of-eq (times j x v k)));
+      high =
+          le-trans (le-of-eq (sym (mul-assoc E x k)))
+          (le-trans (mul-le-mul-right k (h .high)) (le-of-eq (times j v v k)));
+      low =
+          le-trans (le-of-eq (sym (mul-assoc E v k)))
+          (le-trans (mul-le-mul-right k (h .low)) (le-of-eq (times j x v k)));
     }
 
 pub near-cancel : (j x v k : ℕ) → 0 < k → Near j (x * k) (v * k) → Near j x v
 near-cancel j x v k K h =
     record {
-      high = le-of-mul-le-mul-right {m = E * x} {n = E * v + j * v} {k = k} (le-trans (le-of-eq (mul-assoc E x k)) (le-trans (h .high) (le-of-eq (sym (times j v v k))))) K;
-      low = le-of-mul-le-mul-right {m = E * v} {n = E * x + j * v} {k = k} (le-trans (le-of-eq (mul-assoc E v k)) (le-trans (h .low) (le-of-eq (sym (times j x v k))))) K;
+      high =
+          le-of-mul-le-mul-right {m = E * x} {n = E * v + j * v} {k = k}
+          (le-trans (le-of-eq (mul-assoc E x k)) (le-trans (h .high) (le-of-eq (sym (times j v v k))))) K;
+      low =
+          le-of-mul-le-mul-right {m = E * v} {n = E * x + j * v} {k = k}
+          (le-trans (le-of-eq (mul-assoc E v k)) (le-trans (h .low) (le-of-eq (sym (times j x v k))))) K;
     }
 
 -- ---- one rounding to 53 digits
@@ -87,7 +98,8 @@ dropped n c C h =
     let k = drop 53 n c in
     let a : 2 ^ (52 + k) ≤ w = size-reaches w (52 + k) (room (size w) (size-gt w 52 (le-div-iff-mul-le C .1 h))) in
     let b : 2 ^ (52 + k) * c ≤ n = le-div-iff-mul-le C .0 a in
-    le-trans (le-of-eq (ap (λ (x : ℕ). 2 ^ 52 * x) (mul-comm c (2 ^ k)) ∙ sym (mul-assoc (2 ^ 52) (2 ^ k) c) ∙ ap (λ (x : ℕ). x * c) (sym (pow-add 2 52 k)))) b
+    le-trans (le-of-eq (ap (λ (x : ℕ). 2 ^ 52 * x) (mul-comm c (2 ^ k)) ∙ sym (mul-assoc (2 ^ 52) (2 ^ k) c)
+    ∙ ap (λ (x : ℕ). x * c) (sym (pow-add 2 52 k)))) b
 
 half-near : (x n h : ℕ) → Half x n h → 4503599627370496 * h ≤ n → Near 16 x n
 half-near x n h w l = record { high = omega arith; low = omega arith }
@@ -111,34 +123,53 @@ abbrev pub Multiple : ℕ → ℕ → Type 0
 Multiple j x = (k : ℕ) × (x ≡ k * 2 ^ j)
 
 mul-up : (m j i : ℕ) → j ≤ i → Multiple j (m * 2 ^ i)
-mul-up m j i h = (m * 2 ^ (i - j), ap (λ (x : ℕ). m * 2 ^ x) (sym (back i j h)) ∙ ap (λ (x : ℕ). m * x) (pow-add 2 (i - j) j) ∙ sym (mul-assoc m (2 ^ (i - j)) (2 ^ j)))
+mul-up m j i h = (
+  m * 2 ^ (i - j),
+  ap (λ (x : ℕ). m * 2 ^ x) (sym (back i j h)) ∙ ap (λ (x : ℕ). m * x) (pow-add 2 (i - j) j)
+      ∙ sym (mul-assoc m (2 ^ (i - j)) (2 ^ j)),
+)
 
--- a multiple of a power of two, written as a fraction over c, is rounded to one: either its digits are all kept, or what is dropped is more than the power
+-- a multiple of a power of two, written as a fraction over c, is rounded to one: either its digits are all kept, or
+-- what is dropped is more than the power
 pub spot-mul : (p j q c : ℕ) → 0 < c → Multiple j (spot p (q * 2 ^ j * c) c)
-spot-mul p j q c C = elim (decLe j (drop p (q * 2 ^ j * c) c)) [ yes h ↦ mul-up (kept p (q * 2 ^ j * c) c) j (drop p (q * 2 ^ j * c) c) h | no h ↦ (q, exact (le-of-lt (lt-of-not-le h))) ]
+spot-mul p j q c C =
+    elim (decLe j (drop p (q * 2 ^ j * c) c)) [
+      | yes h ↦ mul-up (kept p (q * 2 ^ j * c) c) j (drop p (q * 2 ^ j * c) c) h
+      | no
+          h ↦ (q, exact (le-of-lt (lt-of-not-le h)))
+    ]
   where
     exact : drop p (q * 2 ^ j * c) c ≤ j → spot p (q * 2 ^ j * c) c ≡ q * 2 ^ j
     exact l =
         let i = drop p (q * 2 ^ j * c) c in
         let r = q * 2 ^ (j - i) in
-        let e : r * 2 ^ i ≡ q * 2 ^ j = mul-assoc q (2 ^ (j - i)) (2 ^ i) ∙ ap (λ (x : ℕ). q * x) (sym (pow-add 2 (j - i) i) ∙ ap (λ (x : ℕ). 2 ^ x) (back j i l)) in
-        let f : q * 2 ^ j * c ≡ r * (c * 2 ^ i) = ap (λ (x : ℕ). x * c) (sym e) ∙ mul-assoc r (2 ^ i) c ∙ ap (λ (x : ℕ). r * x) (mul-comm (2 ^ i) c) in
-        ap (λ (x : ℕ). closest x (c * 2 ^ i) * 2 ^ i) f ∙ ap (λ (x : ℕ). x * 2 ^ i) (closest-exact r (c * 2 ^ i) (mul-pos C (pow-pos i))) ∙ e
+        let e : r * 2 ^ i ≡ q * 2 ^ j =
+        mul-assoc q (2 ^ (j - i)) (2 ^ i)
+        ∙ ap (λ (x : ℕ). q * x) (sym (pow-add 2 (j - i) i) ∙ ap (λ (x : ℕ). 2 ^ x) (back j i l)) in
+        let f : q * 2 ^ j * c ≡ r * (c * 2 ^ i) =
+        ap (λ (x : ℕ). x * c) (sym e) ∙ mul-assoc r (2 ^ i) c ∙ ap (λ (x : ℕ). r * x) (mul-comm (2 ^ i) c) in
+        ap (λ (x : ℕ). closest x (c * 2 ^ i) * 2 ^ i) f
+        ∙ ap (λ (x : ℕ). x * 2 ^ i) (closest-exact r (c * 2 ^ i) (mul-pos C (pow-pos i))) ∙ e
 
 enough : (p j t z : ℕ) → p + j ≤ suc t → t < z → j ≤ z - p
 enough p j t z h k = omega arith
 
 -- a fraction from 2 ^ t on, t + 1 being p + j or more, is rounded to a multiple of 2 ^ j
 spot-coarse : (p j t n c : ℕ) → 0 < c → 2 ^ t * c ≤ n → p + j ≤ suc t → Multiple j (spot p n c)
-spot-coarse p j t n c C h P = mul-up (kept p n c) j (drop p n c) (enough p j t (size (n / c)) P (size-gt (n / c) t (le-div-iff-mul-le C .1 h)))
+spot-coarse p j t n c C h P =
+    mul-up (kept p n c) j (drop p n c) (enough p j t (size (n / c)) P
+    (size-gt (n / c) t (le-div-iff-mul-le C .1 h)))
 
 spot-none : (p c : ℕ) → 0 < c → spot p 0 c ≡ 0
 spot-none p c C =
     let i = drop p 0 c in
-    ap (λ (x : ℕ). closest x (c * 2 ^ i) * 2 ^ i) (sym (zero-mul (c * 2 ^ i))) ∙ ap (λ (x : ℕ). x * 2 ^ i) (closest-exact 0 (c * 2 ^ i) (mul-pos C (pow-pos i))) ∙ zero-mul (2 ^ i)
+    ap (λ (x : ℕ). closest x (c * 2 ^ i) * 2 ^ i) (sym (zero-mul (c * 2 ^ i)))
+    ∙ ap (λ (x : ℕ). x * 2 ^ i) (closest-exact 0 (c * 2 ^ i) (mul-pos C (pow-pos i))) ∙ zero-mul (2 ^ i)
 
 pub rounded-or-zero : (n c : ℕ) → 0 < c → (n ≡ 0) ⊎ (2 ^ 52 * c ≤ n) → Near 16 (spot 53 n c * c) n
-rounded-or-zero n c C (inl e) = subst (λ (z : ℕ). Near 16 (spot 53 z c * c) z) (sym e) (subst (λ (z : ℕ). Near 16 z 0) (sym (ap (λ (z : ℕ). z * c) (spot-none 53 c C) ∙ zero-mul c)) near-zero)
+rounded-or-zero n c C (inl e) =
+    subst (λ (z : ℕ). Near 16 (spot 53 z c * c) z) (sym e)
+    (subst (λ (z : ℕ). Near 16 z 0) (sym (ap (λ (z : ℕ). z * c) (spot-none 53 c C) ∙ zero-mul c)) near-zero)
 rounded-or-zero n c C (inr h) = rounded n c C h
 
 pub coarse-or-zero : (j t n c : ℕ) → 0 < c → 53 + j ≤ suc t → (n ≡ 0) ⊎ (2 ^ t * c ≤ n) → Multiple j (spot 53 n c)

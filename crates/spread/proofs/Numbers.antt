@@ -6,14 +6,17 @@ use Prim.Native.Nat.{ℕ, _*_, _≤_}
 use native.Mathlib.Omega.{arith}
 use lib.Dec.{lit<}
 use lib.Ieee.{Float, binary64, sub, div}
-use Rattle.grid.specs.declared.Grid.{Grid}
+use Rattle.grid.specs.declared.place.Grid.{Grid}
 use Rattle.table.specs.Cell.{View}
 use Rattle.table.specs.Sound.{limit}
 use Rattle.table.proofs.Soundness.{Sound}
-use Rattle.sums.specs.declared.Bounds.{Bounds}
-use Rattle.sums.specs.Box.{boxSum, statsOf, Within}
+use Rattle.boxes.specs.declared.sides.Bounds.{Bounds}
+use Rattle.sums.specs.Box.{boxSum, statsOf}
+use Rattle.boxes.specs.Box.{Within}
 use Rattle.sums.proofs.Laws.{box-sums-high, box-squares-high, box-weight-high}
-use Rattle.spread.specs.Spread.{whole, qOf, quotientOf, zeroOf, oneBin, spreadOf}
+use Rattle.sums.specs.Box.{whole}
+use Rattle.spread.specs.Spread.{qOf, quotientOf, zeroOf, spreadOf}
+use Rattle.boxes.specs.Box.{oneBin}
 use Rattle.spread.proofs.Rounding.{Is, of-whole}
 
 -- a weight n, three sums and the squares, within the bounds of a box that is not empty
@@ -58,9 +61,12 @@ module _ (g : Grid) (v : View) (x : Bounds) where
   unfolding quotientOf statsOf
   quot-is = refl
 
-  pub spread-is : oneBin x ≡ false → spreadOf x (statsOf g v x) ≡ spreadAt (boxSum g v x 0) (boxSum g v x 1) (boxSum g v x 2) (boxSum g v x 3) (boxSum g v x 4)
+  pub spread-is : oneBin x ≡ false → spreadOf x (statsOf g v x)
+      ≡ spreadAt (boxSum g v x 0) (boxSum g v x 1) (boxSum g v x 2) (boxSum g v x 3) (boxSum g v x 4)
   unfolding spreadOf quotientOf statsOf
-  spread-is e = ap (λ (t : Bool). cond t zeroOf (spreadAt (boxSum g v x 0) (boxSum g v x 1) (boxSum g v x 2) (boxSum g v x 3) (boxSum g v x 4))) e
+  spread-is e =
+      ap (λ (t : Bool). cond t zeroOf (spreadAt (boxSum g v x 0) (boxSum g v x 1) (boxSum g v x 2) (boxSum g v x 3)
+      (boxSum g v x 4))) e
 
   pub spread-one : oneBin x ≡ true → spreadOf x (statsOf g v x) ≡ zeroOf
   unfolding spreadOf

@@ -2,7 +2,8 @@
 -- Assumes nothing.
 use mathlib.Core.Path.{_≡_, refl, sym, ap, ap₂, _∙_, subst}
 use Prim.Native.Nat.{ℕ, _+_, _-_, _*_, _≤_, _<_, _^_}
-use native.Mathlib.Nat.{mul-assoc, mul-comm, mul-left-comm, mul-mul-mul-comm, mul-pos, zero-mul, mul-one, one-mul, add-mul, mul-sub, mul-le-mul-right, le-of-mul-le-mul-right, le-trans, le-of-eq, not-le-of-lt}
+use native.Mathlib.Nat.{mul-assoc, mul-comm, mul-left-comm, mul-mul-mul-comm, mul-pos, zero-mul, mul-one, one-mul}
+use native.Mathlib.Nat.{add-mul, mul-sub, mul-le-mul-right, le-of-mul-le-mul-right, le-trans, le-of-eq, not-le-of-lt}
 use native.Mathlib.Omega.{arith}
 use mathlib.Core.Bool.{Bool, true, false, not, cond, true≢false}
 use lib.IntN.{ℤ, pos}
@@ -34,7 +35,8 @@ value-of {a = a} {c} p = subst (λ (z : Float). HasValue z false a c) (sym (p .s
 
 -- a whole number of no more digits than the format keeps
 pub exact : (f : Format) {x : Float} (n : ℕ) → n ≤ 2 ^ prec f → x ≡ round f false n 1 → Is x n 1
-exact f n h e = subst (λ (z : Float). Is z n 1) (sym e) (is-of (round f false n 1) n 1 (lit< tt) (round-whole f false n h))
+exact f n h e =
+    subst (λ (z : Float). Is z n 1) (sym e) (is-of (round f false n 1) n 1 (lit< tt) (round-whole f false n h))
 
 pub whole-is : (f : Format) (n : ℕ) → ofInt f (pos n) ≡ round f false n 1
 unfolding ofInt
@@ -48,7 +50,8 @@ sub-mul a b k = mul-comm (a - b) k ∙ mul-sub k a b ∙ ap₂ (λ (x y : ℕ). 
 
 -- which of two fractions is larger does not turn on how they are written
 order-cross : (A B a b k l : ℕ) → 0 < k → A * k ≡ a * l → B * k ≡ b * l → b ≤ a → B ≤ A
-order-cross A B a b k l K h g le = le-of-mul-le-mul-right (le-trans (le-of-eq g) (le-trans (mul-le-mul-right l le) (le-of-eq (sym h)))) K
+order-cross A B a b k l K h g le =
+    le-of-mul-le-mul-right (le-trans (le-of-eq g) (le-trans (mul-le-mul-right l le) (le-of-eq (sym h)))) K
 
 -- ---- cross multiplication: A / p is a / c, and B / q is b / d
 module _ (A p B q a c b d : ℕ) (h : A * c ≡ a * p) (k : B * d ≡ b * q) where
@@ -59,7 +62,8 @@ module _ (A p B q a c b d : ℕ) (h : A * c ≡ a * p) (k : B * d ≡ b * q) whe
   left-cross = mul-mul-mul-comm A q c d ∙ ap (λ (x : ℕ). x * (q * d)) h ∙ simp ac
 
   right-cross : B * p * (c * d) ≡ b * c * (p * q)
-  right-cross = ap (λ (x : ℕ). B * p * x) (mul-comm c d) ∙ mul-mul-mul-comm B p d c ∙ ap (λ (x : ℕ). x * (p * c)) k ∙ simp ac
+  right-cross =
+      ap (λ (x : ℕ). B * p * x) (mul-comm c d) ∙ mul-mul-mul-comm B p d c ∙ ap (λ (x : ℕ). x * (p * c)) k ∙ simp ac
 
   quot-cross : A * q * (b * c) ≡ a * d * (B * p)
   quot-cross =
@@ -67,13 +71,19 @@ module _ (A p B q a c b d : ℕ) (h : A * c ≡ a * p) (k : B * d ≡ b * q) whe
       simp ac (simp ac at x)
 
   sum-cross : (A * q + B * p) * (c * d) ≡ (a * d + b * c) * (p * q)
-  sum-cross = add-mul (A * q) (B * p) (c * d) ∙ ap₂ (λ (x y : ℕ). x + y) left-cross right-cross ∙ sym (add-mul (a * d) (b * c) (p * q))
+  sum-cross =
+      add-mul (A * q) (B * p) (c * d) ∙ ap₂ (λ (x y : ℕ). x + y) left-cross right-cross
+      ∙ sym (add-mul (a * d) (b * c) (p * q))
 
   left-less : (A * q - B * p) * (c * d) ≡ (a * d - b * c) * (p * q)
-  left-less = sub-mul (A * q) (B * p) (c * d) ∙ ap₂ (λ (x y : ℕ). x - y) left-cross right-cross ∙ sym (sub-mul (a * d) (b * c) (p * q))
+  left-less =
+      sub-mul (A * q) (B * p) (c * d) ∙ ap₂ (λ (x y : ℕ). x - y) left-cross right-cross
+      ∙ sym (sub-mul (a * d) (b * c) (p * q))
 
   right-less : (B * p - A * q) * (c * d) ≡ (b * c - a * d) * (p * q)
-  right-less = sub-mul (B * p) (A * q) (c * d) ∙ ap₂ (λ (x y : ℕ). x - y) right-cross left-cross ∙ sym (sub-mul (b * c) (a * d) (p * q))
+  right-less =
+      sub-mul (B * p) (A * q) (c * d) ∙ ap₂ (λ (x y : ℕ). x - y) right-cross left-cross
+      ∙ sym (sub-mul (b * c) (a * d) (p * q))
 
 -- ---- the operations
 module _ (f : Format) {x y : Float} {a c b d : ℕ} (p : Is x a c) (q : Is y b d) where
@@ -99,11 +109,17 @@ module _ (f : Format) {x y : Float} {a c b d : ℕ} (p : Is x a c) (q : Is y b d
 
   pub mul-of : mul f x y ≡ round f false (a * b) (c * d)
   unfolding mul A P B Q
-  mul-of = ap₂ (mul f) (p .same) (q .same) ∙ round-same f false (A * B) (P * Q) (a * b) (c * d) own-pos given-pos (prod-cross A P B Q a c b d (p .cross) (q .cross))
+  mul-of =
+      ap₂ (mul f) (p .same) (q .same)
+      ∙ round-same f false (A * B) (P * Q) (a * b) (c * d) own-pos given-pos
+      (prod-cross A P B Q a c b d (p .cross) (q .cross))
 
   pub add-of : add f x y ≡ round f false (a * d + b * c) (c * d)
   unfolding add A P B Q
-  add-of = ap₂ (add f) (p .same) (q .same) ∙ round-same f false (A * Q + B * P) (P * Q) (a * d + b * c) (c * d) own-pos given-pos (sum-cross A P B Q a c b d (p .cross) (q .cross))
+  add-of =
+      ap₂ (add f) (p .same) (q .same)
+      ∙ round-same f false (A * Q + B * P) (P * Q) (a * d + b * c) (c * d) own-pos given-pos
+      (sum-cross A P B Q a c b d (p .cross) (q .cross))
 
   -- a divisor above zero
   pub div-of : 0 < b → div f x y ≡ round f false (a * d) (b * c)
@@ -122,11 +138,14 @@ module _ (f : Format) {x y : Float} {a c b d : ℕ} (p : Is x a c) (q : Is y b d
       none : q .mantissa ≡ 0 → ⊥
       none = some (q .mantissa) (up (q .exponent)) (q .cross)
 
-      go : (t : Bool) → (T t → q .mantissa ≡ 0) → cond t (cond (eqb (p .mantissa) 0) nan (inf false)) (round f false (A * Q) (B * P)) ≡ round f false (a * d) (b * c)
+      go : (t : Bool) → (T t → q .mantissa ≡ 0)
+          → cond t (cond (eqb (p .mantissa) 0) nan (inf false)) (round f false (A * Q) (B * P))
+          ≡ round f false (a * d) (b * c)
       go true z = absurd (none (z tt))
       go false z =
           round-same f false (A * Q) (B * P) (a * d) (b * c)
-          (mul-pos (mul-pos (above (q .mantissa) none) (up-pos (q .exponent))) (down-pos (p .exponent))) (mul-pos N (p .below))
+          (mul-pos (mul-pos (above (q .mantissa) none) (up-pos (q .exponent))) (down-pos (p .exponent)))
+          (mul-pos N (p .below))
           (quot-cross A P B Q a c b d (p .cross) (q .cross))
 
   -- a difference, by its sign
@@ -134,19 +153,30 @@ module _ (f : Format) {x y : Float} {a c b d : ℕ} (p : Is x a c) (q : Is y b d
   unfolding sub A P B Q
   sub-of h = ap₂ (sub f) (p .same) (q .same) ∙ go (ltb (A * Q) (B * P)) (ltb→lt (A * Q) (B * P))
     where
-      go : (t : Bool) → (T t → A * Q < B * P) → cond t (round f true (B * P - A * Q) (P * Q)) (round f false (A * Q - B * P) (P * Q)) ≡ round f false (a * d - b * c) (c * d)
+      go : (t : Bool) → (T t → A * Q < B * P)
+          → cond t (round f true (B * P - A * Q) (P * Q)) (round f false (A * Q - B * P) (P * Q))
+          ≡ round f false (a * d - b * c) (c * d)
       go true z =
-          absurd (not-le-of-lt (z tt) (order-cross (A * Q) (B * P) (a * d) (b * c) (c * d) (P * Q) given-pos (left-cross A P B Q a c b d (p .cross) (q .cross)) (right-cross A P B Q a c b d (p .cross) (q .cross)) h))
-      go false z = round-same f false (A * Q - B * P) (P * Q) (a * d - b * c) (c * d) own-pos given-pos (left-less A P B Q a c b d (p .cross) (q .cross))
+          absurd (not-le-of-lt (z tt) (order-cross (A * Q) (B * P) (a * d) (b * c) (c * d) (P * Q) given-pos
+          (left-cross A P B Q a c b d (p .cross) (q .cross)) (right-cross A P B Q a c b d (p .cross) (q .cross)) h))
+      go false z =
+          round-same f false (A * Q - B * P) (P * Q) (a * d - b * c) (c * d) own-pos given-pos
+          (left-less A P B Q a c b d (p .cross) (q .cross))
 
   pub sub-under : a * d < b * c → sub f x y ≡ round f true (b * c - a * d) (c * d)
   unfolding sub A P B Q
   sub-under h = ap₂ (sub f) (p .same) (q .same) ∙ go (ltb (A * Q) (B * P)) (nltb→le (A * Q) (B * P))
     where
-      go : (t : Bool) → (T (not t) → B * P ≤ A * Q) → cond t (round f true (B * P - A * Q) (P * Q)) (round f false (A * Q - B * P) (P * Q)) ≡ round f true (b * c - a * d) (c * d)
-      go true z = round-same f true (B * P - A * Q) (P * Q) (b * c - a * d) (c * d) own-pos given-pos (right-less A P B Q a c b d (p .cross) (q .cross))
+      go : (t : Bool) → (T (not t) → B * P ≤ A * Q)
+          → cond t (round f true (B * P - A * Q) (P * Q)) (round f false (A * Q - B * P) (P * Q))
+          ≡ round f true (b * c - a * d) (c * d)
+      go true z =
+          round-same f true (B * P - A * Q) (P * Q) (b * c - a * d) (c * d) own-pos given-pos
+          (right-less A P B Q a c b d (p .cross) (q .cross))
       go false z =
-          absurd (not-le-of-lt h (order-cross (a * d) (b * c) (A * Q) (B * P) (P * Q) (c * d) own-pos (sym (left-cross A P B Q a c b d (p .cross) (q .cross))) (sym (right-cross A P B Q a c b d (p .cross) (q .cross))) (z tt)))
+          absurd (not-le-of-lt h (order-cross (a * d) (b * c) (A * Q) (B * P) (P * Q) (c * d) own-pos
+          (sym (left-cross A P B Q a c b d (p .cross) (q .cross)))
+          (sym (right-cross A P B Q a c b d (p .cross) (q .cross))) (z tt)))
 
 -- ---- whole operands
 module _ (f : Format) {x y : Float} {a b : ℕ} (p : Is x a 1) where
@@ -162,4 +192,5 @@ module _ (f : Format) {x y : Float} {a b : ℕ} (p : Is x a 1) where
     less-of h = sub-of f p q (rw mul-one h) ∙ ap₂ (λ (i j : ℕ). round f false (a * u - i) j) (mul-one b) (one-mul u)
 
     pub less-under : a * u < b → sub f x y ≡ round f true (b - a * u) u
-    less-under h = sub-under f p q (rw mul-one h) ∙ ap₂ (λ (i j : ℕ). round f true (i - a * u) j) (mul-one b) (one-mul u)
+    less-under h =
+        sub-under f p q (rw mul-one h) ∙ ap₂ (λ (i j : ℕ). round f true (i - a * u) j) (mul-one b) (one-mul u)

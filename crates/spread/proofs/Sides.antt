@@ -1,4 +1,5 @@
--- Records taken from each other: f64 subtracts their squares without loss, so a difference has the statistics of what is left.
+-- Records taken from each other: f64 subtracts their squares without loss, so a difference has the statistics of what
+-- is left.
 -- Assumes nothing.
 use mathlib.Core.Path.{_≡_, sym, ap, _∙_}
 use mathlib.Core.Bool.{false}
@@ -6,17 +7,18 @@ use Prim.Native.Nat.{ℕ, _+_, _-_, _^_, _≤_}
 use native.Mathlib.Nat.{le-trans, mul-one}
 use native.Mathlib.Omega.{arith}
 use lib.Ieee.{binary64, sub, round}
-use Rattle.grid.specs.declared.Grid.{Grid}
+use Rattle.grid.specs.declared.place.Grid.{Grid}
 use Rattle.table.specs.Cell.{View}
 use Rattle.table.specs.Sound.{limit}
 use Rattle.table.proofs.Soundness.{Sound}
-use Rattle.sums.specs.declared.Bounds.{Bounds}
-use Rattle.sums.specs.declared.Stats.{Stats}
-use Rattle.sums.specs.Box.{minAt, maxAt, boxSum, statsFrom, statsOf, lowSide, highSide, slabTo, Within}
+use Rattle.boxes.specs.declared.sides.Bounds.{Bounds}
+use Rattle.sums.specs.declared.box_sums.Stats.{Stats}
+use Rattle.boxes.specs.Box.{minAt, maxAt, lowSide, highSide, slabTo, Within}
+use Rattle.sums.specs.Box.{boxSum, statsFrom, statsOf}
 use Rattle.sums.proofs.Corners.{box-squares}
 use Rattle.sums.proofs.Laws.{cut-sum, slab-sum, slab-squares}
-use Rattle.spread.specs.Spread.{whole}
-use Rattle.spread.specs.Walk.{minusStats, Covers}
+use Rattle.sums.specs.Box.{whole}
+use Rattle.spread.specs.Inner.{minusStats, Covers}
 use Rattle.spread.proofs.Rounding.{less-of, of-whole, whole-is}
 
 -- the statistics of five numbers, with squares that f64 holds
@@ -37,12 +39,25 @@ less-whole a b h l =
     ∙ sym (whole-is binary64 (a - b))
 
 -- the difference of the statistics of five numbers and of a part of them is the statistics of the rest
-pub stats-less : (all part left : ℕ → ℕ) → ((j : ℕ) → all j ≡ part j + left j) → {a b : Stats} → Exact a all → b ≡ statsFrom part → Less a b left
+pub stats-less : (all part left : ℕ → ℕ) → ((j : ℕ) → all j ≡ part j + left j) → {a b : Stats} → Exact a all → b
+    ≡ statsFrom part → Less a b left
 unfolding minusStats
 stats-less all part left split {a} {b} p q =
     record {
-      covers = rw (p .is, q) (record { weight = omega (arith, split 0); sum1 = omega (arith, split 1); sum2 = omega (arith, split 2); sum3 = omega (arith, split 3) });
-      exact = λ e. record { is = e ∙ (λ i. minusStats (p .is i) (q i)) ∙ rest; squares = omega (arith, split 4, p .squares) };
+      covers =
+          rw (p .is, q) (record {
+            weight = omega (arith, split 0);
+            sum1 = omega (arith, split 1);
+            sum2 =
+                omega (arith, split 2);
+            sum3 = omega (arith, split 3);
+          });
+      exact =
+          λ e. record {
+            is = e ∙ (λ i. minusStats (p .is i) (q i)) ∙ rest;
+            squares =
+                omega (arith, split 4, p .squares);
+          };
     }
   where
     less : (j : ℕ) → all j - part j ≡ left j
@@ -59,15 +74,18 @@ stats-less all part left split {a} {b} p q =
         }
 
 -- ---- the two sides of a position
-module _ {g : Grid} {v : View} (s : Sound limit g v) {x : Bounds} (w : Within g x) (d c : ℕ) (h : minAt x d ≤ c) (l : c ≤ maxAt x d) where
-  pub low : {before base : Stats} → before ≡ statsOf g v (slabTo x d c) → base ≡ statsOf g v (slabTo x d (minAt x d)) → Less before base (boxSum g v (lowSide x d c))
+module _ {g : Grid} {v : View} (s : Sound limit g v) {x : Bounds} (w : Within g x) (d c : ℕ)
+    (h : minAt x d ≤ c) (l : c ≤ maxAt x d) where
+  pub low : {before base : Stats} → before ≡ statsOf g v (slabTo x d c) → base ≡ statsOf g v (slabTo x d (minAt x d))
+      → Less before base (boxSum g v (lowSide x d c))
   unfolding statsOf
   low p q =
-      stats-less (boxSum g v (slabTo x d c)) (boxSum g v (slabTo x d (minAt x d))) (boxSum g v (lowSide x d c)) (λ j. slab-sum g v x d c j h)
-      (record { is = p; squares = slab-squares s w d c l }) q
+      stats-less (boxSum g v (slabTo x d c)) (boxSum g v (slabTo x d (minAt x d))) (boxSum g v (lowSide x d c))
+      (λ j. slab-sum g v x d c j h) (record { is = p; squares = slab-squares s w d c l }) q
 
-  pub high : {all low : Stats} → all ≡ statsOf g v x → low ≡ statsOf g v (lowSide x d c) → Less all low (boxSum g v (highSide x d c))
+  pub high : {all low : Stats} → all ≡ statsOf g v x → low ≡ statsOf g v (lowSide x d c)
+      → Less all low (boxSum g v (highSide x d c))
   unfolding statsOf
   high p q =
-      stats-less (boxSum g v x) (boxSum g v (lowSide x d c)) (boxSum g v (highSide x d c)) (λ j. cut-sum g v x d c j h l)
-      (record { is = p; squares = box-squares s w }) q
+      stats-less (boxSum g v x) (boxSum g v (lowSide x d c)) (boxSum g v (highSide x d c))
+      (λ j. cut-sum g v x d c j h l) (record { is = p; squares = box-squares s w }) q

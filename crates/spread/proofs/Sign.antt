@@ -1,9 +1,13 @@
--- The sign of the spread of a box of weight up to 200,000: Q is exact there, and the computed spread has the exact spread's sign.
+-- The sign of the spread of a box of weight up to 200,000: Q is exact there, and the computed spread has the exact
+-- spread's sign.
 -- Assumes nothing.
 use mathlib.Core.Path.{_≡_, refl, sym, ap, _∙_, subst}
 use mathlib.Core.Logic.{_⊎_, inl, inr}
 use Prim.Native.Nat.{ℕ, suc, _+_, _-_, _*_, _^_, _≤_, _<_}
-use native.Mathlib.Nat.{le-trans, le-of-eq, le-of-lt, lt-of-lt-of-le, lt-of-le-of-lt, lt-of-not-le, not-le-of-lt, eq-or-lt-of-le, mul-comm, mul-assoc, mul-left-comm, mul-right-comm, mul-one, one-mul, zero-mul, suc-mul, mul-le-mul, mul-le-mul-right, mul-lt-mul-of-pos-right, mul-pos, lt-of-mul-lt-mul-right, sub-self, sub-le, sub-pos-iff-lt}
+use native.Mathlib.Nat.{le-trans, le-of-eq, le-of-lt, lt-of-lt-of-le, lt-of-le-of-lt, lt-of-not-le, not-le-of-lt}
+use native.Mathlib.Nat.{eq-or-lt-of-le, mul-comm, mul-assoc, mul-left-comm, mul-right-comm, mul-one, one-mul}
+use native.Mathlib.Nat.{zero-mul, suc-mul, mul-le-mul, mul-le-mul-right, mul-lt-mul-of-pos-right, mul-pos}
+use native.Mathlib.Nat.{lt-of-mul-lt-mul-right, sub-self, sub-le, sub-pos-iff-lt}
 use native.Mathlib.Omega.{arith}
 use native.Mathlib.Decide.{decLe}
 use mathlib.Core.Bool.{true, false, true≢false}
@@ -17,15 +21,19 @@ use lib.Ieee.Back.{whole-unique}
 use lib.Ieee.Scale.{grid, overflow, round-same}
 use lib.Ieee.Order.{drop}
 use lib.Ieee.Positive.{first-pos}
-use Rattle.grid.specs.declared.Grid.{Grid}
+use Rattle.grid.specs.declared.place.Grid.{Grid}
 use Rattle.table.specs.Cell.{View}
 use Rattle.table.specs.Sound.{limit}
 use Rattle.table.proofs.Soundness.{Sound}
-use Rattle.sums.specs.declared.Bounds.{Bounds}
-use Rattle.sums.specs.Box.{boxSum, statsOf, Within}
-use Rattle.spread.specs.Spread.{whole, squareOf, qOf, exactQ, zeroOf, oneBin, spreadOf, Signed}
+use Rattle.boxes.specs.declared.sides.Bounds.{Bounds}
+use Rattle.sums.specs.Box.{boxSum, statsOf}
+use Rattle.boxes.specs.Box.{Within}
+use Rattle.sums.specs.Box.{whole}
+use Rattle.spread.specs.Spread.{squareOf, qOf, exactQ, zeroOf, spreadOf, Signed}
+use Rattle.boxes.specs.Box.{oneBin}
 use Rattle.spread.proofs.Numbers.{Numbers, quotAt, spreadAt, weight-value, squares-value, numbers, spread-is}
-use Rattle.spread.proofs.Rounding.{Is, value-of, exact, whole-is, of-whole, mul-of, add-whole, div-whole, less-of, less-under}
+use Rattle.spread.proofs.Rounding.{Is, value-of, exact, whole-is, of-whole, mul-of, add-whole, div-whole}
+use Rattle.spread.proofs.Rounding.{less-of, less-under}
 use Rattle.spread.proofs.Error.{Half, F, U, spot-near, drop-le, spot-le, spot-pos, round-value, round-is-at}
 
 -- ---- a float's order with 0.0
@@ -57,7 +65,8 @@ above-not-under nan p q = p
 above-not-under (inf true) p q = p
 above-not-under (inf false) p q = q
 above-not-under (fin true m e) p q = p
-above-not-under (fin false m e) p q = not-le-of-lt (ltb→lt (m * up e * 1) (0 * down e) q) (le-of-lt (ltb→lt (0 * down e) (m * up e * 1) p))
+above-not-under (fin false m e) p q =
+    not-le-of-lt (ltb→lt (m * up e * 1) (0 * down e) q) (le-of-lt (ltb→lt (0 * down e) (m * up e * 1) p))
 
 apart : {p q : ℕ} → p ≡ q → p < q → ⊥
 apart h k = omega arith
@@ -67,32 +76,66 @@ unfolding eq lt
 zero-not-above nan e t = t
 zero-not-above (inf s) e t = e
 zero-not-above (fin true m g) e t = t
-zero-not-above (fin false m g) e t = apart (sym (eqb→eq (m * up g * 1) (0 * down g) (and-l (eqb (m * up g * 1) (0 * down g)) true e))) (ltb→lt (0 * down g) (m * up g * 1) t)
+zero-not-above (fin false m g) e t =
+    apart (sym (eqb→eq (m * up g * 1) (0 * down g) (and-l (eqb (m * up g * 1) (0 * down g)) true e)))
+    (ltb→lt (0 * down g) (m * up g * 1) t)
 
 zero-not-under : (x : Float) → T (eq x zeroOf) → T (lt x zeroOf) → ⊥
 unfolding eq lt
 zero-not-under nan e t = t
 zero-not-under (inf s) e t = e
-zero-not-under (fin false m g) e t = apart (eqb→eq (m * up g * 1) (0 * down g) (and-l (eqb (m * up g * 1) (0 * down g)) true e)) (ltb→lt (m * up g * 1) (0 * down g) t)
+zero-not-under (fin false m g) e t =
+    apart (eqb→eq (m * up g * 1) (0 * down g) (and-l (eqb (m * up g * 1) (0 * down g)) true e))
+    (ltb→lt (m * up g * 1) (0 * down g) t)
 zero-not-under (fin true m g) e t =
-    clash (m * up g * 1) (0 * down g) (zero-mul (down g)) (eqb→eq (m * up g * 1) (0 * down g) (and-l (eqb (m * up g * 1) (0 * down g)) (eqb (m * up g * 1) 0) e)) (ltb→lt 0 (m * up g * 1 + 0 * down g) t)
+    clash (m * up g * 1) (0 * down g) (zero-mul (down g))
+    (eqb→eq (m * up g * 1) (0 * down g) (and-l (eqb (m * up g * 1) (0 * down g)) (eqb (m * up g * 1) 0) e))
+    (ltb→lt 0 (m * up g * 1 + 0 * down g) t)
   where
     clash : (p q : ℕ) → q ≡ 0 → p ≡ q → 0 < p + q → ⊥
     clash p q z h k = omega arith
 
 order : (u v : ℕ) → (u < v) ⊎ ((u ≡ v) ⊎ (v < u))
-order u v = elim (decLe u v) [ yes h ↦ elim (eq-or-lt-of-le h) [ inl e ↦ inr (inl e) | inr l ↦ inl l ] | no h ↦ inr (inr (lt-of-not-le h)) ]
+order u v =
+    elim (decLe u v) [
+      | yes h ↦ elim (eq-or-lt-of-le h) [ inl e ↦ inr (inl e) | inr l ↦ inl l ]
+      | no h ↦ inr
+          (inr (lt-of-not-le h))
+    ]
 
 -- one way is enough, since the three exclude each other
-signed : (r : Float) (u v : ℕ) → (u < v → T (lt zeroOf r)) → (u ≡ v → T (eq r zeroOf)) → (v < u → T (lt r zeroOf)) → Signed r u v
+signed : (r : Float) (u v : ℕ) → (u < v → T (lt zeroOf r)) → (u ≡ v → T (eq r zeroOf)) → (v < u → T (lt r zeroOf))
+    → Signed r u v
 signed r u v above level under =
     record {
-      above = ((λ t. elim (order u v) [ inl l ↦ l | inr o ↦ elim o [ inl e ↦ absurd (zero-not-above r (level e) t) | inr g ↦ absurd (above-not-under r t (under g)) ] ]), above);
-      level = ((λ t. elim (order u v) [ inl l ↦ absurd (zero-not-above r t (above l)) | inr o ↦ elim o [ inl e ↦ e | inr g ↦ absurd (zero-not-under r t (under g)) ] ]), level);
-      under = ((λ t. elim (order u v) [ inl l ↦ absurd (above-not-under r (above l) t) | inr o ↦ elim o [ inl e ↦ absurd (zero-not-under r (level e) t) | inr g ↦ g ] ]), under);
+      above = (
+        (λ t. elim (order u v) [
+          | inl l ↦ l
+          | inr o ↦ elim o
+              [ inl e ↦ absurd (zero-not-above r (level e) t) | inr g ↦ absurd (above-not-under r t (under g)) ]
+        ]),
+        above,
+      );
+      level = (
+        (λ t. elim (order u v) [
+          | inl l ↦ absurd (zero-not-above r t (above l))
+          | inr o ↦ elim o
+              [ inl e ↦ e | inr g ↦ absurd (zero-not-under r t (under g)) ]
+        ]),
+        level,
+      );
+      under = (
+        (λ t. elim (order u v) [
+          | inl l ↦ absurd (above-not-under r (above l) t)
+          | inr o ↦ elim o
+              [ inl e ↦ absurd (zero-not-under r (level e) t) | inr g ↦ g ]
+        ]),
+        under,
+      );
     }
 
--- ---- the exact order, from the order of what was rounded. g / u is v / n to within e / (2 * u * n), which is less than 1 / n
+-- ---- the exact order, from the order of what was rounded. g / u is v / n to within e / (2 * u * n), which is less
+-- than 1 / n
 above-core : (v n sq g u e : ℕ) → g * n * 2 ≤ v * u * 2 + e → e < u * 2 → v < n * sq → g < sq * u
 above-core v n sq g u e h k l =
     let m : suc v * u ≤ n * sq * u = mul-le-mul-right u l in
@@ -109,10 +152,13 @@ under-core v n sq g u e h k l =
 
 -- d of the smallest values, rounded: finite, and above zero if d is
 few-units : (d : ℕ) → d ≤ 2 ^ 1110 → grid F d U < overflow F
-few-units d h = lt-of-le-of-lt (spot-le 53 1058 (d * U) U (pow-pos 1074) (mul-lt-mul-of-pos-right {n = 2 ^ 1111} (lt-of-le-of-lt h (lit< tt)) (pow-pos 1074))) (lit< tt)
+few-units d h =
+    lt-of-le-of-lt (spot-le 53 1058 (d * U) U (pow-pos 1074)
+    (mul-lt-mul-of-pos-right {n = 2 ^ 1111} (lt-of-le-of-lt h (lit< tt)) (pow-pos 1074))) (lit< tt)
 
 some-units : (d : ℕ) → 0 < d → 0 < grid F d U
-some-units d h = spot-pos 53 (d * U) U (lit< tt) (pow-pos 1074) (le-trans (le-of-eq (sym (one-mul U))) (mul-le-mul-right U h))
+some-units d h =
+    spot-pos 53 (d * U) U (lit< tt) (pow-pos 1074) (le-trans (le-of-eq (sym (one-mul U))) (mul-le-mul-right U h))
 
 round-zero : round F false 0 1 ≡ zeroOf
 unfolding round
@@ -147,7 +193,9 @@ module _ {n a b c sq : ℕ} (box : Numbers n a b c sq) (few : n ≤ 200000) wher
       exact F v q-small (add-whole F (exact F (a * a + b * b) (omega (arith, q-small)) (add-whole F A B)) C)
 
   pub q-exact : qOf a b c ≡ whole v
-  q-exact = whole-unique F (qOf a b c) (whole v) false v (add-fits F (add F (squareOf a) (squareOf b)) (squareOf c)) (ofInt-fits F (pos v)) (value-of q-value) (value-of (of-whole F v q-small))
+  q-exact =
+      whole-unique F (qOf a b c) (whole v) false v (add-fits F (add F (squareOf a) (squareOf b)) (squareOf c))
+      (ofInt-fits F (pos v)) (value-of q-value) (value-of (of-whole F v q-small))
 
   -- ---- the quotient: g of the smallest values, less than 1 / n off
   scaled : v * U < 2 ^ (53 + 1057) * n
@@ -188,11 +236,14 @@ module _ {n a b c sq : ℕ} (box : Numbers n a b c sq) (few : n ≤ 200000) wher
       let l : g < sq * U = above-core v n sq g U error (near .0) error-small h in
       let d = sq * U - g in
       subst (λ (z : Float). T (lt zeroOf z)) (sym (less-of F (squares-value box) quot-value (le-of-lt l)))
-      (above-zero (round F false d U) (grid F d U) U (some-units d (sub-pos-iff-lt .1 l)) (round-value F false d U (few-units d (le-trans (sub-le (sq * U) g) sq-le))))
+      (above-zero (round F false d U) (grid F d U) U (some-units d (sub-pos-iff-lt .1 l))
+      (round-value F false d U (few-units d (le-trans (sub-le (sq * U) g) sq-le))))
 
   level : v ≡ n * sq → T (eq (spreadAt n a b c sq) zeroOf)
   level h =
-      let e : quotAt n a b c ≡ whole sq = quot-is ∙ round-same F false v n sq 1 (box .some) (lit< tt) (mul-one v ∙ h ∙ mul-comm n sq) ∙ sym (whole-is F sq) in
+      let e : quotAt n a b c ≡ whole sq =
+      quot-is ∙ round-same F false v n sq 1 (box .some) (lit< tt) (mul-one v ∙ h ∙ mul-comm n sq)
+      ∙ sym (whole-is F sq) in
       is-zero
       (ap (λ (z : Float). sub F (whole sq) z) e
       ∙ less-of F (squares-value box) (squares-value box) (le-of-eq (sym (mul-one sq)))
@@ -204,15 +255,20 @@ module _ {n a b c sq : ℕ} (box : Numbers n a b c sq) (few : n ≤ 200000) wher
       let l : sq * U < g = under-core v n sq g U error (near .1) error-small h in
       let d = g - sq * U in
       subst (λ (z : Float). T (lt z zeroOf)) (sym (less-under F (squares-value box) quot-value l))
-      (under-zero (round F true d U) (grid F d U) U (some-units d (sub-pos-iff-lt .1 l)) (round-value F true d U (few-units d (le-trans (sub-le g (sq * U)) g-le))))
+      (under-zero (round F true d U) (grid F d U) U (some-units d (sub-pos-iff-lt .1 l))
+      (round-value F true d U (few-units d (le-trans (sub-le g (sq * U)) g-le))))
 
   pub numbers-sign : Signed (spreadAt n a b c sq) v (n * sq)
   numbers-sign = signed (spreadAt n a b c sq) v (n * sq) above level under
 
 -- ---- a box of a sound table
-module _ {g : Grid} {v : View} (s : Sound limit g v) {x : Bounds} (w : Within g x) (some : 1 ≤ boxSum g v x 0) (few : boxSum g v x 0 ≤ 200000) where
-  pub box-q-exact : qOf (boxSum g v x 1) (boxSum g v x 2) (boxSum g v x 3) ≡ whole (exactQ (boxSum g v x 1) (boxSum g v x 2) (boxSum g v x 3))
+module _ {g : Grid} {v : View} (s : Sound limit g v) {x : Bounds} (w : Within g x) (some : 1 ≤ boxSum g v x 0)
+    (few : boxSum g v x 0 ≤ 200000) where
+  pub box-q-exact : qOf (boxSum g v x 1) (boxSum g v x 2) (boxSum g v x 3)
+      ≡ whole (exactQ (boxSum g v x 1) (boxSum g v x 2) (boxSum g v x 3))
   box-q-exact = q-exact (numbers s w some) few
 
-  pub box-sign : oneBin x ≡ false → Signed (spreadOf x (statsOf g v x)) (exactQ (boxSum g v x 1) (boxSum g v x 2) (boxSum g v x 3)) (boxSum g v x 0 * boxSum g v x 4)
+  pub box-sign : oneBin x ≡ false
+      → Signed (spreadOf x (statsOf g v x)) (exactQ (boxSum g v x 1) (boxSum g v x 2) (boxSum g v x 3))
+      (boxSum g v x 0 * boxSum g v x 4)
   box-sign e = rw (spread-is g v x e) (numbers-sign (numbers s w some) few)

@@ -5,12 +5,13 @@ use mathlib.Core.Bool.{true, false}
 use mathlib.Core.List.{[], _∷_}
 use Prim.Native.Nat.{ℕ, _<_}
 use lib.Ieee.{Float, lt}
-use Rattle.grid.specs.declared.Grid.{Grid}
+use Rattle.grid.specs.declared.place.Grid.{Grid}
 use Rattle.table.specs.Cell.{View}
-use Rattle.sums.specs.declared.Bounds.{Bounds}
-use Rattle.sums.specs.Box.{boxSum, statsOf, minAt, maxAt, lowSide, highSide}
+use Rattle.boxes.specs.declared.sides.Bounds.{Bounds}
+use Rattle.sums.specs.Box.{boxSum, statsOf}
+use Rattle.boxes.specs.Box.{minAt, maxAt, lowSide, highSide}
 use Rattle.spread.specs.Spread.{scoreOf}
-use Rattle.spread.specs.Cut.{Told}
+use Rattle.spread.specs.Cut.{ScoredAnswer}
 
 -- weight on both sides of a position
 pub record Split (g : Grid) (v : View) (x : Bounds) (d bin : ℕ) : Type 0 where
@@ -39,7 +40,10 @@ pub record Winner (A : ℕ → ℕ → Float → Type 0) (d i : ℕ) (s : Float)
   pub first : {e j : ℕ} {t : Float} → A e j t → Earlier e j d i → lt s t ≡ true
 
 -- what a caller is told: that one, or that there is none
-abbrev pub Tells : (ℕ → ℕ → Float → Type 0) → Told → Type 0
-Tells A told =
-    (_≡_ {A = Told} told (record { number = 0; values = []; scores = [] }) × ((d i : ℕ) (s : Float) → A d i s → ⊥))
-    ⊎ ((d : ℕ) × ((i : ℕ) × ((s : Float) × (_≡_ {A = Told} told (record { number = 0; values = d ∷ i ∷ []; scores = s ∷ [] }) × Winner A d i s))))
+abbrev pub Tells : (ℕ → ℕ → Float → Type 0) → ScoredAnswer → Type 0
+Tells A answer =
+    (_≡_ {A = ScoredAnswer} answer (record { number = 0; values = []; scores = [] })
+    × ((d i : ℕ) (s : Float) → A d i s → ⊥))
+    ⊎ ((d : ℕ) × ((i : ℕ) × ((s : Float)
+    × (_≡_ {A = ScoredAnswer} answer (record { number = 0; values = d ∷ i ∷ []; scores = s ∷ [] })
+    × Winner A d i s))))

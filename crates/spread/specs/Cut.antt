@@ -4,22 +4,24 @@ use mathlib.Core.List.{List, [], _∷_}
 use Prim.Native.Nat.{ℕ, zero, suc, _+_, _-_}
 use lib.Dec.{eqb}
 use lib.Ieee.{Float, lt}
-use Rattle.grid.specs.declared.Grid.{Grid}
+use Rattle.grid.specs.declared.place.Grid.{Grid}
 use Rattle.table.specs.Cell.{View}
-use Rattle.sums.specs.declared.Bounds.{Bounds}
-use Rattle.sums.specs.declared.Stats.{Stats}
-use Rattle.sums.specs.Box.{statsOf, minAt, maxAt, lowSide, highSide}
-use Rattle.spread.specs.declared.Position.{Position}
-use Rattle.spread.specs.declared.Position.the-variants.{At, Nowhere}
+use Rattle.boxes.specs.declared.sides.Bounds.{Bounds}
+use Rattle.sums.specs.declared.box_sums.Stats.{Stats}
+use Rattle.sums.specs.Box.{statsOf}
+use Rattle.boxes.specs.Box.{minAt, maxAt, lowSide, highSide}
+use Rattle.spread.specs.declared.position.Position.{Position}
+use Rattle.spread.specs.declared.position.Position.the-variants.{At, Nowhere}
 use Rattle.spread.specs.Spread.{scoreOf}
 
--- what a caller is told of each case: "either a position with its float score, or that no position exists"; neither is a refusal
-pub record Told : Type 0 where
+-- the number, the values and the scores of each case: "either a position with its float score, or that no position
+-- exists"; neither is a refusal
+pub record ScoredAnswer : Type 0 where
   pub number : ℕ
   pub values : List ℕ
   pub scores : List Float
 
-unfoldable pub positionAnswer : Position → Told
+unfoldable pub positionAnswer : Position → ScoredAnswer
 positionAnswer (At d bin score) = record { number = 0; values = d ∷ bin ∷ []; scores = score ∷ [] }
 positionAnswer Nowhere = record { number = 0; values = []; scores = [] }
 

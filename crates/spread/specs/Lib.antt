@@ -1,4 +1,4 @@
 pub mod Spread
 pub mod Cut
 pub mod Best
-pub mod Walk
+pub mod Inner

@@ -1,27 +1,25 @@
 -- Spread and score in f64 (document 01, "Spread" and "Cutting one box"). Definitions only.
 use mathlib.Core.Path.{_≡_}
-use mathlib.Core.Bool.{Bool, false, _&&_, cond}
+use mathlib.Core.Bool.{true, false, cond}
 use mathlib.Core.Logic.{_↔_}
-use Prim.Native.Nat.{ℕ, _+_, _-_, _*_, _≤_, _<_}
-use lib.Dec.{T, eqb}
+use Prim.Native.Nat.{ℕ, _+_, _*_, _≤_, _<_}
+use lib.Dec.{T}
 use lib.IntN.{pos}
-use lib.Ieee.{Float, fin, binary64, add, sub, mul, div, neg, ofInt, lt, eq}
-use Rattle.grid.specs.declared.Grid.{Grid}
+use lib.Ieee.{Float, fin, binary64, add, sub, mul, div, neg, lt, eq}
+use Rattle.grid.specs.declared.place.Grid.{Grid}
 use Rattle.grid.specs.Grid.{placeOf}
 use Rattle.table.specs.Cell.{View}
 use Rattle.table.specs.Sound.{limit}
-use Rattle.sums.specs.declared.Bounds.{Bounds}
-use Rattle.sums.specs.declared.Stats.{Stats}
-use Rattle.sums.specs.Box.{statsOf, Within, InBox}
+use Rattle.boxes.specs.declared.sides.Bounds.{Bounds}
+use Rattle.sums.specs.declared.box_sums.Stats.{Stats}
+use Rattle.sums.specs.Box.{whole, statsOf}
+use Rattle.boxes.specs.Box.{Within, oneBin}
+use Rattle.boxes.specs.Holds.{holds}
 
--- "each whole number first turned into f64"
-abbrev pub whole : ℕ → Float
-whole n = ofInt binary64 (pos n)
-
+-- "Q is c1², then plus c2², then plus c3², each operation rounded once", each whole number first turned into f64
 abbrev pub squareOf : ℕ → Float
 squareOf n = mul binary64 (whole n) (whole n)
 
--- "Q is c1², then plus c2², then plus c3², each operation rounded once"
 abbrev pub qOf : ℕ → ℕ → ℕ → Float
 qOf a b c = add binary64 (add binary64 (squareOf a) (squareOf b)) (squareOf c)
 
@@ -35,9 +33,6 @@ quotientOf s = div binary64 (qOf (s .sum1) (s .sum2) (s .sum3)) (whole (s .weigh
 
 abbrev pub zeroOf : Float
 zeroOf = fin false 0 (pos 0)
-
-unfoldable pub oneBin : Bounds → Bool
-oneBin x = eqb (x .r1 - x .r0) 1 && (eqb (x .g1 - x .g0) 1 && eqb (x .b1 - x .b0) 1)
 
 -- "A box of one bin has spread exactly 0.0. Any other box .. has squares − Q/n"
 unfoldable pub spreadOf : Bounds → Stats → Float
@@ -60,14 +55,9 @@ pub record Plain (s : Stats) : Type 0 where
   pub two : s .sum2 ≤ 255 * s .weight
   pub three : s .sum3 ≤ 255 * s .weight
 
--- a box with its ends in order
-pub record Ordered (x : Bounds) : Type 0 where
-  pub one : x .r0 ≤ x .r1
-  pub two : x .g0 ≤ x .g1
-  pub three : x .b0 ≤ x .b1
-
--- the property behind the number of boxes: a box with two occupied bins, and so of more than one, has a computed spread above 0
+-- the property behind the number of boxes: a box with two occupied bins, and so of more than one, has a computed
+-- spread above 0
 pub record SpreadsAbove (g : Grid) (v : View) : Type 0 where
-  pub above : (x : Bounds) → Within g x → (r gr b r' gr' b' : ℕ) → InBox x r gr b → InBox x r' gr' b'
+  pub above : (x : Bounds) → Within g x → (r gr b r' gr' b' : ℕ) → holds x r gr b ≡ true → holds x r' gr' b' ≡ true
       → (v (placeOf g r gr b) 0 ≡ 0 → ⊥) → (v (placeOf g r' gr' b') 0 ≡ 0 → ⊥)
       → (placeOf g r gr b ≡ placeOf g r' gr' b' → ⊥) → T (lt zeroOf (spreadOf x (statsOf g v x)))

@@ -1,27 +1,35 @@
 -- A box's sum from the moments, by inclusion and exclusion.
 -- Assumes nothing.
 use mathlib.Core.Path.{_≡_, refl, sym, ap, _∙_}
-use mathlib.Core.List.{List}
 use Prim.Native.Nat.{ℕ, _+_, _-_, _^_, _≤_, _<_}
 use native.Mathlib.Nat.{zero-add}
 use native.Mathlib.Omega.{arith}
 use lib.Dec.{lit<}
-use Rattle.grid.specs.declared.Grid.{Grid}
-use Rattle.grid.specs.Range.{sumFrom}
-use Rattle.grid.specs.Grid.{Inside, choose, sizeAt, binsOf, placeOf}
-use Rattle.grid.proofs.Range.{sum-zero, sum-same}
+use Rattle.grid.specs.declared.place.Grid.{Grid}
+use Rattle.basics.specs.Range.{sumFrom}
+use Rattle.grid.specs.Grid.{Inside, placeOf}
+use Rattle.basics.proofs.Range.{sum-zero, sum-same}
 use Rattle.grid.proofs.Places.{place-lt}
-use Rattle.table.specs.declared.Cell.{Cell}
-use Rattle.table.specs.Cell.{View, wide, cellOf, numberOf, minusCell, AtLeast, HasCell}
+use Rattle.table.specs.declared.cell.Cell.{Cell}
+use Rattle.table.specs.Cell.{View, cellOf, numberOf, minusCell, AtLeast}
+use Rattle.table.specs.Table.{Table, viewOf, HasCell}
 use Rattle.table.specs.Sound.{limit}
-use Rattle.table.proofs.Cells.{Holds, list-holds, number-cell, cell-by, Fields, cell-fields, minus-least, minus-is, zero-cell}
+use Rattle.table.proofs.Tables.{has-cell}
+use Rattle.table.proofs.Cells.{number-cell, cell-by, Fields, cell-fields, minus-least, minus-is, zero-cell}
 use Rattle.table.proofs.Soundness.{Sound}
-use Rattle.sums.specs.declared.Bounds.{Bounds}
-use Rattle.sums.specs.declared.Stats.{Stats}
-use Rattle.sums.specs.Box.{minAt, maxAt, sum3, binSum, boxSum, statsFrom, Within}
-use Rattle.sums.specs.Moments.{belowSum, momentsOf, binCell, Corner}
+use Rattle.boxes.specs.declared.sides.Bounds.{Bounds}
+use Rattle.sums.specs.declared.box_sums.Stats.{Stats}
+use Rattle.boxes.specs.Box.{Within}
+use Rattle.sums.specs.Box.{sum3, binSum, boxSum, statsFrom}
+use Rattle.sums.specs.Moments.{belowSum}
+use Rattle.sums.specs.Inner.{binCell, Corner}
+use Rattle.boxes.proofs.Within.{Sides, sides}
 use Rattle.sums.proofs.Boxes.{sum3-first, sum3-second, sum3-third}
 use Rattle.sums.proofs.Below.{moments-at, below-small}
+
+-- a cell of zeros
+abbrev pub zeroCell : Cell
+zeroCell = record { weight = 0; sum1 = 0; sum2 = 0; sum3 = 0; squares = 0 }
 
 -- no bins
 pub no-first : (g : Grid) (v : View) (a b m c k j : ℕ) → binSum g v a 0 b m c k j ≡ 0
@@ -44,21 +52,24 @@ module _ (g : Grid) (v : View) where
   abbrev bin : ℕ → ℕ → ℕ → ℕ → ℕ
   bin j r gr b = v (placeOf g r gr b) j
 
-  pub first-from : (s e b m c k j : ℕ) → s ≤ e → binSum g v 0 e b m c k j ≡ binSum g v 0 s b m c k j + binSum g v s (e - s) b m c k j
+  pub first-from : (s e b m c k j : ℕ) → s ≤ e → binSum g v 0 e b m c k j
+      ≡ binSum g v 0 s b m c k j + binSum g v s (e - s) b m c k j
   unfolding binSum
   first-from s e b m c k j h =
       ap (λ (n : ℕ). sum3 0 n b m c k (bin j)) (ends s e h)
       ∙ sum3-first (bin j) 0 s (e - s) b m c k
       ∙ ap (λ (n : ℕ). sum3 0 s b m c k (bin j) + sum3 n (e - s) b m c k (bin j)) (zero-add s)
 
-  pub second-from : (a n s e c k j : ℕ) → s ≤ e → binSum g v a n 0 e c k j ≡ binSum g v a n 0 s c k j + binSum g v a n s (e - s) c k j
+  pub second-from : (a n s e c k j : ℕ) → s ≤ e → binSum g v a n 0 e c k j
+      ≡ binSum g v a n 0 s c k j + binSum g v a n s (e - s) c k j
   unfolding binSum
   second-from a n s e c k j h =
       ap (λ (m : ℕ). sum3 a n 0 m c k (bin j)) (ends s e h)
       ∙ sum3-second (bin j) a n 0 s (e - s) c k
       ∙ ap (λ (m : ℕ). sum3 a n 0 s c k (bin j) + sum3 a n m (e - s) c k (bin j)) (zero-add s)
 
-  pub third-from : (a n b m s e j : ℕ) → s ≤ e → binSum g v a n b m 0 e j ≡ binSum g v a n b m 0 s j + binSum g v a n b m s (e - s) j
+  pub third-from : (a n b m s e j : ℕ) → s ≤ e → binSum g v a n b m 0 e j
+      ≡ binSum g v a n b m 0 s j + binSum g v a n b m s (e - s) j
   unfolding binSum
   third-from a n b m s e j h =
       ap (λ (k : ℕ). sum3 a n b m 0 k (bin j)) (ends s e h)
@@ -66,11 +77,13 @@ module _ (g : Grid) (v : View) where
       ∙ ap (λ (k : ℕ). sum3 a n b m 0 s (bin j) + sum3 a n b m k (e - s) (bin j)) (zero-add s)
 
 -- the cell of a run of bins, from those up to its end and up to its start
-module _ (F : ℕ → ℕ → ℕ → ℕ) (split : (s e j : ℕ) → s ≤ e → F 0 e j ≡ F 0 s j + F s (e - s) j) {s e : ℕ} (h : s ≤ e) {upper : Cell} (p : upper ≡ cellOf (F 0 e)) where
+module _ (F : ℕ → ℕ → ℕ → ℕ) (split : (s e j : ℕ) → s ≤ e → F 0 e j ≡ F 0 s j + F s (e - s) j) {s e : ℕ}
+    (h : s ≤ e) {upper : Cell} (p : upper ≡ cellOf (F 0 e)) where
   pub from-least : {lower : Cell} → lower ≡ cellOf (F 0 s) → AtLeast upper lower
   from-least q = minus-least (F 0 e) (F 0 s) (F s (e - s)) (λ j. split s e j h) p q
 
-  pub from-is : {lower : Cell} → lower ≡ cellOf (F 0 s) → {x : Cell} → x ≡ minusCell upper lower → x ≡ cellOf (F s (e - s))
+  pub from-is : {lower : Cell} → lower ≡ cellOf (F 0 s) → {x : Cell} → x ≡ minusCell upper lower → x
+      ≡ cellOf (F s (e - s))
   from-is q r = minus-is (F 0 e) (F 0 s) (F s (e - s)) (λ j. split s e j h) p q r
 
   pub from-start : s ≡ 0 → upper ≡ cellOf (F s (e - s))
@@ -80,15 +93,17 @@ module _ (F : ℕ → ℕ → ℕ → ℕ) (split : (s e j : ℕ) → s ≤ e �
       same = omega arith
 
 -- zeros where there are no bins
-pub zeros-are : (g : Grid) (v : View) (a n b m c k : ℕ) → ((j : ℕ) → binSum g v a n b m c k j ≡ 0) → _≡_ {A = Cell} (record { weight = 0; sum1 = 0; sum2 = 0; sum3 = 0; squares = 0 }) (binCell g v a n b m c k)
+pub zeros-cell : (f : ℕ → ℕ) → ((j : ℕ) → f j ≡ 0) → zeroCell ≡ cellOf f
+zeros-cell f e =
+    zero-cell ∙ cell-by (cellOf (λ j. 0)) (cellOf f) (λ j h. number-cell (λ i. 0) j h ∙ sym (number-cell f j h ∙ e j))
+
+pub zeros-are : (g : Grid) (v : View) (a n b m c k : ℕ) → ((j : ℕ) → binSum g v a n b m c k j ≡ 0)
+    → zeroCell ≡ binCell g v a n b m c k
 unfolding binCell
-zeros-are g v a n b m c k e =
-    zero-cell
-    ∙ cell-by (cellOf (λ j. 0)) (cellOf (binSum g v a n b m c k))
-    (λ j h. number-cell (λ i. 0) j h ∙ sym (number-cell (binSum g v a n b m c k) j h ∙ e j))
+zeros-are g v a n b m c k e = zeros-cell (binSum g v a n b m c k) e
 
 -- the work table at a corner
-module _ {g : Grid} {t w : List ℕ} {r gr b : ℕ} (c : Corner g t w r gr b) where
+module _ {g : Grid} {t w : Table} {r gr b : ℕ} (c : Corner g t w r gr b) where
   before : (n : ℕ) → 0 < n → (n - 1) + 1 ≡ n
   before n h = omega arith
 
@@ -96,64 +111,45 @@ module _ {g : Grid} {t w : List ℕ} {r gr b : ℕ} (c : Corner g t w r gr b) wh
     pub corner-inside : Inside g (r - 1) (gr - 1) (b - 1)
     corner-inside =
         record {
-          accepted = c .worked .table .accepted;
+          accepted = c .can-sum .table .accepted;
           one = omega (arith, c .one);
           two = omega (arith, c .two);
           three = omega (arith, c .three);
         }
 
-    holds : Holds (binsOf g) w (momentsOf g (wide t))
-    holds = rw (c .worked .moments) (list-holds (binsOf g) (momentsOf g (wide t)))
-
     pub corner-cell : {p : ℕ} → p ≡ placeOf g (r - 1) (gr - 1) (b - 1) → HasCell w p
-    corner-cell at = record { fits = omega (arith, place-lt corner-inside, holds .lent, at) }
+    corner-cell {p} at = has-cell (c .can-sum .work) p (omega (arith, place-lt corner-inside, at))
 
-    pub corner-number : {p : ℕ} → p ≡ placeOf g (r - 1) (gr - 1) (b - 1) → (j : ℕ) → j < 5 → wide w p j ≡ binSum g (wide t) 0 r 0 gr 0 b j
+    pub corner-number : {p : ℕ} → p ≡ placeOf g (r - 1) (gr - 1) (b - 1) → (j : ℕ) → j < 5 → viewOf w p j
+        ≡ binSum g (viewOf t) 0 r 0 gr 0 b j
     unfolding belowSum
     corner-number at j m =
-        ap (λ (n : ℕ). wide w n j) at
-        ∙ holds .at (placeOf g (r - 1) (gr - 1) (b - 1)) j (place-lt corner-inside) m
-        ∙ moments-at g (wide t) (r - 1) (gr - 1) (b - 1) j (corner-inside .two) (corner-inside .three)
-        ∙ (λ i. binSum g (wide t) 0 (before r h i) 0 (before gr k i) 0 (before b l i) j)
+        ap (λ (n : ℕ). viewOf w n j) at
+        ∙ c .can-sum .has-moments .at (placeOf g (r - 1) (gr - 1) (b - 1)) j (place-lt corner-inside) m
+        ∙ moments-at g (viewOf t) (r - 1) (gr - 1) (b - 1) j (corner-inside .two) (corner-inside .three)
+        ∙ (λ i. binSum g (viewOf t) 0 (before r h i) 0 (before gr k i) 0 (before b l i) j)
 
-    pub corner-is : {p : ℕ} → p ≡ placeOf g (r - 1) (gr - 1) (b - 1) → {x : Cell} → x ≡ cellOf (wide w p) → x ≡ binCell g (wide t) 0 r 0 gr 0 b
+    pub corner-is : {p : ℕ} → p ≡ placeOf g (r - 1) (gr - 1) (b - 1) → {x : Cell} → x ≡ cellOf (viewOf w p) → x
+        ≡ binCell g (viewOf t) 0 r 0 gr 0 b
     unfolding binCell
     corner-is {p} at {x} e =
-        cell-by x (binCell g (wide t) 0 r 0 gr 0 b)
+        cell-by x (binCell g (viewOf t) 0 r 0 gr 0 b)
         (λ j m.
         ap (λ (y : Cell). numberOf y j) e
-        ∙ number-cell (wide w p) j m
+        ∙ number-cell (viewOf w p) j m
         ∙ corner-number at j m
-        ∙ sym (number-cell (binSum g (wide t) 0 r 0 gr 0 b) j m))
+        ∙ sym (number-cell (binSum g (viewOf t) 0 r 0 gr 0 b) j m))
 
-    pub corner-squares : binSum g (wide t) 0 r 0 gr 0 b 4 ≤ 2 ^ 53
+    pub corner-squares : binSum g (viewOf t) 0 r 0 gr 0 b 4 ≤ 2 ^ 53
     unfolding belowSum
     corner-squares =
-        omega (arith, below-small (c .worked .table .accepted) (record { holds = c .worked .is-sound }) r gr b 4 (c .one) (c .two) (c .three) (lit< tt))
-
--- ---- boxes
-pub record Sides (g : Grid) (x : Bounds) : Type 0 where
-  pub one : x .r0 < x .r1
-  pub two : x .g0 < x .g1
-  pub three : x .b0 < x .b1
-  pub one-fits : x .r1 ≤ g .b1
-  pub two-fits : x .g1 ≤ g .b2
-  pub three-fits : x .b1 ≤ g .b3
-
-pub sides : {g : Grid} {x : Bounds} → Within g x → Sides g x
-unfolding minAt maxAt sizeAt choose
-sides w =
-    record {
-      one = w .some 0;
-      two = w .some 1;
-      three = w .some 2;
-      one-fits = w .fits 0;
-      two-fits = w .fits 1;
-      three-fits = w .fits 2;
-    }
+        let h = c .can-sum in
+        let s : Sound limit g (viewOf t) = record { holds = h .is-sound } in
+        omega (arith, below-small (h .table .accepted) s r gr b 4 (c .one) (c .two) (c .three) (lit< tt))
 
 -- a box has no more than the bins below its ends
-pub box-below : (g : Grid) (v : View) (x : Bounds) (j : ℕ) → Sides g x → boxSum g v x j ≤ belowSum g v (x .r1) (x .g1) (x .b1) j
+pub box-below : (g : Grid) (v : View) (x : Bounds) (j : ℕ) → Sides g x
+    → boxSum g v x j ≤ belowSum g v (x .r1) (x .g1) (x .b1) j
 unfolding boxSum belowSum
 box-below g v x j s =
     omega (
@@ -167,7 +163,12 @@ box-below g v x j s =
 pub box-squares : {g : Grid} {v : View} → Sound limit g v → {x : Bounds} → Within g x → boxSum g v x 4 ≤ 2 ^ 53
 box-squares {g} {v} s {x} w =
     let e = sides w in
-    omega (arith, box-below g v x 4 e, below-small (w .accepted) s (x .r1) (x .g1) (x .b1) 4 (e .one-fits) (e .two-fits) (e .three-fits) (lit< tt))
+    omega (
+      arith,
+      box-below g v x 4 e,
+      below-small (w .accepted) s (x .r1) (x .g1) (x .b1) 4 (e .one-fits)
+          (e .two-fits) (e .three-fits) (lit< tt),
+    )
 
 -- ---- statistics of five numbers
 pub stats-by : (f h : ℕ → ℕ) → ((j : ℕ) → j < 5 → f j ≡ h j) → statsFrom f ≡ statsFrom h

@@ -3,6 +3,6 @@ pub mod Below
 pub mod Steps
 pub mod Corners
 pub mod Laws
-pub mod Loaded
+pub mod Hits
 pub mod Same
 pub mod Occupied

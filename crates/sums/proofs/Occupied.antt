@@ -1,23 +1,27 @@
 -- The occupied bins of a box, counted: one at least where it has weight, and more than one only where two bins differ.
 -- Assumes nothing.
 use mathlib.Core.Path.{_≡_, refl, ap, _∙_}
-use mathlib.Core.Bool.{Bool, true, false, cond, _&&_}
+use mathlib.Core.Bool.{Bool, true, false, cond}
 use Prim.Native.Nat.{ℕ, zero, suc, _+_, _-_, _≤_, _<_}
 use native.Mathlib.Nat.{lt-of-not-le}
 use native.Mathlib.Decide.{ℕ-discrete, decLe}
 use native.Mathlib.Omega.{arith}
 use borrow.Author.Tests.{eq-eqb, ne-eqb}
 use lib.Dec.{eqb}
-use Rattle.grid.specs.declared.Grid.{Grid}
-use Rattle.grid.specs.Range.{sumFrom}
+use Rattle.grid.specs.declared.place.Grid.{Grid}
+use Rattle.basics.specs.Range.{sumFrom}
 use Rattle.grid.specs.Grid.{placeOf}
-use Rattle.grid.proofs.Range.{hit, hit-yes, hit-no}
+use Rattle.basics.proofs.Range.{hit, hit-yes, hit-no}
 use Rattle.table.specs.Cell.{View}
-use Rattle.sums.specs.declared.Bounds.{Bounds}
-use Rattle.sums.specs.Box.{sum3, binSum, boxSum, Within, InBox, marks, occupiedIn}
+use Rattle.boxes.specs.declared.sides.Bounds.{Bounds}
+use Rattle.sums.specs.Box.{sum3, binSum, boxSum, marks, occupiedIn}
+use Rattle.boxes.specs.Box.{Within}
+use Rattle.boxes.specs.Holds.{holds}
+use Rattle.boxes.proofs.Within.{InBox}
 use Rattle.sums.proofs.Boxes.{sum3-same, sum3-plus}
-use Rattle.sums.proofs.Laws.{bins-empty, bin-inside}
-use Rattle.sums.proofs.Loaded.{among, hit-box}
+use Rattle.sums.proofs.Laws.{bins-empty}
+use Rattle.boxes.proofs.Within.{bin-inside}
+use Rattle.sums.proofs.Hits.{hit-box}
 
 -- 1 for an occupied bin
 pub marks-none : (v : View) (p j : ℕ) → v p 0 ≡ 0 → marks v p j ≡ 0
@@ -34,7 +38,8 @@ unfolding sumFrom
 some-term i zero f h = absurd (h refl)
 some-term i (suc n) f h =
     elim (ℕ-discrete (f i) 0) [
-      | yes e ↦ (let r = some-term (suc i) n f (λ z. h (omega (arith, e, z))) in (r .0, (omega (arith, r .1 .0), (omega (arith, r .1 .1 .0), r .1 .1 .1))))
+      | yes e ↦ (let r = some-term (suc i) n f (λ z. h (omega (arith, e, z))) in
+          (r .0, (omega (arith, r .1 .0), (omega (arith, r .1 .1 .0), r .1 .1 .1))))
       | no e ↦ (i, (omega arith, (omega arith, e)))
     ]
 
@@ -53,8 +58,12 @@ placeIn {g} o = placeOf g (o .one) (o .two) (o .three)
 pub some-bin : (g : Grid) (v : View) (x : Bounds) → (boxSum g v x 0 ≡ 0 → ⊥) → Bin g v x
 unfolding boxSum binSum sum3
 some-bin g v x h =
-    let plane = some-term (x .r0) (x .r1 - x .r0) (λ r. sumFrom (x .g0) (x .g1 - x .g0) (λ gr. sumFrom (x .b0) (x .b1 - x .b0) (λ b. v (placeOf g r gr b) 0))) h in
-    let row = some-term (x .g0) (x .g1 - x .g0) (λ gr. sumFrom (x .b0) (x .b1 - x .b0) (λ b. v (placeOf g (plane .0) gr b) 0)) (plane .1 .1 .1) in
+    let plane =
+    some-term (x .r0) (x .r1 - x .r0) (λ r. sumFrom (x .g0) (x .g1 - x .g0)
+    (λ gr. sumFrom (x .b0) (x .b1 - x .b0) (λ b. v (placeOf g r gr b) 0))) h in
+    let row =
+    some-term (x .g0) (x .g1 - x .g0) (λ gr. sumFrom (x .b0) (x .b1 - x .b0)
+    (λ b. v (placeOf g (plane .0) gr b) 0)) (plane .1 .1 .1) in
     let bin = some-term (x .b0) (x .b1 - x .b0) (λ b. v (placeOf g (plane .0) (row .0) b) 0) (row .1 .1 .1) in
     record {
       one = plane .0;
@@ -72,7 +81,13 @@ some-bin g v x h =
 pub some-occupied : (g : Grid) (v : View) (x : Bounds) → (boxSum g v x 0 ≡ 0 → ⊥) → 1 ≤ occupiedIn g v x
 unfolding occupiedIn
 some-occupied g v x h = let o = some-bin g v x h in
-    let n : boxSum g (marks v) x 0 ≡ 0 → ⊥ = λ e. omega (arith, marks-one v (placeIn o) 0 (o .some), bins-empty g (marks v) x e (o .one) (o .two) (o .three) (o .in-box)) in
+    let n : boxSum g (marks v) x 0 ≡ 0 → ⊥ =
+    λ e. omega (
+      arith,
+      marks-one v (placeIn o) 0 (o .some),
+      bins-empty g (marks v) x e (o .one) (o .two) (o .three)
+          (o .in-box),
+    ) in
     omega (arith, n)
 
 -- ---- two bins of a box at different places, both with some weight
@@ -83,7 +98,15 @@ pub record Two (g : Grid) (v : View) (x : Bounds) : Type 0 where
 
 -- an occupied bin
 abbrev occupant : {g : Grid} {v : View} {x : Bounds} → Bin g (marks v) x → Bin g v x
-occupant {g} {v} o = record { one = o .one; two = o .two; three = o .three; in-box = o .in-box; some = λ e. o .some (marks-none v (placeIn o) 0 e) }
+occupant {g} {v} o =
+    record {
+      one = o .one;
+      two = o .two;
+      three = o .three;
+      in-box = o .in-box;
+      some =
+          λ e. o .some (marks-none v (placeIn o) 0 e);
+    }
 
 -- the occupied bins other than the one at q
 others : View → ℕ → View
@@ -105,7 +128,14 @@ one-and-others v q p o = go (ℕ-discrete q p)
     go (no n) = omega (arith, hit-no q p 1 n, others-same v q p 0 n)
 
 with-other : {g : Grid} {v : View} {x : Bounds} (one : Bin g v x) → Bin g (others v (placeIn one)) x → Two g v x
-with-other {g} {v} {x} one o = record { one = one; other = occupant (record { one = o .one; two = o .two; three = o .three; in-box = o .in-box; some = marked }); apart = apart }
+with-other {g} {v} {x} one o =
+    record {
+      one = one;
+      other =
+          occupant (record { one = o .one; two = o .two; three = o .three; in-box = o .in-box; some = marked });
+      apart =
+          apart;
+    }
   where
     apart : placeIn one ≡ placeIn o → ⊥
     apart e = o .some (others-none v (placeIn one) (placeIn o) 0 e)
@@ -127,12 +157,13 @@ module _ {g : Grid} {v : View} {x : Bounds} (w : Within g x) where
       sum3-same (x .r0) (x .r1 - x .r0) (x .g0) (x .g1 - x .g0) (x .b0) (x .b1 - x .b0)
       (λ r gr b. marks v (placeOf g r gr b) 0) (λ r gr b. hit q (placeOf g r gr b) 1 + others v q (placeOf g r gr b) 0)
       (λ r gr b h k l. one-and-others v q (placeOf g r gr b) (o .some))
-      ∙ sum3-plus (x .r0) (x .r1 - x .r0) (x .g0) (x .g1 - x .g0) (x .b0) (x .b1 - x .b0) (λ r gr b. hit q (placeOf g r gr b) 1) (λ r gr b. others v q (placeOf g r gr b) 0) in
+      ∙ sum3-plus (x .r0) (x .r1 - x .r0) (x .g0) (x .g1 - x .g0) (x .b0) (x .b1 - x .b0)
+      (λ r gr b. hit q (placeOf g r gr b) 1) (λ r gr b. others v q (placeOf g r gr b) 0) in
       omega (
         arith,
         parts,
         hit-box w (bin-inside w (o .in-box)) 1 0,
-        at-most-one (among (x .r0) (x .r1 - x .r0) (o .one) && (among (x .g0) (x .g1 - x .g0) (o .two) && among (x .b0) (x .b1 - x .b0) (o .three))),
+        at-most-one (holds x (o .one) (o .two) (o .three)),
       )
 
   -- where two bins are occupied, there are two

@@ -1,25 +1,31 @@
--- One bin after the other: the work table before a bin, the cells that its moments are made of, and the work table after it.
+-- One bin after the other: the work table before a bin, the cells that its moments are made of, and the work table
+-- after it.
 -- Assumes nothing.
 use mathlib.Core.Path.{_≡_, sym, ap, subst, _∙_}
-use mathlib.Core.List.{List}
+use mathlib.Core.Bool.{true}
 use Prim.Native.Nat.{ℕ, suc, _+_, _-_, _*_, _^_, _≤_, _<_}
-use native.Mathlib.Nat.{zero-add, mul-le-mul-right, add-mul, one-mul, suc-mul}
+use native.Mathlib.Nat.{zero-add, mul-le-mul-right, add-mul, one-mul, suc-mul, lt-trans}
 use native.Mathlib.Decide.{decLe, ℕ-discrete}
 use native.Mathlib.Omega.{arith}
-use lib.ListN.{length}
-use Rattle.grid.specs.declared.Grid.{Grid}
+use lib.Dec.{lit<}
+use Rattle.grid.specs.declared.place.Grid.{Grid}
 use Rattle.grid.specs.Grid.{Accepted, Inside, binsOf, placeOf}
-use Rattle.grid.specs.Range.{sumFrom}
-use Rattle.grid.proofs.Range.{sum-last}
+use Rattle.basics.specs.Range.{sumFrom}
+use Rattle.basics.proofs.Range.{sum-last}
 use Rattle.grid.proofs.Size.{size-low}
 use Rattle.grid.proofs.Places.{two, three, place-lt, place-along}
-use Rattle.table.specs.declared.Cell.{Cell}
-use Rattle.table.specs.Cell.{View, wide, wideList, numberOf, cellOf, plusCell, minusCell, putAt, HasCell, Room, AtLeast}
-use Rattle.table.specs.Sound.{limit}
-use Rattle.table.proofs.Cells.{number-cell, number-plus, number-minus, cell-by, zero-cell, holds-list, length-put, put-there, put-elsewhere}
+use Rattle.table.specs.declared.cell.Cell.{Cell}
+use Rattle.table.specs.Cell.{View, numberOf, cellOf, plusCell, minusCell, SumsFit}
+use Rattle.table.specs.Table.{Table, Sized, viewOf, written, putAt, HasCell, Held, TableOf}
+use Rattle.table.specs.Sound.{limit, sound as soundFor}
+use Rattle.table.proofs.Cells.{number-cell, number-plus, number-minus, cell-by, zero-cell}
+use Rattle.table.proofs.Tables.{has-cell, list-holds, holds-list}
+use Rattle.table.proofs.Tables.{put-sized, put-there, put-elsewhere}
 use Rattle.table.proofs.Soundness.{Sound}
-use Rattle.sums.specs.Moments.{belowSum, momentsOf, lineSum, momentCell, lineCell, Lent, Before, Ready}
-use Rattle.sums.proofs.Below.{moments-at, below-none, below-no-row, below-step, below-grows, below-rises, below-small}
+use Rattle.sums.specs.Moments.{belowSum, momentsOf, HasMoments, ForMoments, CanSum}
+use Rattle.sums.specs.Inner.{lineSum, momentCell, lineCell, Before, Ready, joinedCell, CanJoin, withMoment}
+use Rattle.sums.proofs.Corners.{zeroCell}
+use Rattle.sums.proofs.Below.{moments-at, below-none, below-no-row, below-step, below-grows, below-small}
 
 -- ---- places before a place
 earlier : (q' q d b : ℕ) → 0 < d → q' < q → q' * d + b < q * d + b
@@ -32,229 +38,271 @@ rows-earlier r' r gr' gr d p h k l = go (decLe r r')
     go (yes e) = omega (arith, mul-le-mul-right {m = r'} {n = r} d h)
     go (no n) = omega (arith, mul-le-mul-right {m = suc r'} {n = r} d (omega arith), suc-mul r' d)
 
+-- a cell of zeros
+zero-number : (j : ℕ) → j < 5 → numberOf zeroCell j ≡ 0
+zero-number j h = ap (λ (x : Cell). numberOf x j) zero-cell ∙ number-cell (λ i. 0) j h
+
 -- a cell has the sums of the bins below r, gr and b + 1
 pub record Has (g : Grid) (v : View) (b : ℕ) (c : Cell) (r gr : ℕ) : Type 0 where
   pub at : (j : ℕ) → j < 5 → numberOf c j ≡ belowSum g v r gr (b + 1) j
 
-module _ {g : Grid} {t w : List ℕ} {r gr b : ℕ} (ready : Ready g t w r gr b) where
+module _ {g : Grid} {t w : Table} {r gr b : ℕ} (ready : Ready g t w r gr b) where
   sizes : Accepted g
   sizes = ready .inside .accepted
 
-  sound : Sound limit g (wide t)
-  sound = record { holds = ready .before .is-sound }
+  sound : Sound limit g (viewOf t)
+  sound = record { holds = ready .before .tables .is-sound }
 
   -- the line through the bin
-  pub line-number : {c : Cell} → c ≡ lineCell g (wide t) r gr (b + 1) → (j : ℕ) → j < 5 → numberOf c j ≡ lineSum g (wide t) r gr (b + 1) j
+  pub line-number : {c : Cell} → c ≡ lineCell g (viewOf t) r gr (b + 1) → (j : ℕ) → j < 5 → numberOf c j
+      ≡ lineSum g (viewOf t) r gr (b + 1) j
   unfolding lineCell
-  line-number {c} e j h = ap (λ (x : Cell). numberOf x j) e ∙ number-cell (lineSum g (wide t) r gr (b + 1)) j h
+  line-number {c} e j h = ap (λ (x : Cell). numberOf x j) e ∙ number-cell (lineSum g (viewOf t) r gr (b + 1)) j h
 
-  goal-number : (j : ℕ) → j < 5 → numberOf (momentCell g (wide t) (placeOf g r gr b)) j ≡ belowSum g (wide t) (r + 1) (gr + 1) (b + 1) j
+  goal-number : (j : ℕ) → j < 5 → numberOf (momentCell g (viewOf t) (placeOf g r gr b)) j
+      ≡ belowSum g (viewOf t) (r + 1) (gr + 1) (b + 1) j
   unfolding momentCell
-  goal-number j h = number-cell (momentsOf g (wide t) (placeOf g r gr b)) j h ∙ moments-at g (wide t) r gr b j (ready .inside .two) (ready .inside .three)
+  goal-number j h =
+      number-cell (momentsOf g (viewOf t) (placeOf g r gr b)) j h
+      ∙ moments-at g (viewOf t) r gr b j (ready .inside .two) (ready .inside .three)
 
   -- a bin in the rows and planes before
   module _ (r' gr' : ℕ) (h : r' ≤ r) (k : gr' ≤ gr) where
     pub near : Inside g r' gr' b
-    near = record { accepted = sizes; one = omega (arith, ready .inside .one); two = omega (arith, ready .inside .two); three = ready .inside .three }
+    near =
+        record {
+          accepted = sizes;
+          one = omega (arith, ready .inside .one);
+          two =
+              omega (arith, ready .inside .two);
+          three = ready .inside .three;
+        }
 
-    small : (j : ℕ) → j < 5 → belowSum g (wide t) (r' + 1) (gr' + 1) (b + 1) j < 2 ^ 50
+    small : (j : ℕ) → j < 5 → belowSum g (viewOf t) (r' + 1) (gr' + 1) (b + 1) j < 2 ^ 50
     small j l =
-        below-small sizes sound (r' + 1) (gr' + 1) (b + 1) j (omega (arith, ready .inside .one)) (omega (arith, ready .inside .two)) (omega (arith, ready .inside .three)) l
+        below-small sizes sound (r' + 1) (gr' + 1) (b + 1) j (omega (arith, ready .inside .one))
+        (omega (arith, ready .inside .two)) (omega (arith, ready .inside .three)) l
 
     module _ {p : ℕ} (at : p ≡ placeOf g r' gr' b) where
       pub near-cell : HasCell w p
-      near-cell = record { fits = omega (arith, place-lt near, ready .before .lent, at) }
+      near-cell = has-cell (ready .before .tables .work) p (omega (arith, place-lt near, at))
 
-      pub near-number : r' + gr' < r + gr → {c : Cell} → c ≡ cellOf (wide w p) → (j : ℕ) → j < 5 → numberOf c j ≡ belowSum g (wide t) (r' + 1) (gr' + 1) (b + 1) j
+      pub near-number : r' + gr' < r + gr → {c : Cell} → c ≡ cellOf (viewOf w p) → (j : ℕ) → j < 5 → numberOf c j
+          ≡ belowSum g (viewOf t) (r' + 1) (gr' + 1) (b + 1) j
       unfolding placeOf
       near-number l {c} e j m =
           ap (λ (x : Cell). numberOf x j) e
-          ∙ number-cell (wide w p) j m
-          ∙ ap (λ (q : ℕ). wide w q j) at
-          ∙ ready .before .made (placeOf g r' gr' b) j
-          (earlier (r' * g .b2 + gr') (r * g .b2 + gr) (g .b3) b (omega (arith, size-low (three sizes))) (rows-earlier r' r gr' gr (g .b2) (omega (arith, size-low (two sizes))) h k l)) m
-          ∙ moments-at g (wide t) r' gr' b j (near .two) (near .three)
+          ∙ number-cell (viewOf w p) j m
+          ∙ ap (λ (q : ℕ). viewOf w q j) at
+          ∙ ready .before .made .at (placeOf g r' gr' b) j
+          (earlier (r' * g .size2 + gr') (r * g .size2 + gr) (g .size3) b (omega (arith, size-low (three sizes)))
+          (rows-earlier r' r gr' gr (g .size2) (omega (arith, size-low (two sizes))) h k l)) m
+          ∙ moments-at g (viewOf t) r' gr' b j (near .two) (near .three)
+
+  -- what is written there fits its place
+  pub moment-held : {c : Cell} → c ≡ momentCell g (viewOf t) (placeOf g r gr b) → Held c
+  moment-held e =
+      record { fits = λ j h. rw (e, goal-number j h) (lt-trans (small r gr (omega arith) (omega arith) j h) (lit< tt)) }
 
   -- the three neighbours, as the code reads them
   back : (n : ℕ) → 0 < n → (n - 1) + 1 ≡ n
   back n h = omega arith
 
-  pub above-has : 0 < gr → {p : ℕ} → p ≡ placeOf g r (gr - 1) b → {c : Cell} → c ≡ cellOf (wide w p) → Has g (wide t) b c (r + 1) gr
+  pub above-has : 0 < gr → {p : ℕ} → p ≡ placeOf g r (gr - 1) b → {c : Cell} → c ≡ cellOf (viewOf w p)
+      → Has g (viewOf t) b c (r + 1) gr
   above-has h at e =
       record {
         at = λ j k.
             near-number r (gr - 1) (omega arith) (omega arith) at (omega arith) e j k
-            ∙ ap (λ (n : ℕ). belowSum g (wide t) (r + 1) n (b + 1) j) (back gr h);
+            ∙ ap (λ (n : ℕ). belowSum g (viewOf t) (r + 1) n (b + 1) j) (back gr h);
       }
 
-  pub before-has : 0 < r → {p : ℕ} → p ≡ placeOf g (r - 1) gr b → {c : Cell} → c ≡ cellOf (wide w p) → Has g (wide t) b c r (gr + 1)
+  pub before-has : 0 < r → {p : ℕ} → p ≡ placeOf g (r - 1) gr b → {c : Cell} → c ≡ cellOf (viewOf w p)
+      → Has g (viewOf t) b c r (gr + 1)
   before-has h at e =
       record {
         at = λ j k.
             near-number (r - 1) gr (omega arith) (omega arith) at (omega arith) e j k
-            ∙ ap (λ (n : ℕ). belowSum g (wide t) n (gr + 1) (b + 1) j) (back r h);
+            ∙ ap (λ (n : ℕ). belowSum g (viewOf t) n (gr + 1) (b + 1) j) (back r h);
       }
 
-  pub corner-has : 0 < r → 0 < gr → {p : ℕ} → p ≡ placeOf g (r - 1) (gr - 1) b → {c : Cell} → c ≡ cellOf (wide w p) → Has g (wide t) b c r gr
+  pub corner-has : 0 < r → 0 < gr → {p : ℕ} → p ≡ placeOf g (r - 1) (gr - 1) b → {c : Cell} → c
+      ≡ cellOf (viewOf w p) → Has g (viewOf t) b c r gr
   corner-has h l at e =
       record {
         at = λ j k.
             near-number (r - 1) (gr - 1) (omega arith) (omega arith) at (omega arith) e j k
-            ∙ (λ i. belowSum g (wide t) (back r h i) (back gr l i) (b + 1) j);
+            ∙ (λ i. belowSum g (viewOf t) (back r h i) (back gr l i) (b + 1) j);
       }
 
-  no-plane : r ≡ 0 → (gr' j : ℕ) → belowSum g (wide t) r gr' (b + 1) j ≡ 0
-  no-plane e gr' j = rw e (below-none g (wide t) gr' (b + 1) j)
+  -- zeros where there is no plane before, or no row above
+  pub no-plane : r ≡ 0 → (gr' : ℕ) → Has g (viewOf t) b zeroCell r gr'
+  no-plane e gr' = record { at = λ j k. zero-number j k ∙ sym (rw e (below-none g (viewOf t) gr' (b + 1) j)) }
 
-  no-row : gr ≡ 0 → (r' j : ℕ) → belowSum g (wide t) r' gr (b + 1) j ≡ 0
-  no-row e r' j = rw e (below-no-row g (wide t) r' (b + 1) j)
+  pub no-row : gr ≡ 0 → (r' : ℕ) → Has g (viewOf t) b zeroCell r' gr
+  no-row e r' = record { at = λ j k. zero-number j k ∙ sym (rw e (below-no-row g (viewOf t) r' (b + 1) j)) }
 
-  module _ {l : Cell} (e : l ≡ lineCell g (wide t) r gr (b + 1)) where
-    -- what the moments at the bin are made of, and that they fit
-    record Made (j : ℕ) : Type 0 where
-      step : belowSum g (wide t) (r + 1) (gr + 1) (b + 1) j + belowSum g (wide t) r gr (b + 1) j ≡ numberOf l j + belowSum g (wide t) (r + 1) gr (b + 1) j + belowSum g (wide t) r (gr + 1) (b + 1) j
-      row : belowSum g (wide t) r gr (b + 1) j ≤ belowSum g (wide t) r (gr + 1) (b + 1) j
-      plane : belowSum g (wide t) r gr (b + 1) j ≤ belowSum g (wide t) (r + 1) gr (b + 1) j
-      fits : belowSum g (wide t) (r + 1) (gr + 1) (b + 1) j < 2 ^ 50
-      goal : numberOf (momentCell g (wide t) (placeOf g r gr b)) j ≡ belowSum g (wide t) (r + 1) (gr + 1) (b + 1) j
+  -- the line and the three neighbours make the moments at the bin, and fit
+  module _ {l : Cell} (e : l ≡ lineCell g (viewOf t) r gr (b + 1))
+      {above : Cell} (ha : Has g (viewOf t) b above (r + 1) gr)
+      {before : Cell} (hb : Has g (viewOf t) b before r (gr + 1))
+      {corner : Cell} (hc : Has g (viewOf t) b corner r gr) where
+    -- the rule of inclusion and exclusion, for number j
+    record Rule (j : ℕ) : Type 0 where
+      step : numberOf l j + numberOf above j + (numberOf before j - numberOf corner j)
+          ≡ belowSum g (viewOf t) (r + 1) (gr + 1) (b + 1) j
+      least : numberOf corner j ≤ numberOf before j
 
-    made : (j : ℕ) → j < 5 → Made j
-    made j h =
+    rule : (j : ℕ) → j < 5 → Rule j
+    rule j h =
+        let row = below-grows g (viewOf t) r gr (b + 1) j in
         record {
-          step = below-step g (wide t) r gr (b + 1) j
-              ∙ ap (λ (x : ℕ). x + belowSum g (wide t) (r + 1) gr (b + 1) j + belowSum g (wide t) r (gr + 1) (b + 1) j) (sym (line-number e j h));
-          row = below-grows g (wide t) r gr (b + 1) j;
-          plane = below-rises g (wide t) r gr (b + 1) j;
-          fits = small r gr (omega arith) (omega arith) j h;
-          goal = goal-number j h;
+          step = omega (
+            arith,
+            below-step g (viewOf t) r gr (b + 1) j,
+            row,
+            line-number e j h,
+            ha .at j h,
+            hb .at j h,
+            hc .at j h,
+          );
+          least = omega (arith, row, hb .at j h, hc .at j h);
         }
 
-    pub only-line : r ≡ 0 → gr ≡ 0 → l ≡ momentCell g (wide t) (placeOf g r gr b)
-    only-line h k =
-        cell-by l (momentCell g (wide t) (placeOf g r gr b))
-        (λ j m. let f = made j m in omega (arith, f .step, f .goal, no-plane h gr j, no-plane h (gr + 1) j, no-row k (r + 1) j))
+    pub can-join : CanJoin l above before corner
+    can-join =
+        record {
+          least = record { least = λ j h. rule j h .least };
+          fits = λ j h. omega (arith, rule j h .step, small r gr (omega arith) (omega arith) j h);
+        }
 
-    module _ {a : Cell} (ha : Has g (wide t) b a (r + 1) gr) where
-      pub above-room : Room l a
-      above-room = record { fits = λ j m. let f = made j m in omega (arith, f .step, f .row, f .fits, ha .at j m) }
-
-      pub with-above : r ≡ 0 → {s : Cell} → s ≡ plusCell l a → s ≡ momentCell g (wide t) (placeOf g r gr b)
-      with-above h {s} q =
-          cell-by s (momentCell g (wide t) (placeOf g r gr b))
-          (λ j m.
-          let f = made j m in
-          omega (arith, ap (λ (x : Cell). numberOf x j) q, number-plus l a j m, f .step, f .goal, ha .at j m, no-plane h gr j, no-plane h (gr + 1) j))
-
-    module _ {c : Cell} (hc : Has g (wide t) b c r (gr + 1)) where
-      pub before-room : Room l c
-      before-room = record { fits = λ j m. let f = made j m in omega (arith, f .step, f .plane, f .fits, hc .at j m) }
-
-      pub with-before : gr ≡ 0 → {s : Cell} → s ≡ plusCell l c → s ≡ momentCell g (wide t) (placeOf g r gr b)
-      with-before h {s} q =
-          cell-by s (momentCell g (wide t) (placeOf g r gr b))
-          (λ j m.
-          let f = made j m in
-          omega (arith, ap (λ (x : Cell). numberOf x j) q, number-plus l c j m, f .step, f .goal, hc .at j m, no-row h r j, no-row h (r + 1) j))
-
-      module _ {d : Cell} (hd : Has g (wide t) b d r gr) where
-        pub corner-least : AtLeast c d
-        corner-least = record { least = λ j m. let f = made j m in omega (arith, f .row, hc .at j m, hd .at j m) }
-
-        module _ {a : Cell} (ha : Has g (wide t) b a (r + 1) gr) {s : Cell} (q : s ≡ plusCell l a) {x : Cell} (o : x ≡ minusCell c d) where
-          pub rest-room : Room s x
-          rest-room =
-              record {
-                fits = λ j m.
-                    let f = made j m in
-                    omega (arith, ap (λ (y : Cell). numberOf y j) q, number-plus l a j m, ap (λ (y : Cell). numberOf y j) o, number-minus c d j m, f .step, f .row, f .fits, ha .at j m, hc .at j m, hd .at j m);
-              }
-
-          pub with-all : {y : Cell} → y ≡ plusCell s x → y ≡ momentCell g (wide t) (placeOf g r gr b)
-          with-all {y} u =
-              cell-by y (momentCell g (wide t) (placeOf g r gr b))
-              (λ j m.
-              let f = made j m in
-              omega (arith, ap (λ (z : Cell). numberOf z j) u, number-plus s x j m, ap (λ (z : Cell). numberOf z j) q, number-plus l a j m, ap (λ (z : Cell). numberOf z j) o, number-minus c d j m, f .step, f .goal, f .row, ha .at j m, hc .at j m, hd .at j m))
+    pub joined-is : {y : Cell} → y ≡ joinedCell l above before corner → y ≡ momentCell g (viewOf t) (placeOf g r gr b)
+    unfolding joinedCell
+    joined-is {y} q =
+        cell-by y (momentCell g (viewOf t) (placeOf g r gr b))
+        (λ j h.
+        ap (λ (x : Cell). numberOf x j) q
+        ∙ number-plus (plusCell l above) (minusCell before corner) j h
+        ∙ (λ i. number-plus l above j h i + number-minus before corner j h i)
+        ∙ rule j h .step
+        ∙ sym (goal-number j h))
 
   -- ---- the line, one bin on
-  line-small : (j : ℕ) → j < 5 → lineSum g (wide t) r gr (b + 1) j < 2 ^ 50
+  line-small : (j : ℕ) → j < 5 → lineSum g (viewOf t) r gr (b + 1) j < 2 ^ 50
   line-small j h =
-      omega (arith, below-step g (wide t) r gr (b + 1) j, below-grows g (wide t) r gr (b + 1) j, small r gr (omega arith) (omega arith) j h)
+      omega (
+        arith,
+        below-step g (viewOf t) r gr (b + 1) j,
+        below-grows g (viewOf t) r gr (b + 1) j,
+        small r gr
+            (omega arith) (omega arith) j h,
+      )
 
-  line-next : (j : ℕ) → lineSum g (wide t) r gr (b + 1) j ≡ lineSum g (wide t) r gr b j + wide t (placeOf g r gr b) j
+  line-next : (j : ℕ) → lineSum g (viewOf t) r gr (b + 1) j
+      ≡ lineSum g (viewOf t) r gr b j + viewOf t (placeOf g r gr b) j
   unfolding lineSum
   line-next j =
-      sum-last 0 b (λ z. wide t (placeOf g r gr z) j)
-      ∙ ap (λ (z : ℕ). sumFrom 0 b (λ y. wide t (placeOf g r gr y) j) + wide t (placeOf g r gr z) j) (zero-add b)
+      sum-last 0 b (λ z. viewOf t (placeOf g r gr z) j)
+      ∙ ap (λ (z : ℕ). sumFrom 0 b (λ y. viewOf t (placeOf g r gr y) j) + viewOf t (placeOf g r gr z) j) (zero-add b)
 
-  module _ {l : Cell} (e : l ≡ lineCell g (wide t) r gr b) {p : ℕ} (at : p ≡ placeOf g r gr b) {c : Cell} (q : c ≡ cellOf (wide t p)) where
-    parts : (j : ℕ) → j < 5 → numberOf l j + numberOf c j ≡ lineSum g (wide t) r gr (b + 1) j
+  module _ {l : Cell} (e : l ≡ lineCell g (viewOf t) r gr b) {p : ℕ} (at : p ≡ placeOf g r gr b) {c : Cell}
+      (q : c ≡ cellOf (viewOf t p)) where
+    parts : (j : ℕ) → j < 5 → numberOf l j + numberOf c j ≡ lineSum g (viewOf t) r gr (b + 1) j
     unfolding lineCell
     parts j h =
         (λ i.
-        (ap (λ (x : Cell). numberOf x j) e ∙ number-cell (lineSum g (wide t) r gr b) j h) i
-        + (ap (λ (x : Cell). numberOf x j) q ∙ number-cell (wide t p) j h ∙ ap (λ (n : ℕ). wide t n j) at) i)
+        (ap (λ (x : Cell). numberOf x j) e ∙ number-cell (lineSum g (viewOf t) r gr b) j h) i
+        + (ap (λ (x : Cell). numberOf x j) q ∙ number-cell (viewOf t p) j h ∙ ap (λ (n : ℕ). viewOf t n j) at) i)
         ∙ sym (line-next j)
 
-    pub line-room : Room l c
+    pub line-room : SumsFit l c
     line-room = record { fits = λ j h. omega (arith, parts j h, line-small j h) }
 
-    pub line-through : {s : Cell} → s ≡ plusCell l c → s ≡ lineCell g (wide t) r gr (b + 1)
+    pub line-through : {s : Cell} → s ≡ plusCell l c → s ≡ lineCell g (viewOf t) r gr (b + 1)
     unfolding lineCell
     line-through {s} u =
-        cell-by s (lineCell g (wide t) r gr (b + 1))
+        cell-by s (lineCell g (viewOf t) r gr (b + 1))
         (λ j h.
         ap (λ (x : Cell). numberOf x j) u
         ∙ number-plus l c j h
         ∙ parts j h
-        ∙ sym (number-cell (lineSum g (wide t) r gr (b + 1)) j h))
+        ∙ sym (number-cell (lineSum g (viewOf t) r gr (b + 1)) j h))
 
   pub table-cell : {p : ℕ} → p ≡ placeOf g r gr b → HasCell t p
-  table-cell at = record { fits = omega (arith, place-lt (ready .inside), ready .before .table .lent, at) }
+  table-cell {p} at = has-cell (ready .before .tables .table .lent) p (omega (arith, place-lt (ready .inside), at))
 
   -- ---- the work table, one bin on
-  pub one-on : {e : List ℕ} → e ≡ putAt w (placeOf g r gr b) (momentCell g (wide t) (placeOf g r gr b)) → Before g t e (placeOf g r gr b + 1)
-  unfolding momentCell
+  pub one-on : {e : Table} → e ≡ withMoment g (viewOf t) w (placeOf g r gr b) → Before g t e (placeOf g r gr b + 1)
+  unfolding momentCell withMoment
   one-on {e} u =
       record {
-        table = ready .before .table;
-        is-sound = ready .before .is-sound;
-        lent = ap length u ∙ length-put w (placeOf g r gr b) (momentCell g (wide t) (placeOf g r gr b)) ∙ ready .before .lent;
-        made = λ q j h k. ap (λ (x : List ℕ). wide x q j) u ∙ go q j h k (ℕ-discrete (placeOf g r gr b) q);
+        tables = record {
+          table = ready .before .tables .table;
+          is-sound = ready .before .tables .is-sound;
+          work =
+              subst (λ (x : Table). Sized x (binsOf g)) (sym u)
+              (put-sized (ready .before .tables .work) (placeOf g r gr b) cell);
+        };
+        made =
+            record {
+              at =
+                  λ q j h k. ap (λ (x : Table). viewOf x q j) u ∙ go q j h k (ℕ-discrete (placeOf g r gr b) q);
+            };
       }
     where
-      has : 5 * placeOf g r gr b + 5 ≤ length w
-      has = omega (arith, place-lt (ready .inside), ready .before .lent)
+      cell : Cell
+      cell = momentCell g (viewOf t) (placeOf g r gr b)
 
-      go : (q j : ℕ) → q < placeOf g r gr b + 1 → j < 5 → Dec (placeOf g r gr b ≡ q) → wide (putAt w (placeOf g r gr b) (momentCell g (wide t) (placeOf g r gr b))) q j ≡ momentsOf g (wide t) q j
+      has : HasCell w (placeOf g r gr b)
+      has = has-cell (ready .before .tables .work) (placeOf g r gr b) (place-lt (ready .inside))
+
+      go : (q j : ℕ) → q < placeOf g r gr b + 1 → j < 5 → Dec (placeOf g r gr b ≡ q)
+          → viewOf (putAt w (placeOf g r gr b) (momentCell g (viewOf t) (placeOf g r gr b))) q j
+          ≡ momentsOf g (viewOf t) q j
       go q j h k (yes d) =
-          ap (λ (n : ℕ). wide (putAt w (placeOf g r gr b) (momentCell g (wide t) (placeOf g r gr b))) n j) (sym d)
-          ∙ put-there w (placeOf g r gr b) (momentCell g (wide t) (placeOf g r gr b)) has j k
-          ∙ number-cell (momentsOf g (wide t) (placeOf g r gr b)) j k
-          ∙ ap (λ (n : ℕ). momentsOf g (wide t) n j) d
+          ap (λ (n : ℕ). viewOf (putAt w (placeOf g r gr b) (momentCell g (viewOf t) (placeOf g r gr b))) n j) (sym d)
+          ∙ put-there w (placeOf g r gr b) (momentCell g (viewOf t) (placeOf g r gr b)) has j k
+          ∙ number-cell (momentsOf g (viewOf t) (placeOf g r gr b)) j k
+          ∙ ap (λ (n : ℕ). momentsOf g (viewOf t) n j) d
       go q j h k (no d) =
-          put-elsewhere w (placeOf g r gr b) (momentCell g (wide t) (placeOf g r gr b)) has q j k d
-          ∙ ready .before .made q j (omega arith) k
+          put-elsewhere w (placeOf g r gr b) (momentCell g (viewOf t) (placeOf g r gr b)) has q j k d
+          ∙ ready .before .made .at q j (omega arith) k
 
 -- ---- rows and planes of bins
-pub line-start : (g : Grid) (v : View) (r gr : ℕ) → _≡_ {A = Cell} (record { weight = 0; sum1 = 0; sum2 = 0; sum3 = 0; squares = 0 }) (lineCell g v r gr 0)
+pub line-start : (g : Grid) (v : View) (r gr : ℕ) → zeroCell ≡ lineCell g v r gr 0
 unfolding lineCell lineSum sumFrom
 line-start g v r gr = zero-cell
 
-pub before-same : {g : Grid} {t w : List ℕ} {p : ℕ} → Before g t w p → {q : ℕ} → p ≡ q → Before g t w q
+pub before-same : {g : Grid} {t w : Table} {p : ℕ} → Before g t w p → {q : ℕ} → p ≡ q → Before g t w q
 before-same {g} {t} {w} h e = subst (λ (n : ℕ). Before g t w n) e h
 
 pub add-one-mul : (k n : ℕ) → (k + 1) * n ≡ k * n + n
 add-one-mul k n = add-mul k 1 n ∙ ap (λ (x : ℕ). k * n + x) (one-mul n)
 
 -- the next bin of a row
-pub row-ready : {g : Grid} {t w : List ℕ} {r gr b : ℕ} → Inside g r gr b → Before g t w (placeOf g r gr 0 + b) → Ready g t w r gr b
+pub row-ready : {g : Grid} {t w : Table} {r gr b : ℕ} → Inside g r gr b → Before g t w (placeOf g r gr 0 + b)
+    → Ready g t w r gr b
 row-ready {g} {r = r} {gr} {b} i h = record { inside = i; before = before-same h (place-along g r gr b) }
 
 -- nothing is made yet, and all is made
-pub none-made : {g : Grid} {t w : List ℕ} → Lent g t w → Before g t w 0
-none-made l =
-    record { table = l .table; is-sound = l .is-sound; lent = l .work; made = λ q j h k. absurd (omega arith) }
+pub none-made : {g : Grid} {t w : Table} → ForMoments limit g t w → Before g t w 0
+none-made l = record { tables = l; made = record { at = λ q j h k. absurd (omega arith) } }
 
-pub all-made : {g : Grid} {t w : List ℕ} → Before g t w (binsOf g) → w ≡ wideList (binsOf g) (momentsOf g (wide t))
-all-made b = holds-list (record { lent = b .lent; at = b .made })
+pub all-made : {g : Grid} {t w : Table} → Before g t w (binsOf g) → w ≡ written (binsOf g) (momentsOf g (viewOf t))
+all-made b = holds-list (record { lent = b .tables .work; at = b .made .at })
+
+-- a work table that the moments were written into holds them, and boxes can be summed from it
+pub holds-moments : (g : Grid) (v : View) {w : Table} → w ≡ written (binsOf g) (momentsOf g v)
+    → HasMoments g v (viewOf w)
+holds-moments g v e = record { at = rw e (list-holds (binsOf g) (momentsOf g v) .at) }
+
+pub sums-can : {most : ℕ} {g : Grid} {t w : Table} → TableOf g t → soundFor most g (viewOf t) ≡ true
+    → w ≡ written (binsOf g) (momentsOf g (viewOf t)) → CanSum most g t w
+sums-can {most} {g} {t} {w} h s e =
+    record {
+      table = h;
+      is-sound = s;
+      work =
+          subst (λ (x : Table). Sized x (binsOf g)) (sym e) (list-holds (binsOf g) (momentsOf g (viewOf t)) .lent);
+      has-moments = holds-moments g (viewOf t) e;
+    }

@@ -1,15 +1,12 @@
 -- Moments (document 01, "Moments"). Definitions only.
 use mathlib.Core.Path.{_≡_}
 use mathlib.Core.Bool.{true}
-use mathlib.Core.List.{List}
-use Prim.Native.Nat.{ℕ, _+_, _*_, _≤_, _<_}
-use lib.ListN.{length}
-use Rattle.grid.specs.declared.Grid.{Grid}
-use Rattle.grid.specs.Range.{sumFrom}
-use Rattle.grid.specs.Grid.{binsOf, placeOf, binAt, Inside}
-use Rattle.table.specs.declared.Cell.{Cell}
-use Rattle.table.specs.Cell.{View, wide, wideList, cellOf, TableOf}
-use Rattle.table.specs.Sound.{limit, sound}
+use Prim.Native.Nat.{ℕ, _+_, _<_}
+use Rattle.grid.specs.declared.place.Grid.{Grid}
+use Rattle.grid.specs.Grid.{binsOf, binAt}
+use Rattle.table.specs.Cell.{View}
+use Rattle.table.specs.Table.{Table, Sized, viewOf, TableOf}
+use Rattle.table.specs.Sound.{sound}
 use Rattle.sums.specs.Box.{binSum}
 
 -- number j of all bins with r, g and b below the three given
@@ -20,50 +17,23 @@ belowSum g v r gr b j = binSum g v 0 r 0 gr 0 b j
 unfoldable pub momentsOf : Grid → View → View
 momentsOf g v p j = belowSum g v (binAt g 0 p + 1) (binAt g 1 p + 1) (binAt g 2 p + 1) j
 
--- a sound table, and the work table with its moments
-pub record Worked (g : Grid) (t w : List ℕ) : Type 0 where
+-- the view u holds the moments of the view v at the places before p
+pub record MomentsBefore (g : Grid) (v u : View) (p : ℕ) : Type 0 where
+  pub at : (q j : ℕ) → q < p → j < 5 → u q j ≡ momentsOf g v q j
+
+-- it holds them at every place of the grid
+abbrev pub HasMoments : Grid → View → View → Type 0
+HasMoments g v u = MomentsBefore g v u (binsOf g)
+
+-- what the moments ask for: a table that is sound for a limit, and a work table of its size
+pub record ForMoments (most : ℕ) (g : Grid) (t w : Table) : Type 0 where
   pub table : TableOf g t
-  pub is-sound : sound limit g (wide t) ≡ true
-  pub moments : w ≡ wideList (binsOf g) (momentsOf g (wide t))
+  pub is-sound : sound most g (viewOf t) ≡ true
+  pub work : Sized w (binsOf g)
 
--- a sound table, and a work table for its moments
-pub record Lent (g : Grid) (t w : List ℕ) : Type 0 where
+-- what the sum of a box asks for: the same two tables, and that the work table holds the moments
+pub record CanSum (most : ℕ) (g : Grid) (t w : Table) : Type 0 where
   pub table : TableOf g t
-  pub is-sound : sound limit g (wide t) ≡ true
-  pub work : length w ≡ 5 * binsOf g
-
--- the sum along a row of bins, below b
-unfoldable pub lineSum : Grid → View → ℕ → ℕ → ℕ → ℕ → ℕ
-lineSum g v r gr b j = sumFrom 0 b (λ z. v (placeOf g r gr z) j)
-
--- the cell of the moments at a place
-unfoldable pub momentCell : Grid → View → ℕ → Cell
-momentCell g v p = cellOf (momentsOf g v p)
-
--- the cell of the sums along a row, below b
-unfoldable pub lineCell : Grid → View → ℕ → ℕ → ℕ → Cell
-lineCell g v r gr b = cellOf (lineSum g v r gr b)
-
--- a sound table and a work table of its grid, whose places before p have their moments
-pub record Before (g : Grid) (t w : List ℕ) (p : ℕ) : Type 0 where
-  pub table : TableOf g t
-  pub is-sound : sound limit g (wide t) ≡ true
-  pub lent : length w ≡ 5 * binsOf g
-  pub made : (q j : ℕ) → q < p → j < 5 → wide w q j ≡ momentsOf g (wide t) q j
-
--- that, before a bin of the grid
-pub record Ready (g : Grid) (t w : List ℕ) (r gr b : ℕ) : Type 0 where
-  pub inside : Inside g r gr b
-  pub before : Before g t w (placeOf g r gr b)
-
--- ---- "its sum is found by inclusion and exclusion; an index below 0 counts as all zeros"
--- a work table with the moments of a table, and the end of some bins of the grid
-pub record Corner (g : Grid) (t w : List ℕ) (r gr b : ℕ) : Type 0 where
-  pub worked : Worked g t w
-  pub one : r ≤ g .b1
-  pub two : gr ≤ g .b2
-  pub three : b ≤ g .b3
-
--- the cell of the sums over three runs of bins
-unfoldable pub binCell : Grid → View → ℕ → ℕ → ℕ → ℕ → ℕ → ℕ → Cell
-binCell g v a n b m c k = cellOf (binSum g v a n b m c k)
+  pub is-sound : sound most g (viewOf t) ≡ true
+  pub work : Sized w (binsOf g)
+  pub has-moments : HasMoments g (viewOf t) (viewOf w)

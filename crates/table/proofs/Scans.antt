@@ -1,43 +1,32 @@
--- How a weighing goes on from one run of bins to the next.
+-- How a total goes on from one run of bins to the next.
 -- Assumes nothing.
 use mathlib.Core.Path.{_≡_, refl, sym, ap, _∙_}
-use mathlib.Core.List.{List}
-use mathlib.Core.Bool.{Bool, true, false, true≢false, cond, _&&_}
+use mathlib.Core.Bool.{Bool, true, false, true≢false, _&&_}
 use Prim.Native.Nat.{ℕ, zero, suc, _+_, _-_, _*_, _≤_, _<_}
 use native.Mathlib.Nat.{add-assoc, add-zero, zero-add, add-mul, one-mul}
 use native.Mathlib.Omega.{arith}
 use borrow.Author.Tests.{le-leb, lt-leb, leb-true, leb-false}
 use lib.Dec.{leb}
-use Rattle.grid.specs.declared.Grid.{Grid}
-use Rattle.grid.specs.declared.Span.{Span}
-use Rattle.grid.specs.Range.{sumFrom, allFrom}
+use Rattle.grid.specs.declared.place.Grid.{Grid}
+use Rattle.grid.specs.declared.dimension.Span.{Span}
+use Rattle.basics.specs.Range.{sumFrom, allFrom}
 use Rattle.grid.specs.Size.{spanOf, InSize}
-use Rattle.grid.specs.Grid.{Accepted, Inside, choose, shiftAt, binAt, binsOf, placeOf}
-use Rattle.grid.proofs.Range.{sum-append, all-append, all-at, term-le, and-left, and-right, and-false}
+use Rattle.grid.specs.Grid.{Accepted, Inside, shiftAt, binAt, binsOf, placeOf}
+use Rattle.basics.specs.Dimension.{choose}
+use Rattle.basics.proofs.Range.{sum-append, all-append, all-at, term-le, and-left, and-right, and-false}
 use Rattle.grid.proofs.Size.{in-size, span-byte}
 use Rattle.grid.proofs.Places.{one, two, three, place-lt, bin-of-place, place-along}
-use Rattle.table.specs.declared.Cell.{Cell}
-use Rattle.table.specs.declared.Weighed.{Weighed}
-use Rattle.table.specs.declared.Weighed.the-variants.{Total, Unsound}
-use Rattle.table.specs.Cell.{View, cellOf, numberOf, HasCell}
-use Rattle.table.specs.Sound.{limit, inBounds, spanAt, binSound, total, sound, weighed}
-use Rattle.table.specs.Scan.{scanned, Row, ByteSpan}
+use Rattle.table.specs.declared.cell.Cell.{Cell}
+use Rattle.table.specs.declared.sound.SoundTotal.{SoundTotal}
+use Rattle.table.specs.declared.sound.SoundTotal.the-variants.{Total, Unsound}
+use Rattle.table.specs.Cell.{View, cellOf, numberOf}
+use Rattle.table.specs.Table.{Table, HasCell}
+use Rattle.table.specs.Sound.{limit, inBounds, spanAt, binSound, total, sound, soundTotal}
+use Rattle.table.specs.Inner.{scanned, Row, ByteSpan}
 use Rattle.table.proofs.Cells.{number-cell}
 use Rattle.table.proofs.Soundness.{bounds-same}
-
-cond-total : (b : Bool) (x y : ℕ) → cond b (Total x) Unsound ≡ Total y → (b ≡ true) × (y ≡ x)
-cond-total true x y e = (refl, (cc))
-cond-total false x y e = absurd (never e)
-  where
-    never : Unsound ≡ Total y → ⊥
-    never q = let z : _≡_ {A = ℕ} 0 1 = cc in omega arith
-
-cond-unsound : (b : Bool) (x : ℕ) → cond b (Total x) Unsound ≡ Unsound → b ≡ false
-cond-unsound true x e = absurd (never e)
-  where
-    never : Total x ≡ Unsound → ⊥
-    never q = let z : _≡_ {A = ℕ} 0 1 = cc in omega arith
-cond-unsound false x e = refl
+use Rattle.table.proofs.Tables.{has-cell}
+use Rattle.table.proofs.Total.{cond-total, cond-unsound}
 
 module _ (most : ℕ) (g : Grid) (v : View) where
   abbrev weights : ℕ → ℕ → ℕ
@@ -56,10 +45,13 @@ module _ (most : ℕ) (g : Grid) (v : View) where
       record {
         bounds = and-left (allFrom p n (binSound g v)) (leb (had + weights p n) most) (b .0);
         is = b .1;
-        under = leb-true (had + weights p n) most (and-right (allFrom p n (binSound g v)) (leb (had + weights p n) most) (b .0));
+        under =
+            leb-true (had + weights p n) most
+            (and-right (allFrom p n (binSound g v)) (leb (had + weights p n) most) (b .0));
       }
 
-  pub scan-total : (p n had : ℕ) → allFrom p n (binSound g v) ≡ true → had + weights p n ≤ most → scanned most g v p n had ≡ Total (had + weights p n)
+  pub scan-total : (p n had : ℕ) → allFrom p n (binSound g v) ≡ true → had + weights p n ≤ most
+      → scanned most g v p n had ≡ Total (had + weights p n)
   unfolding scanned
   scan-total p n had b l = rw (b, le-leb (had + weights p n) most l) refl
 
@@ -73,22 +65,31 @@ module _ (most : ℕ) (g : Grid) (v : View) where
   scan-over p n had l = rw (lt-leb (had + weights p n) most l, and-false (allFrom p n (binSound g v))) refl
 
   -- a bin breaks its bounds, or its weight alone passes the limit
-  pub scan-bad : (p n had q : ℕ) → p ≤ q → q < p + n → (leb (v q 0) most && binSound g v q) ≡ false → scanned most g v p n had ≡ Unsound
+  pub scan-bad : (p n had q : ℕ) → p ≤ q → q < p + n → (leb (v q 0) most && binSound g v q) ≡ false
+      → scanned most g v p n had ≡ Unsound
   unfolding scanned
   scan-bad p n had q a b e = go (leb (v q 0) most) refl (allFrom p n (binSound g v)) refl e
     where
-      go : (w : Bool) → leb (v q 0) most ≡ w → (x : Bool) → allFrom p n (binSound g v) ≡ x → (w && binSound g v q) ≡ false → scanned most g v p n had ≡ Unsound
+      go : (w : Bool) → leb (v q 0) most ≡ w → (x : Bool) → allFrom p n (binSound g v) ≡ x
+          → (w && binSound g v q) ≡ false → scanned most g v p n had ≡ Unsound
       go false l x r d =
           scan-over p n had (omega (arith, leb-false (v q 0) most l, term-le p n (λ k. v k 0) q a b))
       go true l true r d = absurd (true≢false (sym (all-at p n (binSound g v) r q a b) ∙ d))
       go true l false r d = rw r refl
 
   -- from a run of bins to the next
-  pub scan-more : (p n m had x : ℕ) → scanned most g v p n had ≡ Total x → scanned most g v p (n + m) had ≡ scanned most g v (p + n) m x
+  pub scan-more : (p n m had x : ℕ) → scanned most g v p n had ≡ Total x
+      → scanned most g v p (n + m) had ≡ scanned most g v (p + n) m x
   unfolding scanned
   scan-more p n m had x e =
       let s = scan-says p n had x e in
-      rw (all-append p n m (binSound g v), s .bounds, sum-append p n m (λ q. v q 0), s .is, ← add-assoc had (weights p n) (weights (p + n) m)) refl
+      rw (
+        all-append p n m (binSound g v),
+        s .bounds,
+        sum-append p n m (λ q. v q 0),
+        s .is,
+        ← add-assoc had (weights p n) (weights (p + n) m),
+      ) refl
 
   pub scan-stop : (p n m had : ℕ) → scanned most g v p n had ≡ Unsound → scanned most g v p (n + m) had ≡ Unsound
   unfolding scanned
@@ -96,22 +97,26 @@ module _ (most : ℕ) (g : Grid) (v : View) where
       go (allFrom p n (binSound g v)) refl
       (cond-unsound (allFrom p n (binSound g v) && leb (had + weights p n) most) (had + weights p n) e)
     where
-      go : (x : Bool) → allFrom p n (binSound g v) ≡ x → (x && leb (had + weights p n) most) ≡ false → scanned most g v p (n + m) had ≡ Unsound
+      go : (x : Bool) → allFrom p n (binSound g v) ≡ x → (x && leb (had + weights p n) most) ≡ false
+          → scanned most g v p (n + m) had ≡ Unsound
       go true r l =
           scan-over p (n + m) had (omega (arith, leb-false (had + weights p n) most l, sum-append p n m (λ q. v q 0)))
       go false r l = rw (all-append p n m (binSound g v), r) refl
 
   -- block after block of bins, each of one size: rows of a plane, planes of a table
-  pub block-more : (p size k had x : ℕ) (w : Weighed) → scanned most g v p (k * size) had ≡ Total x → {q : ℕ} → q ≡ p + k * size → w ≡ scanned most g v q size x → scanned most g v p ((k + 1) * size) had ≡ w
+  pub block-more : (p size k had x : ℕ) (w : SoundTotal) → scanned most g v p (k * size) had ≡ Total x → {q : ℕ}
+      → q ≡ p + k * size → w ≡ scanned most g v q size x → scanned most g v p ((k + 1) * size) had ≡ w
   block-more p size k had x w e {q} at r =
       ap (λ (n : ℕ). scanned most g v p n had) (add-mul k 1 size ∙ ap (λ (n : ℕ). k * size + n) (one-mul size))
       ∙ scan-more p (k * size) size had x e
       ∙ ap (λ (n : ℕ). scanned most g v n size x) (sym at)
       ∙ sym r
 
-  pub block-stop : (p size k count had : ℕ) → k < count → scanned most g v p ((k + 1) * size) had ≡ Unsound → scanned most g v p (count * size) had ≡ Unsound
+  pub block-stop : (p size k count had : ℕ) → k < count → scanned most g v p ((k + 1) * size) had ≡ Unsound
+      → scanned most g v p (count * size) had ≡ Unsound
   block-stop p size k count had h e =
-      ap (λ (n : ℕ). scanned most g v p n had) (ap (λ (n : ℕ). n * size) (rest k count h) ∙ add-mul (k + 1) (count - (k + 1)) size)
+      ap (λ (n : ℕ). scanned most g v p n had)
+      (ap (λ (n : ℕ). n * size) (rest k count h) ∙ add-mul (k + 1) (count - (k + 1)) size)
       ∙ scan-stop p ((k + 1) * size) ((count - (k + 1)) * size) had e
     where
       rest : (k count : ℕ) → k < count → count ≡ (k + 1) + (count - (k + 1))
@@ -120,22 +125,15 @@ module _ (most : ℕ) (g : Grid) (v : View) where
   pub scan-under : (p n had x : ℕ) → scanned most g v p n had ≡ Total x → x ≤ most
   scan-under p n had x e = let s = scan-says p n had x e in omega (arith, s .is, s .under)
 
-  -- a table is weighed by all of its bins
-  pub scan-all : weighed most g v ≡ scanned most g v 0 (binsOf g) 0
-  unfolding weighed sound total scanned
+  -- a table is soundTotal by all of its bins
+  pub scan-all : soundTotal most g v ≡ scanned most g v 0 (binsOf g) 0
+  unfolding soundTotal sound total scanned
   scan-all = rw (zero-add (weights 0 (binsOf g))) refl
 
--- what weighing a whole table says
-pub weighed-unsound : (most : ℕ) (g : Grid) (v : View) → weighed most g v ≡ Unsound → sound most g v ≡ false
-unfolding weighed
-weighed-unsound most g v e = cond-unsound (sound most g v) (total g v) e
-
-pub weighed-total : (most : ℕ) (g : Grid) (v : View) (x : ℕ) → weighed most g v ≡ Total x → (sound most g v ≡ true) × (x ≡ total g v)
-unfolding weighed
-weighed-total most g v x e = cond-total (sound most g v) (total g v) x e
-
 -- ---- a row of bins
-chosen-span : (g : Grid) (r gr b d : ℕ) → spanOf (shiftAt g d) (choose d r gr b) ≡ choose d (spanOf (g .s1) r) (spanOf (g .s2) gr) (spanOf (g .s3) b)
+chosen-span : (g : Grid) (r gr b d : ℕ)
+    → spanOf (shiftAt g d) (choose d r gr b)
+    ≡ choose d (spanOf (g .shift1) r) (spanOf (g .shift2) gr) (spanOf (g .shift3) b)
 unfolding shiftAt choose
 chosen-span g r gr b zero = refl
 chosen-span g r gr b (suc zero) = refl
@@ -145,29 +143,31 @@ pub byte-span : (shift bin : ℕ) → InSize shift bin → ByteSpan (spanOf shif
 unfolding spanOf
 byte-span shift bin i = let h = span-byte shift bin i in record { low = omega arith; high = h }
 
-module _ {g : Grid} {t : List ℕ} {r gr had : ℕ} (row : Row g t r gr had) where
+module _ {most : ℕ} {g : Grid} {t : Table} {r gr had : ℕ} (row : Row most g t r gr had) where
   sizes : Accepted g
   sizes = row .table .accepted
 
-  inside : (b : ℕ) → b < g .b3 → Inside g r gr b
+  inside : (b : ℕ) → b < g .size3 → Inside g r gr b
   inside b h = record { accepted = sizes; one = row .inside .one; two = row .inside .two; three = h }
 
-  pub row-place : (b : ℕ) → b < g .b3 → {from : ℕ} → from ≡ placeOf g r gr 0 → from + b < binsOf g
+  pub row-place : (b : ℕ) → b < g .size3 → {from : ℕ} → from ≡ placeOf g r gr 0 → from + b < binsOf g
   row-place b h e = rw (e, place-along g r gr b) (place-lt (inside b h))
 
-  pub row-cell : (b : ℕ) → b < g .b3 → {from : ℕ} → from ≡ placeOf g r gr 0 → HasCell t (from + b)
-  row-cell b h e = record { fits = omega (arith, row-place b h e, row .table .lent) }
+  pub row-cell : (b : ℕ) → b < g .size3 → {from : ℕ} → from ≡ placeOf g r gr 0 → HasCell t (from + b)
+  row-cell b h {from} e = has-cell (row .table .lent) (from + b) (row-place b h e)
 
-  pub row-one : InSize (g .s1) r
+  pub row-one : InSize (g .shift1) r
   row-one = in-size (one sizes) r (row .inside .one)
 
-  pub row-two : InSize (g .s2) gr
+  pub row-two : InSize (g .shift2) gr
   row-two = in-size (two sizes) gr (row .inside .two)
 
-  pub row-three : (b : ℕ) → b < g .b3 → InSize (g .s3) b
+  pub row-three : (b : ℕ) → b < g .size3 → InSize (g .shift3) b
   row-three b h = in-size (three sizes) b h
 
-  row-span : (b : ℕ) → b < g .b3 → (d : ℕ) → choose d (spanOf (g .s1) r) (spanOf (g .s2) gr) (spanOf (g .s3) b) ≡ spanAt g (placeOf g r gr 0 + b) d
+  row-span : (b : ℕ) → b < g .size3 → (d : ℕ)
+      → choose d (spanOf (g .shift1) r) (spanOf (g .shift2) gr) (spanOf (g .shift3) b)
+      ≡ spanAt g (placeOf g r gr 0 + b) d
   unfolding spanAt
   row-span b h d =
       sym
@@ -176,8 +176,8 @@ module _ {g : Grid} {t : List ℕ} {r gr had : ℕ} (row : Row g t r gr had) whe
       ∙ chosen-span g r gr b d)
 
   -- the test of a cell of the row is that of its bin
-  pub row-bin : (v : View) (b : ℕ) → b < g .b3 → {from : ℕ} → from ≡ placeOf g r gr 0
-      → {s1 s2 s3 : Span} → s1 ≡ spanOf (g .s1) r → s2 ≡ spanOf (g .s2) gr → s3 ≡ spanOf (g .s3) b
+  pub row-bin : (v : View) (b : ℕ) → b < g .size3 → {from : ℕ} → from ≡ placeOf g r gr 0
+      → {s1 s2 s3 : Span} → s1 ≡ spanOf (g .shift1) r → s2 ≡ spanOf (g .shift2) gr → s3 ≡ spanOf (g .shift3) b
       → {c : Cell} → c ≡ cellOf (v (from + b))
       → {x : Bool} → x ≡ (leb (c .weight) limit && inBounds (λ d. choose d s1 s2 s3) (numberOf c))
       → (leb (v (from + b) 0) limit && binSound g v (from + b)) ≡ x
@@ -190,13 +190,3 @@ module _ {g : Grid} {t : List ℕ} {r gr had : ℕ} (row : Row g t r gr had) whe
       ∙ ap (λ (y : Bool). leb (v p 0) limit && y)
       ((λ i. inBounds (λ d. (row-span b h d ∙ ap (λ (q : ℕ). spanAt g (q + b) d) (sym e)) i) (numberOf (cellOf (v p))))
       ∙ bounds-same (spanAt g p) (numberOf (cellOf (v p))) (v p) (λ j k. number-cell (v p) j k)))
-
--- the answer, case by case
-module _ (most : ℕ) (g : Grid) (v : View) where
-  pub total-told : sound most g v ≡ true → weighed most g v ≡ Total (total g v)
-  unfolding weighed
-  total-told e = rw e refl
-
-  pub unsound-told : sound most g v ≡ false → weighed most g v ≡ Unsound
-  unfolding weighed
-  unsound-told e = rw e refl

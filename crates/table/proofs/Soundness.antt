@@ -3,20 +3,23 @@
 use mathlib.Core.Path.{_≡_, refl, ap, _∙_}
 use mathlib.Core.Bool.{Bool, true, false, _&&_}
 use Prim.Native.Nat.{ℕ, zero, suc, _+_, _*_, _^_, _≤_, _<_}
-use native.Mathlib.Nat.{add-mul, zero-mul, mul-le-mul-left, mul-comm}
+use native.Mathlib.Nat.{add-mul, zero-mul, mul-le-mul-left, mul-comm, lt-trans}
 use native.Mathlib.Omega.{arith}
 use borrow.Author.Tests.{le-leb, lt-leb, leb-true}
 use lib.Dec.{leb, leb·zero, lit<}
-use Rattle.grid.specs.declared.Grid.{Grid}
-use Rattle.grid.specs.declared.Span.{Span}
-use Rattle.grid.specs.Range.{sumFrom, allFrom}
+use Rattle.grid.specs.declared.place.Grid.{Grid}
+use Rattle.grid.specs.declared.dimension.Span.{Span}
+use Rattle.basics.specs.Range.{sumFrom, allFrom}
 use Rattle.grid.specs.Size.{spanOf}
-use Rattle.grid.specs.Grid.{Accepted, binsOf, binAt, shiftAt, choose}
-use Rattle.grid.proofs.Range.{sum-same, sum-zero, term-le, and-left, and-right, all-true, all-at, all-same}
+use Rattle.grid.specs.Grid.{Accepted, binsOf, binAt, shiftAt}
+use Rattle.basics.specs.Dimension.{choose}
+use Rattle.basics.proofs.Range.{sum-same, sum-zero, sum-le, sum-scale, term-le, and-left, and-right, all-true, all-at}
+use Rattle.basics.proofs.Range.{all-same}
 use Rattle.grid.proofs.Size.{in-size, span-byte}
 use Rattle.grid.proofs.Places.{sized-at, bin-at-below}
-use Rattle.table.specs.declared.Cell.{Cell}
+use Rattle.table.specs.declared.cell.Cell.{Cell}
 use Rattle.table.specs.Cell.{View, zeros, numberOf}
+use Rattle.table.specs.Table.{Held}
 use Rattle.table.specs.Sound.{limit, between, inBounds, spanAt, binSound, total, sound}
 
 -- ---- the bounds of one bin, as facts
@@ -66,25 +69,22 @@ keeps-plus {span} {f} {h} a b =
     }
 
 -- ---- the bounds of a cell, as the code tests them one after the other
-flat : (a b c d : Bool) → ((a && (b && (c && true))) && d) ≡ (a && (b && (c && d)))
-flat true true true d = refl
-flat true true false d = refl
-flat true false c d = refl
-flat false b c d = refl
+regrouped : (a b c d : Bool) → ((a && (b && (c && true))) && d) ≡ (a && (b && (c && d)))
+regrouped true true true d = refl
+regrouped true true false d = refl
+regrouped true false c d = refl
+regrouped false b c d = refl
 
 -- the tests before one that held, and it or the rest
-pub and-first : {a : Bool} (b : Bool) → a ≡ true → (a && b) ≡ b
-and-first b p = ap (λ (x : Bool). x && b) p
-
-pub and-stop : {a : Bool} (b : Bool) → a ≡ false → (a && b) ≡ false
-and-stop b p = ap (λ (x : Bool). x && b) p
-
 cell-bounds : (s1 s2 s3 : Span) (c : Cell)
     → inBounds (λ d. choose d s1 s2 s3) (numberOf c)
-    ≡ (between s1 (c .weight) (c .sum1) && (between s2 (c .weight) (c .sum2) && (between s3 (c .weight) (c .sum3) && leb (c .squares) (195075 * c .weight))))
+    ≡ (between s1 (c .weight) (c .sum1)
+    && (between s2 (c .weight) (c .sum2)
+    && (between s3 (c .weight) (c .sum3) && leb (c .squares) (195075 * c .weight))))
 unfolding inBounds allFrom choose numberOf
 cell-bounds s1 s2 s3 c =
-    flat (between s1 (c .weight) (c .sum1)) (between s2 (c .weight) (c .sum2)) (between s3 (c .weight) (c .sum3)) (leb (c .squares) (195075 * c .weight))
+    regrouped (between s1 (c .weight) (c .sum1)) (between s2 (c .weight) (c .sum2)) (between s3 (c .weight) (c .sum3))
+    (leb (c .squares) (195075 * c .weight))
 
 between-none : (s : Span) (sum : ℕ) → between s 0 sum ≡ leb sum 0
 unfolding between
@@ -92,11 +92,14 @@ between-none s sum = rw (zero-mul (s .low), zero-mul (s .high), leb·zero sum) r
 
 -- an empty bin has zeros beside its weight
 empty-bounds : (s1 s2 s3 : Span) (c : Cell) → c .weight ≡ 0
-    → inBounds (λ d. choose d s1 s2 s3) (numberOf c) ≡ (leb (c .sum1) 0 && (leb (c .sum2) 0 && (leb (c .sum3) 0 && leb (c .squares) 0)))
+    → inBounds (λ d. choose d s1 s2 s3) (numberOf c)
+    ≡ (leb (c .sum1) 0 && (leb (c .sum2) 0 && (leb (c .sum3) 0 && leb (c .squares) 0)))
 empty-bounds s1 s2 s3 c e =
     cell-bounds s1 s2 s3 c
-    ∙ (λ i. between s1 (e i) (c .sum1) && (between s2 (e i) (c .sum2) && (between s3 (e i) (c .sum3) && leb (c .squares) (195075 * e i))))
-    ∙ (λ i. between-none s1 (c .sum1) i && (between-none s2 (c .sum2) i && (between-none s3 (c .sum3) i && leb (c .squares) 0)))
+    ∙ (λ i. between s1 (e i) (c .sum1)
+    && (between s2 (e i) (c .sum2) && (between s3 (e i) (c .sum3) && leb (c .squares) (195075 * e i))))
+    ∙ (λ i. between-none s1 (c .sum1) i
+    && (between-none s2 (c .sum2) i && (between-none s3 (c .sum3) i && leb (c .squares) 0)))
 
 module _ (s1 s2 s3 : Span) (c : Cell) where
   abbrev within : Bool
@@ -105,13 +108,20 @@ module _ (s1 s2 s3 : Span) (c : Cell) where
   pub heavy-cell : limit < c .weight → within ≡ false
   heavy-cell h = rw (lt-leb (c .weight) limit h) refl
 
-  pub empty-cell : c .weight ≡ 0 → within ≡ (leb (c .sum1) 0 && (leb (c .sum2) 0 && (leb (c .sum3) 0 && leb (c .squares) 0)))
-  empty-cell e = ap (λ (b : Bool). b && inBounds (λ d. choose d s1 s2 s3) (numberOf c)) (le-leb (c .weight) limit (omega arith)) ∙ empty-bounds s1 s2 s3 c e
+  pub empty-cell : c .weight ≡ 0
+      → within ≡ (leb (c .sum1) 0 && (leb (c .sum2) 0 && (leb (c .sum3) 0 && leb (c .squares) 0)))
+  empty-cell e =
+      ap (λ (b : Bool). b && inBounds (λ d. choose d s1 s2 s3) (numberOf c)) (le-leb (c .weight) limit (omega arith))
+      ∙ empty-bounds s1 s2 s3 c e
 
   pub light-cell : c .weight ≤ limit
       → within
-      ≡ (between s1 (c .weight) (c .sum1) && (between s2 (c .weight) (c .sum2) && (between s3 (c .weight) (c .sum3) && leb (c .squares) (195075 * c .weight))))
-  light-cell h = ap (λ (b : Bool). b && inBounds (λ d. choose d s1 s2 s3) (numberOf c)) (le-leb (c .weight) limit h) ∙ cell-bounds s1 s2 s3 c
+      ≡ (between s1 (c .weight) (c .sum1)
+      && (between s2 (c .weight) (c .sum2)
+      && (between s3 (c .weight) (c .sum3) && leb (c .squares) (195075 * c .weight))))
+  light-cell h =
+      ap (λ (b : Bool). b && inBounds (λ d. choose d s1 s2 s3) (numberOf c)) (le-leb (c .weight) limit h)
+      ∙ cell-bounds s1 s2 s3 c
 
 -- ---- views that agree
 abbrev pub Agree : ℕ → View → View → Type 0
@@ -120,7 +130,9 @@ Agree n v u = (p j : ℕ) → p < n → j < 5 → v p j ≡ u p j
 pub bounds-same : (span : ℕ → Span) (f h : ℕ → ℕ) → ((j : ℕ) → j < 5 → f j ≡ h j) → inBounds span f ≡ inBounds span h
 unfolding inBounds allFrom
 bounds-same span f h e =
-    λ i. (between (span 0) (e 0 (lit< tt) i) (e 1 (lit< tt) i) && (between (span 1) (e 0 (lit< tt) i) (e 2 (lit< tt) i) && (between (span 2) (e 0 (lit< tt) i) (e 3 (lit< tt) i) && true)))
+    λ i. (between (span 0) (e 0 (lit< tt) i) (e 1 (lit< tt) i)
+    && (between (span 1) (e 0 (lit< tt) i) (e 2 (lit< tt) i)
+    && (between (span 2) (e 0 (lit< tt) i) (e 3 (lit< tt) i) && true)))
     && leb (e 4 (lit< tt) i) (195075 * e 0 (lit< tt) i)
 
 module _ (g : Grid) (v u : View) (e : Agree (binsOf g) v u) where
@@ -139,10 +151,14 @@ module _ (g : Grid) (v u : View) (e : Agree (binsOf g) v u) where
 pub record Sound (most : ℕ) (g : Grid) (v : View) : Type 0 where
   pub holds : sound most g v ≡ true
 
-pub sound-by : (most : ℕ) (g : Grid) (v : View) → ((p : ℕ) → p < binsOf g → Keeps (spanAt g p) (v p)) → total g v ≤ most → Sound most g v
+pub sound-by : (most : ℕ) (g : Grid) (v : View) → ((p : ℕ) → p < binsOf g → Keeps (spanAt g p) (v p)) → total g v ≤ most
+    → Sound most g v
 unfolding sound binSound
 sound-by most g v k l =
-    record { holds = rw (all-true 0 (binsOf g) (binSound g v) (λ p a b. kept (k p (omega arith)))) (le-leb (total g v) most l) }
+    record {
+      holds = rw (all-true 0 (binsOf g) (binSound g v) (λ p a b. kept (k p (omega arith))))
+          (le-leb (total g v) most l);
+    }
 
 -- an empty table
 pub zeros-total : (g : Grid) → total g zeros ≡ 0
@@ -158,15 +174,22 @@ module _ {most : ℕ} {g : Grid} {v : View} (s : Sound most g v) where
   unfolding sound binSound
   sound-keeps p h =
       keeps (spanAt g p) (v p)
-      (all-at 0 (binsOf g) (binSound g v) (and-left (allFrom 0 (binsOf g) (binSound g v)) (leb (total g v) most) (s .holds)) p (omega arith) (omega arith))
+      (all-at 0 (binsOf g) (binSound g v)
+      (and-left (allFrom 0 (binsOf g) (binSound g v)) (leb (total g v) most) (s .holds)) p (omega arith) (omega arith))
 
-  pub sound-total : total g v ≤ most
+  pub total-high : total g v ≤ most
   unfolding sound
-  sound-total = leb-true (total g v) most (and-right (allFrom 0 (binsOf g) (binSound g v)) (leb (total g v) most) (s .holds))
+  total-high =
+      leb-true (total g v) most (and-right (allFrom 0 (binsOf g) (binSound g v)) (leb (total g v) most) (s .holds))
 
   -- "the squares are at most 195,075·n"
   pub squares-high : (p : ℕ) → p < binsOf g → v p 4 ≤ 195075 * v p 0
   squares-high p h = sound-keeps p h .squares
+
+-- a table that is sound for a limit is sound for a larger one
+pub sound-wider : {few most : ℕ} {g : Grid} {v : View} → few ≤ most → Sound few g v → Sound most g v
+sound-wider {few} {most} {g} {v} l s =
+    sound-by most g v (sound-keeps s) (omega (arith, total-high s))
 
 -- "all weights total": the total is the sum of the weights
 pub total-is : (g : Grid) (v : View) → total g v ≡ sumFrom 0 (binsOf g) (λ p. v p 0)
@@ -203,4 +226,17 @@ module _ {most : ℕ} {g : Grid} {v : View} (a : Accepted g) (s : Sound most g v
 
   -- "every total stays below 195,075 · 2^32 < 2^50"
   pub number-below : most ≤ limit → (j : ℕ) → j < 5 → v p j < 2 ^ 50
-  number-below m j l = omega (arith, number-high j l, weight-high g v p h, sound-total s)
+  number-below m j l = omega (arith, number-high j l, weight-high g v p h, total-high s)
+
+  -- so that a cell of it, written, fits its place
+  pub sound-held : most ≤ limit → {c : Cell} → ((j : ℕ) → j < 5 → numberOf c j ≡ v p j) → Held c
+  sound-held m e = record { fits = λ j l. rw (e j l) (lt-trans (number-below m j l) (lit< tt)) }
+
+-- the sums of a component over all bins are at most 255 times the total
+pub components-high : {most : ℕ} {g : Grid} {v : View} → Accepted g → Sound most g v → (d : ℕ) → d < 3
+    → sumFrom 0 (binsOf g) (λ p. v p (d + 1)) ≤ 255 * total g v
+unfolding total
+components-high {most} {g} {v} a s d l =
+    let each : sumFrom 0 (binsOf g) (λ p. v p (d + 1)) ≤ sumFrom 0 (binsOf g) (λ p. 255 * v p 0) =
+    sum-le 0 (binsOf g) (λ p. v p (d + 1)) (λ p. 255 * v p 0) (λ p h k. sums-high a s p (omega arith) d l) in
+    omega (arith, sum-scale 255 0 (binsOf g) (λ p. v p 0))

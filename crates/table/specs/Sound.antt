@@ -3,14 +3,14 @@ use mathlib.Core.Bool.{Bool, _&&_, cond}
 use mathlib.Core.List.{[], _∷_}
 use Prim.Native.Nat.{ℕ, _+_, _*_}
 use lib.Dec.{leb}
-use Rattle.grid.specs.declared.Grid.{Grid}
-use Rattle.grid.specs.declared.Span.{Span}
-use Rattle.grid.specs.Answer.{Answer}
-use Rattle.grid.specs.Range.{sumFrom, allFrom}
+use Rattle.grid.specs.declared.place.Grid.{Grid}
+use Rattle.grid.specs.declared.dimension.Span.{Span}
+use Rattle.basics.specs.Answer.{Answer}
+use Rattle.basics.specs.Range.{sumFrom, allFrom}
 use Rattle.grid.specs.Size.{spanOf}
 use Rattle.grid.specs.Grid.{shiftAt, binAt, binsOf}
-use Rattle.table.specs.declared.Weighed.{Weighed}
-use Rattle.table.specs.declared.Weighed.the-variants.{Total, Unsound}
+use Rattle.table.specs.declared.sound.SoundTotal.{SoundTotal}
+use Rattle.table.specs.declared.sound.SoundTotal.the-variants.{Total, Unsound}
 use Rattle.table.specs.Cell.{View}
 
 -- the largest total of a table in the wide layout
@@ -41,14 +41,14 @@ unfoldable pub sound : ℕ → Grid → View → Bool
 sound most g v = allFrom 0 (binsOf g) (binSound g v) && leb (total g v) most
 
 -- the total of a sound table, or that it is not sound
-unfoldable pub weighed : ℕ → Grid → View → Weighed
-weighed most g v = cond (sound most g v) (Total (total g v)) Unsound
+unfoldable pub soundTotal : ℕ → Grid → View → SoundTotal
+soundTotal most g v = cond (sound most g v) (Total (total g v)) Unsound
 
 -- the number and the values of each case; open, so that a call's chain of numbers reads through it
-abbrev pub weighedAnswer : Weighed → Answer
-weighedAnswer (Total n) = record { number = 0; values = n ∷ [] }
-weighedAnswer Unsound = record { number = 6; values = [] }
+abbrev pub soundAnswer : SoundTotal → Answer
+soundAnswer (Total n) = record { number = 0; values = n ∷ [] }
+soundAnswer Unsound = record { number = 6; values = [] }
 
 -- the number that every call gives for a table that is not sound
 abbrev pub unsoundNumber : ℕ
-unsoundNumber = weighedAnswer Unsound .number
+unsoundNumber = soundAnswer Unsound .number

@@ -1,4 +1,5 @@
--- `listing::load_all` meets its contract: after each turn one batch more has come. The measure is the number of turns that are left.
+-- `listing::load_all` meets its contract: after each turn one batch more has come. The measure is the number of turns
+-- that are left.
 -- Assumes nothing.
 use mathlib.Core.Path.{_≡_, refl}
 use borrow.Author.Needs.{needs}
@@ -29,8 +30,10 @@ loop-less c = search needs
 
 loop-again : tie.Need-loop-again Inv-loop μ-loop
 loop-again c =
-    let l = c .before .before .before .before .before .before .loop in
-    (one-more _ (c .before .before .before .before .if1 .taken) (l .inv .0) (c .before .before .load-next .ensures), search needs)
+    let l = c .before .before .before .before .before .before .loop in (
+      one-more _ (c .before .before .before .before .if1 .taken) (l .inv .0) (c .before .before .load-next .ensures),
+      search needs,
+    )
 
 same-length : tie.Need-same-length Inv-loop μ-loop
 same-length c = search needs

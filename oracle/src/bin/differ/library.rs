@@ -3,7 +3,7 @@
 mod calls;
 
 use calls::{
-    seluvava_bins, seluvava_cut, seluvava_load, seluvava_map, seluvava_merge, seluvava_numbers,
+    seluvava_bins, seluvava_cut, seluvava_load, seluvava_map, seluvava_merge, seluvava_table_len,
     seluvava_paint,
 };
 use oracle::port::{Band, Grid, Lent, Port};
@@ -34,7 +34,7 @@ pub struct Library;
 // Each pointer goes with the length of its list, and no two lists overlap.
 impl Port for Library {
     fn sizes(&self, [b1, b2, b3]: Grid) -> (usize, usize) {
-        unsafe { (seluvava_bins(b1, b2, b3), seluvava_numbers(b1, b2, b3)) }
+        unsafe { (seluvava_bins(b1, b2, b3), seluvava_table_len(b1, b2, b3)) }
     }
 
     fn load(

@@ -1,210 +1,171 @@
 //! What has to come of a case: the original's answer and, where a call is refused, document 01's.
-use crate::cases::Case;
+use crate::{
+    cases::Case,
+    lists::{self, Boxes, Call, Lists, front, write_cut},
+    script::Script,
+};
 use oracle::{
-    answer::{BoxSpread, Input, Told, original},
-    numbers::{self, Lengths, added, bins, place},
+    answer::{Input, original},
+    numbers::{self, Lengths, bins},
     port::Band,
     stand_ins::quantette::PaletteSize,
 };
-use std::fmt::Write as _;
 
 /// Up to which total an input is also run pixel by pixel.
 const FEW_PIXELS: u64 = 300_000;
 
-/// What the loads make of a table of zeros: the number of each, the table, and the input of those that are done.
+/// What the loads leave in the lists, and the input of those that are done.
 struct Loaded {
-    numbers: Vec<u8>,
-    table: Vec<u64>,
+    lists: Lists,
     input: Input,
 }
 
-/// The table of a batch.
-fn table_of(grid: [usize; 3], batch: &Input) -> Vec<u64> {
-    let mut table = vec![0; 5 * bins(grid)];
-    for (&color, &w) in batch.colors.iter().zip(&batch.weights) {
-        let cell = &mut table[5 * place(grid, color)..];
-        for (n, more) in cell.iter_mut().zip(added(color, w)) {
-            *n += more;
-        }
-    }
-    table
-}
-
 impl Loaded {
-    /// Adds a batch that no load refuses.
-    fn add(&mut self, second: Vec<u64>, batch: Input) {
-        for (n, more) in self.table.iter_mut().zip(second) {
-            *n += more;
-        }
-        self.input.colors.extend(batch.colors);
-        self.input.weights.extend(batch.weights);
-    }
-
-    fn of(case: &Case) -> Self {
-        let empty = vec![0; 5 * bins(case.grid)];
+    /// Writes the loads of a case into a table of zeros. One that is merged is loaded into a second table of zeros.
+    fn write(s: &mut Script, case: &Case) -> Self {
+        let zeros = vec![0; 5 * bins(case.grid)];
         let mut all = Self {
-            numbers: Vec::new(),
-            table: empty.clone(),
+            lists: Lists {
+                table: zeros.clone(),
+                ..Lists::default()
+            },
             input: Input::default(),
         };
+        let l = &mut all.lists;
+        s.set("table", &l.table);
         for load in &case.loads {
-            let lent = &case.weights[load.from..load.end];
-            let colors = case.colors[load.from..load.end].to_vec();
-            let mut weights = lent.to_vec();
-            if !load.weighted {
-                weights.fill(1);
-            }
-            let batch = Input { colors, weights };
-            let into = if load.merged { &empty } else { &all.table };
-            let mut number = numbers::load(case.grid, into, 3 * lent.len(), load.weighted, lent);
-            if number == 0 {
-                let second = table_of(case.grid, &batch);
-                if load.merged {
-                    number = numbers::merge(case.grid, &all.table, &second);
-                }
+            let weighted = load.weighted;
+            let colors = &case.colors[load.from..load.end];
+            l.frame = colors.as_flattened().to_vec();
+            l.weights = case.weights[load.from..load.end].to_vec();
+            s.set("frame", &l.frame);
+            s.set("weights", &l.weights);
+            let mut number;
+            if load.merged {
+                l.second = zeros.clone();
+                s.set("second", &l.second);
+                number = Call::LoadSecond { weighted }.make(s, case.grid, l);
+                s.held("second", &l.second);
                 if number == 0 {
-                    all.add(second, batch);
+                    number = Call::Merge.make(s, case.grid, l);
                 }
+            } else {
+                number = Call::Load { weighted }.make(s, case.grid, l);
             }
-            all.numbers.push(number);
+            s.held("table", &l.table);
+            if number == 0 {
+                let ones = vec![1; colors.len()];
+                all.input.colors.extend(colors);
+                all.input
+                    .weights
+                    .extend(if weighted { &l.weights } else { &ones });
+            }
         }
         all
     }
 }
 
-/// What a cut leaves in all that `vectors` lends it, and what a map and a paint of the case's colours then leave. Palette
-/// and counts are longer than any k needs.
-struct Left {
-    number: u8,
-    boxes: Vec<BoxSpread>,
-    work: Vec<u64>,
-    palette: [u8; 780],
-    counts: [u32; 260],
-    map: Vec<u8>,
+/// What the original says of a cut, in all that it is lent, and what of the case's colours, mapped and painted.
+struct Told {
+    boxes: Boxes,
     indices: Vec<u8>,
-    frame: Vec<[u8; 3]>,
+    painted: Vec<u8>,
 }
 
-impl Left {
-    /// What was there before, with the cut's number.
-    fn of(case: &Case, loaded: &Loaded) -> Self {
-        let mut left = Self {
-            number: 0,
-            boxes: Vec::new(),
-            work: vec![6; 5 * bins(case.grid)],
-            palette: [201; 780],
-            counts: [77; 260],
-            map: vec![99; bins(case.grid)],
-            indices: vec![88; case.colors.len()],
-            frame: case.colors.clone(),
+/// Puts the original's answer to the input that was loaded there. Where the judge is built without the grid, the model
+/// of document 01 answers, which the judge's tests hold to the original.
+fn told(case: &Case, input: &Input, l: &mut Lists) -> Told {
+    let Some(judge) = original(case.grid) else {
+        let (_, boxes) = lists::cut(case.grid, case.k, l);
+        let index = |c: &[u8; 3]| l.map[numbers::place(case.grid, *c)];
+        let indices: Vec<u8> = case.colors.iter().map(index).collect();
+        let painted = indices
+            .iter()
+            .flat_map(|&i| l.palette.as_chunks::<3>().0[usize::from(i)]);
+        return Told {
+            boxes,
+            painted: painted.collect(),
+            indices,
         };
-        let lent = Lengths {
-            work: left.work.len(),
-            palette: left.palette.len(),
-            counts: left.counts.len(),
-            map: left.map.len(),
-            boxes: usize::MAX,
-            spreads: usize::MAX,
-        };
-        left.number = numbers::cut(case.grid, case.k, &loaded.table, lent);
-        if left.number == 0 {
-            left.fill(told(case, loaded));
-        }
-        left
-    }
-
-    /// Puts the original's answer there.
-    fn fill(&mut self, told: Told) {
-        let n = told.answer.boxes.len();
-        self.palette[..3 * n].copy_from_slice(told.answer.palette.as_flattened());
-        self.counts[..n].copy_from_slice(&told.answer.counts);
-        self.boxes = told.answer.boxes;
-        self.work = told.answer.moments;
-        self.map = told.answer.map;
-        self.indices = told.frame.indices;
-        self.frame = told.frame.painted;
-    }
-}
-
-/// The original's answer to the input that was loaded.
-fn told(case: &Case, loaded: &Loaded) -> Told {
+    };
     let k = PaletteSize::new(case.k).expect("k");
-    let judge = original(case.grid).expect("a grid of the judge");
-    let by_pixels = loaded.input.total() <= FEW_PIXELS;
-    let told = (judge.told)(&loaded.input, k, by_pixels, &case.colors).expect("an answer");
-    assert!(told.table == loaded.table, "the original's table");
+    let by_pixels = input.total() <= FEW_PIXELS;
+    let told = (judge.told)(input, k, by_pixels, &case.colors).expect("an answer");
+    assert!(told.table == l.table, "the original's table");
+    let n = told.answer.boxes.len();
+    l.palette[..3 * n].copy_from_slice(told.answer.palette.as_flattened());
+    l.counts[..n].copy_from_slice(&told.answer.counts);
+    l.second = told.answer.moments;
+    l.map = told.answer.map;
+    let ends = |x: &oracle::answer::BoxSpread| {
+        let [r, g, b] = [0, 1, 2].map(|d| [x.min[d], x.max[d]]);
+        [r[0], r[1], g[0], g[1], b[0], b[1]]
+    };
+    let boxes = told.answer.boxes.iter();
+    Told {
+        boxes: boxes.map(|x| (ends(x), x.spread.to_bits())).collect(),
+        indices: told.frame.indices,
+        painted: told.frame.painted.into_flattened(),
+    }
+}
+
+/// Writes the cut of what was loaded. Palette and counts are longer than any k needs.
+fn write_answer(s: &mut Script, case: &Case, input: &Input, l: &mut Lists) -> Option<Told> {
+    l.second = vec![6; 5 * bins(case.grid)];
+    l.palette = vec![201; 780];
+    l.counts = vec![77; 260];
+    l.map = vec![99; bins(case.grid)];
+    s.set("second", &l.second);
+    s.set("palette", &l.palette);
+    s.set("counts", &l.counts);
+    s.set("map", &l.map);
+    let lent = Lengths {
+        work: l.second.len(),
+        palette: l.palette.len(),
+        counts: l.counts.len(),
+        map: l.map.len(),
+        boxes: usize::MAX,
+        spreads: usize::MAX,
+    };
+    let number = numbers::cut(case.grid, case.k, &l.table, lent);
+    let told = (number == 0).then(|| told(case, input, l));
+    let none = Vec::new();
+    let boxes = told.as_ref().map_or(&none, |t| &t.boxes);
+    write_cut(s, case.grid, case.k, number, boxes);
+    s.held("table", &l.table);
+    s.held("second", &l.second);
+    s.held("palette", &l.palette);
+    s.held("counts", &l.counts);
+    s.held("map", &l.map);
     told
 }
 
-/// The two checksums of a list: the sum of its numbers, and the sum of the sums up to each of them.
-fn checksums(s: &mut String, name: &str, list: impl IntoIterator<Item = impl Into<u64>>) {
-    let (mut sum, mut sums) = (0_u64, 0_u64);
-    for n in list {
-        sum = sum.wrapping_add(n.into());
-        sums = sums.wrapping_add(sum);
-    }
-    let _ = writeln!(s, "{name} sum {sum:x} sums {sums:x}");
-}
-
-fn hex([r, g, b]: [u8; 3]) -> String {
-    format!("{r:02x}{g:02x}{b:02x}")
-}
-
-fn write_input(s: &mut String, number: usize, case: &Case, loaded: &Loaded) {
-    let ([b1, b2, b3], k) = (case.grid, case.k);
-    let _ = write!(s, "case {number} grid {b1} {b2} {b3} ");
-    let _ = write!(s, "bins {} k {k} ", bins(case.grid));
-    let (colours, loads) = (case.colors.len(), case.loads.len());
-    let _ = writeln!(s, "colours {colours} loads {loads} of {}", case.of);
-    for (&color, weight) in case.colors.iter().zip(&case.weights) {
-        let _ = writeln!(s, "colour {} weight {weight}", hex(color));
-    }
-    for (load, number) in case.loads.iter().zip(&loaded.numbers) {
-        let (from, colours) = (load.from, load.end - load.from);
-        let [weighted, merged] = [load.weighted, load.merged].map(u8::from);
-        let _ = write!(s, "load from {from} colours {colours} ");
-        let _ = writeln!(s, "weighted {weighted} merged {merged} number {number}");
-    }
-}
-
-fn write_cut(s: &mut String, loaded: &Loaded, left: &Left) {
-    let (number, boxes) = (left.number, left.boxes.len());
-    let _ = writeln!(s, "cut number {number} boxes {boxes}");
-    let colors = left.palette.as_chunks().0;
-    for ((x, &color), count) in left.boxes.iter().zip(colors).zip(left.counts) {
-        let ([r0, g0, b0], [r1, g1, b1]) = (x.min, x.max);
-        let _ = write!(
-            s,
-            "box red {r0} to {r1} green {g0} to {g1} blue {b0} to {b1} "
-        );
-        let _ = write!(s, "spread {:016x} ", x.spread.to_bits());
-        let _ = writeln!(s, "colour {} count {count}", hex(color));
-    }
-    checksums(s, "table", loaded.table.iter().copied());
-    checksums(s, "work", left.work.iter().copied());
-    checksums(s, "palette", left.palette);
-    checksums(s, "counts", left.counts);
-    checksums(s, "map", left.map.iter().copied());
-}
-
-fn write_frame(s: &mut String, case: &Case, left: Left) {
-    let (pixels, boxes) = (left.frame.len(), left.boxes.len());
-    let band = Band { first: 0, pixels };
-    let number = numbers::map(case.grid, &left.map, boxes, 3 * pixels, pixels, band);
-    checksums(s, &format!("indices number {number}"), left.indices);
-    let number = numbers::paint(case.grid, &left.map, 3 * boxes, 3 * pixels, band);
-    checksums(
-        s,
-        &format!("painted number {number}"),
-        left.frame.into_flattened(),
+/// Writes a case and all that has to come of it: its loads, its cut, and a map and a paint of its own colours.
+pub fn write(s: &mut Script, case: &Case) {
+    s.case(&case.of);
+    let Loaded { mut lists, input } = Loaded::write(s, case);
+    let l = &mut lists;
+    let told = write_answer(s, case, &input, l);
+    let (boxes, pixels) = (
+        told.as_ref().map_or(0, |t| t.boxes.len()),
+        case.colors.len(),
     );
-}
-
-/// Writes a case and all that has to come of it.
-pub fn write(s: &mut String, number: usize, case: &Case) {
-    let loaded = Loaded::of(case);
-    let left = Left::of(case, &loaded);
-    write_input(s, number, case, &loaded);
-    write_cut(s, &loaded, &left);
-    write_frame(s, case, left);
+    l.frame = case.colors.as_flattened().to_vec();
+    l.indices = vec![88; pixels];
+    s.set("frame", &l.frame);
+    s.set("indices", &l.indices);
+    let band = Band { first: 0, pixels };
+    Call::Map {
+        colours: boxes,
+        band,
+    }
+    .make(s, case.grid, l);
+    s.held("indices", &l.indices);
+    front(s, boxes, &mut l.palette);
+    Call::Paint { band }.make(s, case.grid, l);
+    s.held("frame", &l.frame);
+    if let Some(t) = told {
+        assert!(l.indices == t.indices, "the original's indices");
+        assert!(l.frame == t.painted, "the original's painted pixels");
+    }
 }

@@ -1,9 +1,9 @@
-//! The cases: those that document 01 works out, one for each easy slip, each size in each dimension, and a sample of the
+//! The cases: those that document 01 works out, one for each mutant, each size in each dimension, and a sample of the
 //! runner's classes.
 use oracle::{
     case,
     classes::{CLASSES, Cases, Grids, Maker},
-    numbers::bins,
+    numbers::{bins, place},
     random::Random,
 };
 
@@ -25,11 +25,6 @@ pub struct Case {
 }
 
 impl Case {
-    /// The first word of what it is a case of.
-    pub fn kind(&self) -> &str {
-        self.of.split([' ', ':']).next().expect("a word")
-    }
-
     /// The same with a load up to each of these ends.
     fn in_loads(mut self, ends: &[usize], merged: bool) -> Self {
         let mut from = 0;
@@ -96,8 +91,8 @@ fn worked() -> Vec<Case> {
     ]
 }
 
-/// A small case for each slip that no worked one shows.
-fn slips() -> Vec<Case> {
+/// A small case for each mutant that no worked one shows.
+fn mutants() -> Vec<Case> {
     let corners = [BLACK, [0, 0, 255], [0, 255, 0], [0, 255, 255]].map(|c| (c, 1));
     let near = [(BLACK, 1), ([255, 127, 0], 1), ([255, 128, 0], 1)];
     let crowded = [
@@ -110,30 +105,32 @@ fn slips() -> Vec<Case> {
     let positive = [(BLACK, 1), ([255, 254, 254], 215_443)];
     let wide = [(BLACK, 1), (WHITE, 16_843_010)];
     let late = [(BLACK, u32::MAX - 1), ([64; 3], 1), (WHITE, 1)];
+    let one_bin = [BLACK, [100, 0, 0], [0, 0, 128], [0, 128, 0], [128, 0, 0]].map(|c| (c, 1));
     vec![
-        whole("slip: a tie to the left child", CUBE, 5, &corners),
+        whole("mutant: a tie to the left child", CUBE, 5, &corners),
         whole(
-            "slip: an early stop, at a spread of one half",
+            "mutant: an early stop, at a spread of one half",
             CUBE,
             3,
             &near,
         ),
         whole(
-            "slip: one box cannot be cut, another can",
+            "mutant: one box cannot be cut, another can",
             CUBE,
             4,
             &crowded,
         ),
         whole(
-            "slip: a negative spread clamped or exact",
+            "mutant: a negative spread clamped or exact",
             CUBE,
             3,
             &negative,
         ),
-        whole("slip: a falsely positive spread", CUBE, 3, &positive),
-        whole("slip: sums of 32 bits", CUBE, 2, &wide),
-        whole("slip: half a batch", CUBE, 4, &late).in_loads(&[1, 3], false),
-        whole("slip: half a merge", CUBE, 4, &late).in_loads(&[1, 3], true),
+        whole("mutant: a falsely positive spread", CUBE, 3, &positive),
+        whole("mutant: sums of 32 bits", CUBE, 2, &wide),
+        whole("mutant: a box of one bin with two colours", CUBE, 4, &one_bin),
+        whole("mutant: half a batch", CUBE, 4, &late).in_loads(&[1, 3], false),
+        whole("mutant: half a merge", CUBE, 4, &late).in_loads(&[1, 3], true),
     ]
 }
 
@@ -151,6 +148,21 @@ fn sizes(r: &mut Random) -> Vec<Case> {
         }
     }
     cases
+}
+
+/// As many boxes as there can be: 300 occupied bins of the grid 8, 8, 8 and k = 256.
+fn filled(r: &mut Random) -> Case {
+    let mut input = Vec::new();
+    let mut occupied = [false; 512];
+    while input.len() < 300 {
+        let color = r.color();
+        let bin = &mut occupied[place([8; 3], color)];
+        if !*bin {
+            *bin = true;
+            input.push((color, r.one_of(&[1, 1, 1, 2, 3, 7, 50, 400])));
+        }
+    }
+    whole("filled: 300 occupied bins, 256 boxes", [8; 3], 256, &input)
 }
 
 /// A sample of a class of the runner.
@@ -187,7 +199,7 @@ const SAMPLES: [Sample; 12] = [
     sample("corners", 45, 3, 9),
 ];
 
-/// The most bins for which `vectors` has the room.
+/// The most bins for which `replay` has the room.
 const MOST_BINS: usize = 32_768;
 
 impl Sample {
@@ -197,7 +209,7 @@ impl Sample {
             .iter()
             .find(|c| c.name == self.class)
             .expect("a class");
-        let grids = Grids::of_judge();
+        let grids = Grids::all();
         let mut maker = Maker {
             grids: &grids,
             r: Random(seed ^ Random(class.name.bytes().map(u64::from).sum()).next()),
@@ -245,12 +257,13 @@ fn loaded_at_random(of: &str, made: &case::Case, r: &mut Random) -> Case {
 pub fn all(seed: u64) -> Vec<Case> {
     let mut r = Random(seed);
     let mut cases = worked();
-    cases.extend(slips());
+    cases.extend(mutants());
     cases.extend(sizes(&mut r));
     for sample in SAMPLES {
         for made in sample.made(seed) {
             cases.push(loaded_at_random(sample.class, &made, &mut r));
         }
     }
+    cases.push(filled(&mut Random(seed)));
     cases
 }

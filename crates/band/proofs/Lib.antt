@@ -1,0 +1,4 @@
+pub mod Below
+pub mod Band
+pub mod Pixels
+pub mod Numbers

@@ -1,0 +1,4 @@
+pub mod Range
+pub mod Ends
+pub mod Determined
+pub mod Compare

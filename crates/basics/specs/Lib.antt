@@ -1,0 +1,4 @@
+pub mod Range
+pub mod Dimension
+pub mod Answer
+pub mod Determines

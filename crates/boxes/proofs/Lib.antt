@@ -1,0 +1,4 @@
+pub mod Within
+pub mod Whole
+pub mod Packing
+pub mod Held

@@ -1,0 +1,3 @@
+pub mod Box
+pub mod Holds
+pub mod Bytes

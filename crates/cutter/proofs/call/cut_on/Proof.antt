@@ -1,0 +1,131 @@
+-- `cutter::call::cut_on` meets its contract: the moments, the boxes of the loop, and what they give.
+-- Assumes nothing.
+use mathlib.Core.Path.{_≡_, sym, ap, subst, _∙_}
+use Prim.Native.Nat.{_≤_}
+use native.Mathlib.Nat.{le-trans}
+use native.Mathlib.Omega.{arith}
+use borrow.Author.Needs.{needs}
+use denote.Ref.{now}
+use Rattle.table.specs.Cell.{View}
+use Rattle.grid.specs.Grid.{binsOf}
+use Rattle.table.specs.Table.{Table, viewOf, written, TableOf}
+use Rattle.table.specs.Sound.{limit}
+use Rattle.table.proofs.Tables.{sized-by}
+use Rattle.sums.specs.Moments.{momentsOf, CanSum}
+use Rattle.sums.proofs.Steps.{sums-can}
+use Rattle.rounds.specs.declared.gather.Boxes.{Boxes}
+use Rattle.rounds.specs.Loop.{boxesOf}
+use Rattle.rounds.proofs.Filled.{heap-most}
+use Rattle.cutter.specs.Palette.{paletteLater, countsLater}
+use Rattle.cutter.specs.Inner.{fillFrom, Found}
+use Rattle.cutter.specs.Cut.{buffers, doneRecord, listOf, boxList, resultsOn, laterOn}
+use Rattle.cutter.proofs.Maps.{filled-map}
+use Rattle.cutter.proofs.RecordBoxes.{list-tiles, all-found}
+use Rattle.cutter.proofs.call.cut_on.Statement.{statement}
+use Rattle.cutter.proofs.call.cut_on.Tie as tie
+
+abbrev view : tie.Start → View
+view s = viewOf (now (s .args .table))
+
+-- the table, and the work table after the moments
+the-table : (s : tie.Start) → TableOf (s .args .g) (now (s .args .table))
+the-table s = record { accepted = s .pre .0 .0; lent = sized-by (s .pre .1 .table) }
+
+can-sum : (s : tie.Start) {w : Table} → w ≡ written (binsOf (s .args .g)) (momentsOf (s .args .g) (view s))
+    → CanSum limit (s .args .g) (now (s .args .table)) w
+can-sum s = sums-can (the-table s) (s .pre .0 .1 .is-sound)
+
+-- the boxes of the loop
+the-boxes : (s : tie.Start) {b : Boxes} → b ≡ boxesOf (s .args .g) (view s) (s .args .k) → Found (s .args .g) (view s) b
+the-boxes s e =
+    subst (Found (s .args .g) (view s)) (sym e)
+    (all-found (s .args .g) (view s) (s .args .k) (s .pre .0 .1 .most) (s .pre .0 .0) (s .pre .0 .1 .some))
+
+few : (s : tie.Start) {b : Boxes} → b ≡ boxesOf (s .args .g) (view s) (s .args .k) → b .boxes ≤ s .args .k
+unfolding boxesOf
+few s e = rw e (heap-most (s .args .g) (view s) (s .args .k) (s .pre .0 .1 .least) (s .pre .0 .1 .most))
+
+moments-requires : tie.Need-moments-requires
+moments-requires c κs =
+    let s = c .before .before .before .before .before .before in
+    record { table = the-table s; is-sound = s .pre .0 .1 .is-sound; work = sized-by (s .pre .1 .work) }
+
+cut-boxes-requires : tie.Need-cut-boxes-requires
+cut-boxes-requires c κs =
+    let s = c .before .before .before .before .before .before .before .before .before .before in
+    (can-sum s (c .before .before .before .moments .ensures), s .pre .0 .1 .most)
+
+put-results-requires : tie.Need-put-results-requires
+put-results-requires c κs =
+    let s = c .before .before .before .before .before .before .before .before .before .before .before .before .before
+    .before in
+    let e = c .before .before .before .cut-boxes .ensures in (
+      (
+        can-sum s (c .before .before .before .before .before .before .before .moments .ensures),
+        the-boxes s e,
+      ),
+      (omega (arith, few s e, s .pre .1 .palette), le-trans (few s e) (s .pre .1 .counts)),
+    )
+
+fill-boxes-requires : tie.Need-fill-boxes-requires
+fill-boxes-requires c κs =
+    let s = c .before .before .before .before .before .before .before .before .before .before .before .before .before
+    .before .before .before .before .before .before .before in (
+      the-boxes s
+          (c .before .before .before .before .before .before .before .before .before .cut-boxes .ensures) .placed,
+      s .pre .1 .map,
+    )
+
+done-requires : tie.Need-done-requires
+done-requires c κs = search needs
+
+same-length : tie.Need-same-length
+same-length c = search needs
+
+same-length-2 : tie.Need-same-length-2
+same-length-2 c = search needs
+
+same-length-3 : tie.Need-same-length-3
+same-length-3 c = search needs
+
+same-length-4 : tie.Need-same-length-4
+same-length-4 c = search needs
+
+returns : tie.Need-returns
+unfolding laterOn resultsOn boxList
+returns c =
+    let s = c .before .before .before .before .before .before .before .before .before .before .before .before .before
+    .before .before .before .before .before .before .before .before .before .before .before in
+    let e = c .before .before .before .before .before .before .before .before .before .before .before .before
+    .before .cut-boxes .ensures in
+    let palette = c .before .before .before .before .before .before .before .before .before .put-results .ensures .0
+    ∙ ap (λ (b : Boxes). paletteLater (s .args .g) (view s) (listOf (b .boxes) (b .places)) (now (s .args .palette)))
+    e in
+    let counts = c .before .before .before .before .before .before .before .before .before .put-results .ensures .1
+    ∙ ap (λ (b : Boxes). countsLater (s .args .g) (view s) (listOf (b .boxes) (b .places)) (now (s .args .counts))) e in
+    let map =
+    c .before .before .before .fill-boxes .ensures
+    ∙ ap (λ (b : Boxes). fillFrom (s .args .g) 0 (listOf (b .boxes) (b .places)) (now (s .args .map))) e
+    ∙ filled-map (s .args .g) _ (list-tiles (s .args .g) (view s) (s .args .k) (s .pre .0 .1 .most) (s .pre .0 .0))
+    (now (s .args .map)) (s .pre .1 .map) in (
+      c .done .ensures ∙ ap doneRecord e,
+      λ i. buffers
+          (c .before .before .before .before .before .before .before .before .before .before .before .before .before
+          .before
+          .before .before .before .moments .ensures i) (palette i) (counts i) (map i),
+    )
+
+pub cut-on-spec : {M : Type 1} → statement M
+cut-on-spec =
+    tie.close
+    (tie.spec
+    moments-requires
+    cut-boxes-requires
+    put-results-requires
+    fill-boxes-requires
+    done-requires
+    same-length
+    same-length-2
+    same-length-3
+    same-length-4
+    returns)

@@ -1,0 +1,77 @@
+-- `cutter::call::long_enough` meets its contract: length by length.
+-- Assumes nothing.
+use mathlib.Core.Path.{_≡_, sym, ap, _∙_}
+use Prim.Native.Nat.{ℕ}
+use native.Mathlib.Omega.{arith}
+use borrow.Author.Needs.{needs}
+use lib.Dec.{eqb}
+use Rattle.grid.specs.Grid.{binsOf}
+use Rattle.table.specs.Table.{tableLen}
+use Rattle.cutter.specs.Cut.{Lengths}
+use Rattle.cutter.proofs.Refusals.{table-wrong, work-wrong, palette-short, counts-short, only-map}
+use Rattle.cutter.proofs.call.long_enough.Statement.{statement}
+use Rattle.cutter.proofs.call.long_enough.Tie as tie
+
+abbrev lengths : tie.Start → Lengths
+lengths s = record { work = s .args .work; palette = s .args .palette; counts = s .args .counts; map = s .args .map }
+
+-- five numbers a bin
+numbers : (k : tie.After-table-len) → k .table-len .result ≡ tableLen (binsOf (k .before .before .args .g))
+numbers k = k .table-len .ensures
+
+bins-requires : tie.Need-bins-requires
+bins-requires c κs = search needs
+
+table-len-requires : tie.Need-table-len-requires
+table-len-requires c κs = search needs
+
+returns : tie.Need-returns
+returns c =
+    let s = c .before .before .before in
+    sym (table-wrong (s .args .g) (s .args .k) (s .args .table) (lengths s)
+    (λ e. c .if1 .taken (e ∙ sym (numbers (c .before)))))
+
+returns-2 : tie.Need-returns-2
+returns-2 c =
+    let s = c .before .before .before .before in
+    sym (work-wrong (s .args .g) (s .args .k) (s .args .table) (lengths s)
+    (c .before .if1 .left ∙ numbers (c .before .before)) (λ e. c .if2 .taken (e ∙ sym (numbers (c .before .before)))))
+
+mul-if3 : tie.Need-mul-if3
+mul-if3 c = omega (arith, c .before .before .before .before .pre .1)
+
+returns-3 : tie.Need-returns-3
+returns-3 c =
+    let s = c .before .before .before .before .before in
+    sym (palette-short (s .args .g) (s .args .k) (s .args .table) (lengths s)
+    (c .before .before .if1 .left ∙ numbers (c .before .before .before))
+    (c .before .if2 .left ∙ numbers (c .before .before .before)) (c .if3 .taken))
+
+returns-4 : tie.Need-returns-4
+returns-4 c =
+    let s = c .before .before .before .before .before .before in
+    sym (counts-short (s .args .g) (s .args .k) (s .args .table) (lengths s)
+    (c .before .before .before .if1 .left ∙ numbers (c .before .before .before .before))
+    (c .before .before .if2 .left ∙ numbers (c .before .before .before .before)) (c .before .if3 .left) (c .if4 .taken))
+
+returns-5 : tie.Need-returns-5
+returns-5 c =
+    let s = c .before .before .before .before .before .before in
+    ap (λ (n : ℕ). eqb (s .args .map) n) (c .before .before .before .before .before .bins .ensures)
+    ∙ sym (only-map (s .args .g) (s .args .k) (s .args .table) (lengths s)
+    (c .before .before .before .if1 .left ∙ numbers (c .before .before .before .before))
+    (c .before .before .if2 .left ∙ numbers (c .before .before .before .before)) (c .before .if3 .left)
+    (c .if4 .left))
+
+pub long-enough-spec : {M : Type 1} → statement M
+long-enough-spec =
+    tie.close
+    (tie.spec
+    bins-requires
+    table-len-requires
+    returns
+    returns-2
+    mul-if3
+    returns-3
+    returns-4
+    returns-5)

@@ -1,0 +1,197 @@
+// The call cut: what it refuses, and what it hands back and leaves behind.
+use crate::results::fill_boxes;
+use crate::results::put_results;
+use boxes::sides::Bounds;
+use grid::place::Chosen;
+use grid::place::Grid;
+use grid::place::bins;
+use grid::place::grid_of;
+use rounds::gather::BoxSpread;
+use rounds::gather::Boxes;
+use rounds::gather::cut_boxes;
+use sums::moments::moments;
+use table::layout::table_len;
+use table::sound::SoundTotal;
+use table::sound::sound_total;
+ghost use mathlib.Core.Path.{_≡_};
+ghost use Prim.Native.Nat.{_≤_};
+ghost use lib.ListN.{length};
+ghost use Rattle.grid.specs.Grid.{Accepted};
+ghost use Rattle.table.specs.Table.{viewOf, tableLen};
+ghost use Rattle.table.specs.Sound.{limit};
+ghost use Rattle.rounds.specs.Loop.{boxesOf};
+ghost use Rattle.cutter.specs.Cut.{buffers, lengthsOf, longEnough, cutNumberOn, CanCut, LengthsFit};
+ghost use Rattle.cutter.specs.Cut.{refusedRecord, doneRecord, laterOn, cutRecord, cutLater};
+
+// What a cut hands back: its number, the number of boxes, and a place for each box with its spread.
+pub struct CutRecord {
+    pub number: u8,
+    pub boxes: usize,
+    pub places: [BoxSpread; 256],
+}
+
+// The record of a refusal.
+fn refused(number: u8) -> CutRecord
+    ensures { λ r. ⌜ r ≡ refusedRecord number ⌝ }
+{
+    let bounds = Bounds {
+        r0: 0,
+        r1: 0,
+        g0: 0,
+        g1: 0,
+        b0: 0,
+        b1: 0,
+    };
+    let none = BoxSpread {
+        bounds,
+        spread: 0.0,
+    };
+    let places = [none; 256];
+    CutRecord {
+        number,
+        boxes: 0,
+        places,
+    }
+}
+
+// The record of a cut that is done.
+fn done(b: Boxes) -> CutRecord
+    ensures { λ r. ⌜ r ≡ doneRecord b ⌝ }
+{
+    let places = b.places;
+    CutRecord {
+        number: 0,
+        boxes: b.boxes,
+        places,
+    }
+}
+
+// Whether the lengths of what is lent are right for a k within its bounds.
+fn long_enough(
+    g: Grid,
+    k: usize,
+    table: usize,
+    work: usize,
+    palette: usize,
+    counts: usize,
+    map: usize,
+) -> bool
+    requires { ⌜ Accepted g × (k ≤ 256) ⌝ }
+    ensures { λ r. ⌜ r
+        ≡ longEnough g k table
+        (record { work = work; palette = palette; counts = counts; map = map }) ⌝ }
+{
+    let n = bins(g);
+    let numbers = table_len(g);
+    if table != numbers {
+        return false;
+    }
+    if work != numbers {
+        return false;
+    }
+    if palette < 3 * k {
+        return false;
+    }
+    if counts < k {
+        return false;
+    }
+    map == n
+}
+
+// The number of a cut on an accepted grid.
+fn number_on(
+    g: Grid,
+    k: usize,
+    table: &[u64],
+    work: usize,
+    palette: usize,
+    counts: usize,
+    map: usize,
+) -> u8
+    requires { ⌜ Accepted g ⌝ }
+    ensures { λ r. ⌜ r
+        ≡ cutNumberOn limit g k
+        (longEnough g k (length (now (table .entry)))
+        (record { work = work; palette = palette; counts = counts; map = map }))
+        (viewOf (now (table .entry))) ⌝ }
+{
+    if k < 1 {
+        return 2;
+    }
+    if 256 < k {
+        return 2;
+    }
+    if !long_enough(g, k, table.len(), work, palette, counts, map) {
+        return 5;
+    }
+    let SoundTotal::Total(total) = sound_total(table, g) else {
+        return 6;
+    };
+    if total == 0 {
+        return 8;
+    }
+    0
+}
+
+// A cut that nothing refuses.
+fn cut_on(
+    g: Grid,
+    k: usize,
+    table: &[u64],
+    work: &mut [u64],
+    palette: &mut [u8],
+    counts: &mut [u32],
+    map: &mut [u8],
+) -> CutRecord
+    requires { ⌜ Accepted g × CanCut limit g k (viewOf (now table)) ⌝ }
+    requires { ⌜ LengthsFit g k (length (now table))
+        (lengthsOf (buffers (now work) (now palette) (now counts) (now map))) ⌝ }
+    ensures answer { λ r. ⌜ r ≡ doneRecord (boxesOf g (viewOf (now (table .entry))) k) ⌝ }
+    ensures later { λ r. ⌜ buffers (now (work .exit)) (now (palette .exit)) (now (counts .exit)) (now (map .exit))
+        ≡ laterOn g (viewOf (now (table .entry))) k
+        (buffers (now (work .entry)) (now (palette .entry)) (now (counts .entry)) (now (map .entry))) ⌝ }
+{
+    moments(table, g, work);
+    let b = cut_boxes(table, work, g, k);
+    put_results(table, work, g, b, palette, counts);
+    fill_boxes(g, b, map);
+    done(b)
+}
+
+// Cuts a table into at most k boxes: their colours go into the palette, their weights into the counts, and the index of
+// the box of each bin into the map.
+pub fn cut(
+    b1: usize,
+    b2: usize,
+    b3: usize,
+    k: usize,
+    table: &[u64],
+    work: &mut [u64],
+    palette: &mut [u8],
+    counts: &mut [u32],
+    map: &mut [u8],
+) -> CutRecord
+    ensures answer { λ r. ⌜ r
+        ≡ cutRecord b1 b2 b3 k (now (table .entry))
+        (buffers (now (work .entry)) (now (palette .entry)) (now (counts .entry)) (now (map .entry))) ⌝ }
+    ensures later { λ r. ⌜ buffers (now (work .exit)) (now (palette .exit)) (now (counts .exit)) (now (map .exit))
+        ≡ cutLater b1 b2 b3 k (now (table .entry))
+        (buffers (now (work .entry)) (now (palette .entry)) (now (counts .entry)) (now (map .entry))) ⌝ }
+{
+    let Chosen::Accepted(g) = grid_of(b1, b2, b3) else {
+        return refused(1);
+    };
+    let number = number_on(
+        g,
+        k,
+        table,
+        work.len(),
+        palette.len(),
+        counts.len(),
+        map.len(),
+    );
+    if number != 0 {
+        return refused(number);
+    }
+    cut_on(g, k, table, work, palette, counts, map)
+}

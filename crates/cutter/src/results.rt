@@ -1,0 +1,57 @@
+// The results of all boxes: their colours, their counts, and the index of the box of each bin.
+use crate::map::fill_box;
+use crate::palette::put_result;
+use grid::place::Grid;
+use rounds::gather::Boxes;
+ghost use mathlib.Core.Path.{_≡_};
+ghost use Prim.Native.Nat.{_*_, _≤_};
+ghost use lib.ListN.{length};
+ghost use Rattle.grid.specs.Grid.{binsOf};
+ghost use Rattle.table.specs.Table.{viewOf};
+ghost use Rattle.table.specs.Sound.{limit};
+ghost use Rattle.sums.specs.Moments.{CanSum};
+ghost use Rattle.cutter.specs.Palette.{paletteLater, countsLater};
+ghost use Rattle.cutter.specs.Cut.{listOf};
+ghost use Rattle.cutter.specs.Inner.{fillFrom, Placed, Found};
+
+// Writes colours and counts of all boxes.
+pub(crate) fn put_results(
+    table: &[u64],
+    work: &[u64],
+    g: Grid,
+    b: Boxes,
+    palette: &mut [u8],
+    counts: &mut [u32],
+)
+    requires { ⌜ CanSum limit g (now table) (now work) × Found g (viewOf (now table)) b ⌝ }
+    requires { ⌜ (3 * b .boxes ≤ length (now palette)) × (b .boxes ≤ length (now counts)) ⌝ }
+    ensures palette { λ r. ⌜ now (palette .exit)
+        ≡ paletteLater g (viewOf (now (table .entry))) (listOf (b .boxes) (b .places)) (now (palette .entry)) ⌝ }
+    ensures counts { λ r. ⌜ now (counts .exit)
+        ≡ countsLater g (viewOf (now (table .entry))) (listOf (b .boxes) (b .places)) (now (counts .entry)) ⌝ }
+{
+    let places = b.places;
+    let n = b.boxes;
+    let mut i = 0;
+    while i < n {
+        let x = places[i];
+        put_result(table, work, g, x.bounds, i, palette, counts);
+        i = i + 1;
+    }
+}
+
+// Writes the index of each box at its bins.
+pub(crate) fn fill_boxes(g: Grid, b: Boxes, map: &mut [u8])
+    requires { ⌜ Placed g b × (length (now map) ≡ binsOf g) ⌝ }
+    ensures { λ r. ⌜ now (map .exit) ≡ fillFrom g 0 (listOf (b .boxes) (b .places)) (now (map .entry)) ⌝ }
+{
+    let places = b.places;
+    let n = b.boxes;
+    let mut at = 0;
+    while at < n {
+        let x = places[at];
+        let index = at as u8;
+        fill_box(map, g, x.bounds, index);
+        at = at + 1;
+    }
+}

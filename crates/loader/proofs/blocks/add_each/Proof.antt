@@ -1,0 +1,116 @@
+-- `loader::blocks::add_each` meets its contract: after k colours the table holds what it held with the first k loaded.
+-- Assumes nothing.
+use mathlib.Core.Path.{_≡_, refl, _∙_}
+use Prim.Native.Nat.{ℕ, _≤_, _-_, _<_, _+_}
+use native.Mathlib.Omega.{arith}
+use denote.Ref.{now}
+use lib.ListN.{getD}
+use Rattle.grid.specs.Grid.{binsOf}
+use Rattle.table.specs.Table.{viewOf}
+use Rattle.table.proofs.Tables.{same-size, Holds, holds-list}
+use Rattle.table.specs.Sound.{limit}
+use Rattle.loader.specs.Load.{loaded}
+use Rattle.loader.specs.Inner.{partOf, withPart, PartFits}
+use Rattle.loader.proofs.Parts.{held-none, fits-later, held-later, light, has-room, at-once, alone, own-weight}
+use Rattle.loader.proofs.blocks.add_each.Statement.{statement}
+use Rattle.loader.proofs.blocks.add_each.Tie as tie
+
+abbrev Inv-loop : tie.InvT-loop
+Inv-loop g table₀ t1 t2 t3 colours weighted weights at n k₀ table k =
+    (k ≤ n) × Holds (binsOf g) table (loaded g (partOf colours weighted weights at k) (viewOf table₀))
+
+abbrev μ-loop : tie.MeasureT-loop
+μ-loop g table₀ t1 t2 t3 colours weighted weights at n k₀ table k = n - k
+
+-- each colour is of bytes, and the next fits the table that there is
+bytes : (l : tie.In-loop Inv-loop μ-loop) (k : ℕ)
+    → getD (now (l .before .before .before .before .before .args .colours)) k 0 < 256
+bytes l k = omega (arith, l .before .before .before .shared-slice-known .given k)
+
+next : (l : tie.In-loop Inv-loop μ-loop) →
+    let a = l .before .before .before .before .before .args in
+    PartFits limit (a .g) (l .before .loop .table) (now (a .colours)) (a .weighted) (now (a .weights))
+    (a .at + l .before .loop .k) 1
+next l =
+    fits-later (l .before .before .before .before .before .pre .0) (bytes l) (l .before .loop .k)
+    (l .before .loop .inv .1) _ 1 refl (omega arith)
+
+loop-holds : tie.Need-loop-holds Inv-loop μ-loop
+loop-holds c =
+    let s = c .before .before .before in
+    let a = s .args in (
+      omega arith,
+      held-none (a .g) (now (a .table)) (now (a .colours)) (a .weighted) (now (a .weights)) (a .at)
+          (s .pre .0 .table .lent),
+    )
+
+add-i : tie.Need-add-i Inv-loop μ-loop
+add-i c = omega (arith, next c .there)
+
+colour-requires : tie.Need-colour-requires Inv-loop μ-loop
+colour-requires c κs = omega (arith, next c .there)
+
+weight-at-requires : tie.Need-weight-at-requires Inv-loop μ-loop
+weight-at-requires c κs = λ given. omega (arith, next (c .before) .there, next (c .before) .one-each given)
+
+add-colour-requires : tie.Need-add-colour-requires Inv-loop μ-loop
+add-colour-requires c κs =
+    let l = c .before .before .before in
+    let a = l .before .before .before .before .before .args in
+    let same = alone (now (a .colours)) (a .at + l .before .loop .k) in
+    let own = own-weight (a .weighted) (now (a .weights)) (a .at + l .before .loop .k) in
+    let w = c .before .weight-at .ensures ∙ own in (
+      l .before .before .before .before .before .pre .1,
+      (
+        light (next l) (bytes l) same (c .before .before .colour .ensures) w,
+        has-room (next l) (bytes l) same (c .before .before .colour .ensures) w (omega arith),
+      ),
+    )
+
+add-k : tie.Need-add-k Inv-loop μ-loop
+add-k c = omega arith
+
+loop-less : tie.Need-loop-less Inv-loop μ-loop
+loop-less c = omega arith
+
+loop-again : tie.Need-loop-again Inv-loop μ-loop
+loop-again c =
+    let l = c .before .before .before .before .before .before in
+    let s = l .before .before .before .before .before in
+    let a = s .args in
+    let same = alone (now (a .colours)) (a .at + l .before .loop .k) in
+    let own = own-weight (a .weighted) (now (a .weights)) (a .at + l .before .loop .k) in
+    let w = c .before .before .before .before .weight-at .ensures ∙ own in (
+      omega arith,
+      held-later (s .pre .0) (bytes l) (l .before .loop .k) (l .before .loop .inv .1) _ 1 refl
+          (at-once (next l) (bytes l) same (c .before .before .before .before .before .colour .ensures) w
+          (c .before .before .add-colour .ensures)),
+    )
+
+same-length : tie.Need-same-length Inv-loop μ-loop
+same-length c =
+    same-size (c .before .loop .inv .1 .lent) (c .before .before .before .before .before .pre .0 .table .lent)
+
+returns : tie.Need-returns Inv-loop μ-loop
+unfolding withPart
+returns c =
+    let l = c .before .loop in
+    let all : l .k ≡ c .before .before .before .before .before .args .n = omega arith in
+    holds-list (rw all at (l .inv .1))
+
+pub add-each-spec : {M : Type 1} → statement M
+add-each-spec =
+    tie.close
+    (tie.spec
+    Inv-loop
+    μ-loop
+    loop-holds
+    add-i
+    colour-requires
+    weight-at-requires
+    add-colour-requires
+    add-k
+    loop-less
+    loop-again
+    same-length
+    returns)

@@ -1,0 +1,79 @@
+-- The steps of loading and merging, as the crate's own functions are told. Definitions only.
+use mathlib.Core.Path.{_≡_}
+use mathlib.Core.Bool.{Bool, true}
+use mathlib.Core.List.{List}
+use Prim.Native.Nat.{ℕ, _+_, _*_, _/_, _≤_}
+use lib.ListN.{length, getD}
+use Rattle.grid.specs.declared.place.Grid.{Grid}
+use Rattle.pixels.specs.declared.colour.Rgb.{Rgb}
+use Rattle.basics.specs.Range.{listFrom, sumFrom}
+use Rattle.grid.specs.Grid.{Accepted, binsOf, colourPlace, stepsOf}
+use Rattle.table.specs.declared.cell.Cell.{Cell}
+use Rattle.table.specs.Table.{Table, viewOf, written, putAt, HasCell, Held, TableOf}
+use Rattle.table.specs.Cell.{cellOf, plusCell, SumsFit}
+use Rattle.table.specs.Sound.{sound, total}
+use Rattle.loader.specs.Load.{Weighted, share, weightOf, loaded, weightedAt}
+
+-- the sum of n weights, from weight i on
+abbrev pub weightsFrom : List ℕ → ℕ → ℕ → ℕ
+weightsFrom weights i n = sumFrom i n (λ k. getD weights k 0)
+
+-- and of all
+abbrev pub allWeights : List ℕ → ℕ
+allWeights weights = weightsFrom weights 0 (length weights)
+
+-- the squared components of a colour, together
+unfoldable pub squaresOf : Rgb → ℕ
+squaresOf x = x .c1 * x .c1 + x .c2 * x .c2 + x .c3 * x .c3
+
+-- for each value of a component its step, and 2^32 times its square
+unfoldable pub withSquares : List ℕ → List ℕ
+withSquares steps = listFrom 0 256 (λ c. getD steps c 0 + 4294967296 * (c * c))
+
+-- three tables are the steps of an accepted grid, with the squares
+pub record StepTables (g : Grid) (t1 t2 t3 : List ℕ) : Type 0 where
+  pub accepted : Accepted g
+  pub one : t1 ≡ withSquares (stepsOf g 0)
+  pub two : t2 ≡ withSquares (stepsOf g 1)
+  pub three : t3 ≡ withSquares (stepsOf g 2)
+
+-- n colours of a batch, from colour i on
+unfoldable pub partOf : List ℕ → Bool → List ℕ → ℕ → ℕ → List Weighted
+partOf colours weighted weights i n = listFrom i n (weightedAt colours weighted weights)
+
+-- a table with them added
+unfoldable pub withPart : Grid → Table → List ℕ → Bool → List ℕ → ℕ → ℕ → Table
+withPart g t colours weighted weights i n =
+    written (binsOf g) (loaded g (partOf colours weighted weights i n) (viewOf t))
+
+-- a table with a cell added at a place
+abbrev pub withCell : Table → ℕ → Cell → Table
+withCell t p c = putAt t p (plusCell (cellOf (viewOf t p)) c)
+
+-- a table with one colour added
+unfoldable pub withColour : Grid → Table → Weighted → Table
+withColour g t c = withCell t (colourPlace g (c .colour)) (cellOf (share c))
+
+-- a cell can be added at a place: each sum is a number, and fits its place
+pub record CellFits (t : Table) (p : ℕ) (c : Cell) : Type 0 where
+  pub cell : HasCell t p
+  pub sums : SumsFit (cellOf (viewOf t p)) c
+  pub held : Held (plusCell (cellOf (viewOf t p)) c)
+
+-- n colours of a batch, from colour i on, can be added to a sound table: they are there, with one weight a colour where
+-- weights are given, and the total fits
+pub record PartFits (most : ℕ) (g : Grid) (t : Table) (colours : List ℕ) (weighted : Bool) (weights : List ℕ)
+    (i n : ℕ) : Type 0 where
+  pub table : TableOf g t
+  pub is-sound : sound most g (viewOf t) ≡ true
+  pub there : i + n ≤ length colours / 3
+  pub one-each : weighted ≡ true → length weights ≡ length colours / 3
+  pub under : total g (viewOf t) + weightOf (partOf colours weighted weights i n) ≤ most
+
+-- a second table can be added into a first: both are sound, and the total fits
+pub record MergeFits (most : ℕ) (g : Grid) (t s : Table) : Type 0 where
+  pub first : TableOf g t
+  pub second : TableOf g s
+  pub first-sound : sound most g (viewOf t) ≡ true
+  pub second-sound : sound most g (viewOf s) ≡ true
+  pub under : total g (viewOf t) + total g (viewOf s) ≤ most

@@ -1,0 +1,5 @@
+pub mod Packing
+pub mod Runs
+pub mod Bytes
+pub mod Laws
+pub mod Worked

@@ -1,0 +1,3 @@
+// Colours in a row of bytes, three a colour.
+pub mod colour;
+pub mod equal;

@@ -1,0 +1,123 @@
+// The rounds of the loop: one takes the top out and cuts it, or puts it back.
+use crate::heap_of_boxes::put_box;
+use crate::heap_of_boxes::put_with_spread;
+use crate::heap_of_boxes::take_top;
+use boxes::bytes::unpacked;
+use boxes::sides::Bounds;
+use boxes::sides::high_side;
+use boxes::sides::low_side;
+use grid::place::Grid;
+use spread::position::Position;
+use spread::search::best_cut;
+ghost use mathlib.Core.Path.{_≡_};
+ghost use Prim.Native.Nat.{_+_, _<_, _≤_};
+ghost use Rattle.table.specs.Table.{viewOf};
+ghost use Rattle.table.specs.Sound.{limit};
+ghost use Rattle.boxes.specs.Box.{Within};
+ghost use Rattle.sums.specs.Moments.{CanSum};
+ghost use Rattle.spread.specs.Cut.{bestCut};
+ghost use Rattle.heap.specs.Heap.{item};
+ghost use Rattle.heap.specs.TwoArrays.{TwoArrays};
+ghost use Rattle.rounds.specs.Loop.{noItem, startRoom, roomAfter, boxesAfter, aboveZero, roundRoom, roundBoxes};
+ghost use Rattle.rounds.specs.Loop.{heapOf};
+ghost use Rattle.rounds.specs.Inner.{roomIn};
+
+// Cuts a box that was taken out, with `left` boxes left, and answers how many there are then.
+fn cut_top(
+    table: &[u64],
+    work: &[u64],
+    g: Grid,
+    spreads: &mut [f64; 256],
+    boxes: &mut [u64; 256],
+    left: usize,
+    x: Bounds,
+) -> usize
+    requires { ⌜ CanSum limit g (now table) (now work) × Within g x ⌝ }
+    requires { ⌜ TwoArrays (now spreads) (now boxes) × (left + 1 < 256) ⌝ }
+    ensures number { λ r. ⌜ r ≡ boxesAfter left (bestCut g (viewOf (now (table .entry))) x) ⌝ }
+    ensures room { λ r. ⌜ roomIn (now (spreads .exit)) (now (boxes .exit))
+        ≡ roomAfter g (viewOf (now (table .entry))) (roomIn (now (spreads .entry)) (now (boxes .entry))) left x
+        (bestCut g (viewOf (now (table .entry))) x) ⌝ }
+    ensures arrays { λ r. ⌜ TwoArrays (now (spreads .exit)) (now (boxes .exit)) ⌝ }
+{
+    let Position::At {
+        dimension,
+        bin,
+        score: _,
+    } = best_cut(table, work, g, x)
+    else {
+        put_box(spreads, boxes, left, 0.0, x);
+        return left + 1;
+    };
+    let low = low_side(x, dimension, bin);
+    let high = high_side(x, dimension, bin);
+    put_with_spread(table, work, g, spreads, boxes, left, low);
+    put_with_spread(table, work, g, spreads, boxes, left + 1, high);
+    left + 2
+}
+
+// Whether a spread is above 0, and is a number: then its box is to be cut.
+fn is_above_zero(s: f64) -> bool
+    ensures { λ r. ⌜ r ≡ aboveZero s ⌝ }
+{
+    if 0.0 < s {
+        return s == s;
+    }
+    false
+}
+
+// One round with `len` boxes; answers how many there are then.
+fn round(
+    table: &[u64],
+    work: &[u64],
+    g: Grid,
+    spreads: &mut [f64; 256],
+    boxes: &mut [u64; 256],
+    len: usize,
+) -> usize
+    requires { ⌜ CanSum limit g (now table) (now work) ⌝ }
+    requires { ⌜ TwoArrays (now spreads) (now boxes) × (0 < len) × (len < 256)
+        × Within g (item noItem (roomIn (now spreads) (now boxes)) 0 .bounds) ⌝ }
+    ensures number { λ r. ⌜ r
+        ≡ roundBoxes g (viewOf (now (table .entry))) (roomIn (now (spreads .entry)) (now (boxes .entry))) len ⌝ }
+    ensures room { λ r. ⌜ roomIn (now (spreads .exit)) (now (boxes .exit))
+        ≡ roundRoom g (viewOf (now (table .entry))) (roomIn (now (spreads .entry)) (now (boxes .entry))) len ⌝ }
+    ensures arrays { λ r. ⌜ TwoArrays (now (spreads .exit)) (now (boxes .exit)) ⌝ }
+{
+    let s = spreads[0];
+    let x = unpacked(boxes[0]);
+    let left = len - 1;
+    take_top(spreads, boxes, len);
+    if is_above_zero(s) {
+        return cut_top(table, work, g, spreads, boxes, left, x);
+    }
+    put_box(spreads, boxes, left, s, x);
+    len
+}
+
+// All rounds; answers how many boxes there are.
+pub(crate) fn all_rounds(
+    table: &[u64],
+    work: &[u64],
+    g: Grid,
+    k: usize,
+    spreads: &mut [f64; 256],
+    boxes: &mut [u64; 256],
+) -> usize
+    requires { ⌜ CanSum limit g (now table) (now work) × (k ≤ 256) ⌝ }
+    requires { ⌜ TwoArrays (now spreads) (now boxes) × (roomIn (now spreads) (now boxes) ≡ startRoom g) ⌝ }
+    ensures number { λ r. ⌜ r ≡ heapOf g (viewOf (now (table .entry))) k .boxes ⌝ }
+    ensures room { λ r. ⌜ roomIn (now (spreads .exit)) (now (boxes .exit))
+        ≡ heapOf g (viewOf (now (table .entry))) k .room ⌝ }
+    ensures arrays { λ r. ⌜ TwoArrays (now (spreads .exit)) (now (boxes .exit)) ⌝ }
+{
+    let mut len = 1;
+    while len < k {
+        let more = is_above_zero(spreads[0]);
+        len = round(table, work, g, spreads, boxes, len);
+        if !more {
+            return len;
+        }
+    }
+    len
+}

@@ -1,0 +1,53 @@
+// Tables: how long one is, loading and merging.
+use grid::place::Chosen;
+use grid::place::grid_of;
+use table::layout::table_len;
+ghost use mathlib.Core.Path.{_≡_};
+ghost use Rattle.loader.specs.Load.{loadNumber, loadLater};
+ghost use Rattle.loader.specs.Merge.{mergeNumber, mergeLater};
+ghost use Rattle.seluvava.specs.Sizes.{tableLenFor};
+
+// The numbers of a table, or 0 where the grid is refused.
+#[no_mangle]
+pub extern "C" fn seluvava_table_len(b1: usize, b2: usize, b3: usize) -> usize
+    ensures { λ r. ⌜ r ≡ tableLenFor b1 b2 b3 ⌝ }
+{
+    let Chosen::Accepted(g) = grid_of(b1, b2, b3) else {
+        return 0;
+    };
+    table_len(g)
+}
+
+// Adds a batch of colours to a table.
+#[no_mangle]
+pub extern "C" fn seluvava_load(
+    b1: usize,
+    b2: usize,
+    b3: usize,
+    table: &mut [u64],
+    colours: &[u8],
+    weighted: bool,
+    weights: &[u32],
+) -> u8
+    ensures number { λ r. ⌜ r
+        ≡ loadNumber b1 b2 b3 (now (table .entry)) (now (colours .entry)) weighted (now (weights .entry)) ⌝ }
+    ensures later { λ r. ⌜ now (table .exit)
+        ≡ loadLater b1 b2 b3 (now (table .entry)) (now (colours .entry)) weighted (now (weights .entry)) ⌝ }
+{
+    loader::load::load(b1, b2, b3, table, colours, weighted, weights)
+}
+
+// Adds a second table into a first.
+#[no_mangle]
+pub extern "C" fn seluvava_merge(
+    b1: usize,
+    b2: usize,
+    b3: usize,
+    table: &mut [u64],
+    second: &[u64],
+) -> u8
+    ensures number { λ r. ⌜ r ≡ mergeNumber b1 b2 b3 (now (table .entry)) (now (second .entry)) ⌝ }
+    ensures later { λ r. ⌜ now (table .exit) ≡ mergeLater b1 b2 b3 (now (table .entry)) (now (second .entry)) ⌝ }
+{
+    loader::merge::merge(b1, b2, b3, table, second)
+}

@@ -1,0 +1,45 @@
+-- `sums::bins_from` meets its contract: the bins up to the end are those up to the start and those of the run.
+-- Assumes nothing.
+use Prim.Native.Nat.{ℕ}
+use borrow.Author.Needs.{needs}
+use denote.Ref.{now}
+use Rattle.table.specs.Table.{viewOf}
+use Rattle.sums.specs.Inner.{binCell}
+use Rattle.sums.specs.Box.{binSum}
+use Rattle.sums.proofs.Corners.{third-from, from-least, from-is, from-start}
+use Rattle.sums.proofs.box_sums.bins_from.Statement.{statement}
+use Rattle.sums.proofs.box_sums.bins_from.Tie as tie
+
+-- number j of the bins from a start on
+abbrev runs : tie.Start → ℕ → ℕ → ℕ → ℕ
+runs s b n j = binSum (s .args .g) (viewOf (now (s .args .table))) 0 (s .args .r) 0 (s .args .gr) b n j
+
+corner-requires : tie.Need-corner-requires
+corner-requires c κs = search needs
+
+returns : tie.Need-returns
+unfolding binCell
+returns c =
+    let s = c .before .before .before .before in
+    from-start (runs s) (third-from (s .args .g) (viewOf (now (s .args .table))) 0 (s .args .r) 0 (s .args .gr))
+    (s .pre .1) (c .before .corner .ensures) (c .if1 .taken)
+
+corner-requires-2 : tie.Need-corner-requires-2
+corner-requires-2 c κs = search needs
+
+minus-requires : tie.Need-minus-requires
+unfolding binCell
+minus-requires c κs =
+    let s = c .before .before .before .before .before in
+    from-least (runs s) (third-from (s .args .g) (viewOf (now (s .args .table))) 0 (s .args .r) 0 (s .args .gr))
+    (s .pre .1) (c .before .before .corner .ensures) (c .corner2 .ensures)
+
+returns-2 : tie.Need-returns-2
+unfolding binCell
+returns-2 c =
+    let s = c .before .before .before .before .before .before in
+    from-is (runs s) (third-from (s .args .g) (viewOf (now (s .args .table))) 0 (s .args .r) 0 (s .args .gr))
+    (s .pre .1) (c .before .before .before .corner .ensures) (c .before .corner2 .ensures) (c .minus .ensures)
+
+pub bins-from-spec : {M : Type 1} → statement M
+bins-from-spec = tie.close (tie.spec corner-requires returns corner-requires-2 minus-requires returns-2)

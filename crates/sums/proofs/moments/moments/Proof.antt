@@ -1,0 +1,92 @@
+-- `sums::moments` meets its contract: after each plane the moments of the planes so far stand.
+-- Assumes nothing.
+use mathlib.Core.Path.{_≡_, sym, ap, _∙_}
+use Prim.Native.Nat.{ℕ, _+_, _≤_, _-_, _*_}
+use native.Mathlib.Nat.{zero-add, zero-mul, mul-assoc}
+use native.Mathlib.Omega.{arith}
+use Rattle.grid.specs.Grid.{binsOf}
+use Rattle.grid.proofs.Places.{one, two, three, plane-start}
+use Rattle.grid.proofs.Size.{size-low, size-high}
+use Rattle.table.proofs.Tables.{same-size}
+use Rattle.sums.specs.Inner.{Before}
+use Rattle.sums.proofs.Steps.{before-same, add-one-mul, none-made, all-made}
+use Rattle.sums.proofs.moments.moments.Statement.{statement}
+use Rattle.sums.proofs.moments.moments.Tie as tie
+
+abbrev Inv-loop : tie.InvT-loop
+Inv-loop table g work₀ r₀ work r =
+    (r ≤ g .size1) × Before g table work (r * (g .size2 * g .size3))
+
+abbrev μ-loop : tie.MeasureT-loop
+μ-loop table g work₀ r₀ work r = g .size1 - r
+
+loop-holds : tie.Need-loop-holds Inv-loop μ-loop
+loop-holds c =
+    let s = c .before .before in
+    (omega arith, before-same (none-made (s .pre)) (sym (zero-mul _)))
+
+next-plane-requires : tie.Need-next-plane-requires Inv-loop μ-loop
+next-plane-requires c κs =
+    let s = c .before .before .before .before .before .before in
+    let l = c .before .before .before .loop in
+    let a = s .pre .table .accepted in
+    record {
+      inside =
+          record {
+            accepted = a;
+            one = c .before .if1 .taken;
+            two = omega (arith, size-low (two a));
+            three =
+                omega (arith, size-low (three a));
+          };
+      before = before-same (l .inv .1) (sym (plane-start (s .args .g) (l .r) ∙ zero-add _));
+    }
+
+add-r : tie.Need-add-r Inv-loop μ-loop
+add-r c =
+    omega (
+      arith,
+      c .before .before .before .before .if1 .taken,
+      size-high
+          (one (c .before .before .before .before .before .before .before .before .before .pre .table .accepted)),
+    )
+
+loop-less : tie.Need-loop-less Inv-loop μ-loop
+loop-less c = omega arith
+
+loop-again : tie.Need-loop-again Inv-loop μ-loop
+loop-again c =
+    let s = c .before .before .before .before .before .before .before .before .before in
+    let l = c .before .before .before .before .before .before .loop in
+    let plane = s .args .g .size2 * s .args .g .size3 in (
+      omega (arith, c .before .before .before .before .if1 .taken),
+      before-same (c .before .before .next-plane .ensures)
+          (ap (λ (n : ℕ). n + plane) (plane-start (s .args .g) (l .r) ∙ zero-add _) ∙ sym (add-one-mul (l .r) plane)),
+    )
+
+same-length : tie.Need-same-length Inv-loop μ-loop
+same-length c =
+    same-size (c .before .before .loop .inv .1 .tables .work) (c .before .before .before .before .before .pre .work)
+
+returns : tie.Need-returns Inv-loop μ-loop
+unfolding binsOf
+returns c =
+    let s = c .before .before .before .before .before in
+    let l = c .before .before .loop in
+    let all : l .r ≡ s .args .g .size1 = omega arith in
+    all-made (before-same (l .inv .1) (ap (λ (n : ℕ). n * (s .args .g .size2 * s .args .g .size3)) all
+    ∙ sym (mul-assoc (s .args .g .size1) (s .args .g .size2) (s .args .g .size3))))
+
+pub moments-spec : {M : Type 1} → statement M
+moments-spec =
+    tie.close
+    (tie.spec
+    Inv-loop
+    μ-loop
+    loop-holds
+    next-plane-requires
+    add-r
+    loop-less
+    loop-again
+    same-length
+    returns)

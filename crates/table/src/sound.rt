@@ -1,0 +1,135 @@
+// Soundness: each bin keeps its bounds, and all weights total at most the limit.
+use crate::cell::Cell;
+use crate::layout::cell_at;
+use grid::dimension::Span;
+use grid::dimension::span_of;
+use grid::place::Grid;
+use grid::place::place;
+ghost use mathlib.Core.Path.{_≡_};
+ghost use mathlib.Core.Bool.{_&&_};
+ghost use Prim.Native.Nat.{_*_, _≤_};
+ghost use lib.Dec.{leb};
+ghost use Rattle.basics.specs.Dimension.{choose};
+ghost use Rattle.grid.specs.Grid.{placeOf};
+ghost use Rattle.table.specs.Cell.{numberOf};
+ghost use Rattle.table.specs.Table.{viewOf, TableOf};
+ghost use Rattle.table.specs.Sound.{limit, between, inBounds, soundTotal};
+ghost use Rattle.table.specs.Inner.{scanned, Row, ByteSpan};
+
+// The largest total of a table.
+pub const LIMIT: u64 = 4294967295;
+
+// The total of a sound table, or that it is not sound.
+pub enum SoundTotal {
+    Total(u64),
+    Unsound,
+}
+
+// Whether the sum of n components of one bin lies in its bounds.
+fn lies_between(s: Span, n: u64, sum: u64) -> bool
+    requires { ⌜ ByteSpan s × (n ≤ limit) ⌝ }
+    ensures { λ r. ⌜ r ≡ between s n sum ⌝ }
+{
+    if sum < n * s.low {
+        return false;
+    }
+    sum <= n * s.high
+}
+
+// Whether all but the weight are zeros.
+fn is_bare(c: Cell) -> bool
+    ensures { λ r. ⌜ r ≡ (leb (c .sum1) 0 && (leb (c .sum2) 0 && (leb (c .sum3) 0 && leb (c .squares) 0))) ⌝ }
+{
+    if 0 < c.sum1 {
+        return false;
+    }
+    if 0 < c.sum2 {
+        return false;
+    }
+    if 0 < c.sum3 {
+        return false;
+    }
+    c.squares <= 0
+}
+
+// Whether a bin keeps its own bounds, with a weight that is not past the limit by itself.
+fn keeps_bounds(s1: Span, s2: Span, s3: Span, c: Cell) -> bool
+    requires { ⌜ ByteSpan s1 × ByteSpan s2 × ByteSpan s3 ⌝ }
+    ensures { λ r. ⌜ r ≡ (leb (c .weight) limit && inBounds (λ d. choose d s1 s2 s3) (numberOf c)) ⌝ }
+{
+    let n = c.weight;
+    if n == 0 {
+        return is_bare(c);
+    }
+    if LIMIT < n {
+        return false;
+    }
+    if !lies_between(s1, n, c.sum1) {
+        return false;
+    }
+    if !lies_between(s2, n, c.sum2) {
+        return false;
+    }
+    if !lies_between(s3, n, c.sum3) {
+        return false;
+    }
+    c.squares <= 195075 * n
+}
+
+// The total with one row of bins.
+fn row_total(table: &[u64], g: Grid, r: usize, gr: usize, had: u64) -> SoundTotal
+    requires { ⌜ Row limit g (now table) r gr had ⌝ }
+    ensures { λ w. ⌜ w ≡ scanned limit g (viewOf (now (table .entry))) (placeOf g r gr 0) (g .size3) had ⌝ }
+{
+    let s1 = span_of(g.shift1, r);
+    let s2 = span_of(g.shift2, gr);
+    let start = place(g, r, gr, 0);
+    let mut total = had;
+    let mut b = 0;
+    while b < g.size3 {
+        let c = cell_at(table, start + b);
+        if !keeps_bounds(s1, s2, span_of(g.shift3, b), c) {
+            return SoundTotal::Unsound;
+        }
+        total = total + c.weight;
+        b = b + 1;
+    }
+    if LIMIT < total {
+        return SoundTotal::Unsound;
+    }
+    SoundTotal::Total(total)
+}
+
+// The total with one plane of rows.
+fn plane_total(table: &[u64], g: Grid, r: usize, had: u64) -> SoundTotal
+    requires { ⌜ Row limit g (now table) r 0 had ⌝ }
+    ensures { λ w. ⌜ w ≡ scanned limit g (viewOf (now (table .entry))) (placeOf g r 0 0) (g .size2 * g .size3) had ⌝ }
+{
+    let mut total = had;
+    let mut gr = 0;
+    while gr < g.size2 {
+        match row_total(table, g, r, gr, total) {
+            SoundTotal::Total(x) => total = x,
+            SoundTotal::Unsound => return SoundTotal::Unsound,
+        }
+        gr = gr + 1;
+    }
+    SoundTotal::Total(total)
+}
+
+// The total of a sound table, or that it is not sound.
+pub fn sound_total(table: &[u64], g: Grid) -> SoundTotal
+    requires { ⌜ TableOf g (now table) ⌝ }
+    ensures { λ w. ⌜ w ≡ soundTotal limit g (viewOf (now (table .entry))) ⌝ }
+{
+    let mut total = 0;
+    let mut r = 0;
+    while r < g.size1 {
+        match plane_total(table, g, r, total) {
+            SoundTotal::Total(x) => total = x,
+            SoundTotal::Unsound => return SoundTotal::Unsound,
+        }
+        r = r + 1;
+    }
+    SoundTotal::Total(total)
+}
