@@ -86,11 +86,8 @@ fn repeat(line: &mut [u64; 163857], used: usize, times: u64) -> usize
     if times == 0 {
         return 163857;
     }
-    if times > 163857 {
-        return 163857;
-    }
     let n = line[used - 1];
-    let end = least(used - 1 + times as usize, 163857);
+    let end = least(used - 1 + least(times as usize, 163857), 163857);
     let mut k = used;
     while k < end {
         line[k] = n;
