@@ -3,10 +3,10 @@
 use crate::cuts::cut_lists;
 use crate::cuts::take_front;
 use crate::lend::bytes_at;
+use crate::lend::bytes_to_fill;
 use crate::lend::counts_at;
 use crate::lend::put_bytes;
 use crate::lend::table_at;
-use crate::lend::table_room;
 use crate::lists::CALLS;
 use crate::lists::FRAME;
 use crate::lists::INDICES;
@@ -78,7 +78,7 @@ fn merge_lent(n: Numbers, m: &mut [u64], second: &[u64]) -> u8 {
 
 // Adds the second table to the list that the line names.
 fn merge_second(n: Numbers, line: &mut [u64], m: &mut [u64; 385062]) -> u64 {
-    let second = table_at(m, SECOND, table_room(line));
+    let second = table_at(m, SECOND, line);
     wide(merge_lent(n, m, second))
 }
 
@@ -88,7 +88,7 @@ fn map_frame(n: Numbers, m: &mut [u64; 385062], lent: &[u8]) -> u64 {
     let mut frame_room = [0; 32769];
     let mut index_room = [0; 32769];
     let frame = bytes_at(m, FRAME, &mut frame_room);
-    let indices = bytes_at(m, INDICES, &mut index_room);
+    let indices = bytes_to_fill(m, INDICES, &mut index_room);
     let x = map(n.b1, n.b2, n.b3, lent, n.n6, frame, indices, n.n7, n.n8);
     put_bytes(m, INDICES, indices);
     wide(x)
@@ -98,7 +98,7 @@ fn paint_frame(n: Numbers, m: &mut [u64; 385062], lent: &[u8]) -> u64 {
     let mut palette_room = [0; 32769];
     let mut frame_room = [0; 32769];
     let palette = bytes_at(m, PALETTE, &mut palette_room);
-    let frame = bytes_at(m, FRAME, &mut frame_room);
+    let frame = bytes_to_fill(m, FRAME, &mut frame_room);
     let x = paint(n.b1, n.b2, n.b3, lent, palette, frame, n.n6, n.n7);
     put_bytes(m, FRAME, frame);
     wide(x)
@@ -134,7 +134,7 @@ fn kind_of(word: u64) -> Kind
 }
 
 // Makes the call of a kind, and answers its number.
-fn call(kind: usize, n: Numbers, line: &mut [u64], m: &mut [u64; 385062]) -> u64 {
+fn call(kind: usize, n: Numbers, line: &mut [u64; 163857], m: &mut [u64; 385062]) -> u64 {
     match kind {
         0 => load_frame(n, m),
         1 => merge_second(n, line, m),

@@ -1,11 +1,11 @@
 // A cut, with its record as a list, and the filled front of a palette.
 use crate::calls::Numbers;
 use crate::lend::bytes_at;
+use crate::lend::bytes_to_fill;
 use crate::lend::counts_at;
 use crate::lend::put_bytes;
 use crate::lend::put_counts;
 use crate::lend::table_at;
-use crate::lend::table_room;
 use crate::lists::COUNTS;
 use crate::lists::MAP;
 use crate::lists::PALETTE;
@@ -75,7 +75,7 @@ fn cut_into(n: Numbers, table: &[u64], m: &mut [u64; 385062], palette: &mut [u8]
     let mut count_room = [0; 4095];
     let mut map_room = [0; 32769];
     let counts = counts_at(m, COUNTS, &mut count_room);
-    let map = bytes_at(m, MAP, &mut map_room);
+    let map = bytes_to_fill(m, MAP, &mut map_room);
     let r = cut_lent(n, table, m, palette, counts, map);
     put_record(m, r);
     put_counts(m, COUNTS, counts);
@@ -86,8 +86,8 @@ fn cut_into(n: Numbers, table: &[u64], m: &mut [u64; 385062], palette: &mut [u8]
 // Lends the table and the palette, and answers the number.
 pub(crate) fn cut_lists(n: Numbers, line: &mut [u64], m: &mut [u64; 385062]) -> u64 {
     let mut room = [0; 32769];
-    let table = table_at(m, TABLE, table_room(line));
-    let palette = bytes_at(m, PALETTE, &mut room);
+    let table = table_at(m, TABLE, line);
+    let palette = bytes_to_fill(m, PALETTE, &mut room);
     let x = cut_into(n, table, m, palette);
     put_bytes(m, PALETTE, palette);
     x as u64

@@ -4,6 +4,13 @@ use crate::lists::length_at;
 ghost use Prim.Native.Nat.{_+_, _≤_, _<_};
 ghost use lib.ListN.{length};
 
+// A number of the list at a place.
+fn item(m: &[u64; 385062], at: usize, i: usize) -> u64
+    requires { ⌜ at + i < 385061 ⌝ }
+{
+    m[at + 1 + i]
+}
+
 // ---- Bytes
 
 fn copy_bytes(m: &[u64; 385062], at: usize, room: &mut [u8]) -> usize
@@ -13,18 +20,27 @@ fn copy_bytes(m: &[u64; 385062], at: usize, room: &mut [u8]) -> usize
     let n = least(length_at(m, at, 32769), room.len());
     let mut i = 0;
     while i < n {
-        room[i] = (m[at + 1 + i] % 256) as u8;
+        room[i] = (item(m, at, i) % 256) as u8;
         i = i + 1;
     }
     n
 }
 
-// Copies the list at a place, and answers the copy.
-pub(crate) fn bytes_at<'a>(m: &[u64; 385062], at: usize, room: &'a mut [u8]) -> &'a mut [u8]
+// Copies the list at a place, and answers the copy, for a call to fill.
+pub(crate) fn bytes_to_fill<'a>(m: &[u64; 385062], at: usize, room: &'a mut [u8]) -> &'a mut [u8]
     requires { ⌜ at < 300000 ⌝ }
 {
     let n = copy_bytes(m, at, room);
     &mut room[0..n]
+}
+
+// The same, for a call to read.
+pub(crate) fn bytes_at<'a>(m: &[u64; 385062], at: usize, room: &'a mut [u8]) -> &'a [u8]
+    requires { ⌜ at < 300000 ⌝ }
+{
+    let n = copy_bytes(m, at, room);
+    let copy = &room[..];
+    &copy[0..n]
 }
 
 fn byte(n: u8) -> u64 {
@@ -51,7 +67,7 @@ fn copy_counts(m: &[u64; 385062], at: usize, room: &mut [u32]) -> usize
     let n = least(length_at(m, at, 4095), room.len());
     let mut i = 0;
     while i < n {
-        room[i] = (m[at + 1 + i] % 4294967296) as u32;
+        room[i] = (item(m, at, i) % 4294967296) as u32;
         i = i + 1;
     }
     n
@@ -89,22 +105,24 @@ fn copy_table(m: &[u64; 385062], at: usize, room: &mut [u64]) -> usize
     let n = least(length_at(m, at, 163841), room.len());
     let mut i = 0;
     while i < n {
-        room[i] = m[at + 1 + i];
+        room[i] = item(m, at, i);
         i = i + 1;
     }
     n
 }
 
-// Copies the table at a place, and answers the copy.
-pub(crate) fn table_at<'a>(m: &[u64; 385062], at: usize, room: &'a mut [u64]) -> &'a mut [u64]
-    requires { ⌜ at < 221221 ⌝ }
-{
-    let n = copy_table(m, at, room);
-    &mut room[0..n]
-}
-
 // Where a line has room for a table: behind its first 16 numbers, which no call's line fills.
-pub(crate) fn table_room(line: &mut [u64]) -> &mut [u64] {
+fn table_room(line: &mut [u64]) -> &mut [u64] {
     let start = least(16, line.len());
     &mut line[start..]
+}
+
+// Copies the table at a place behind the numbers of a line, and answers the copy.
+pub(crate) fn table_at<'a>(m: &[u64; 385062], at: usize, line: &'a mut [u64]) -> &'a [u64]
+    requires { ⌜ at < 221221 ⌝ }
+{
+    let room = table_room(line);
+    let n = copy_table(m, at, room);
+    let copy = &room[..];
+    &copy[0..n]
 }

@@ -23,17 +23,8 @@ least-requires c κs = search needs
 loop-holds : tie.Need-loop-holds Inv-loop μ-loop
 loop-holds c = search needs
 
-add-room : tie.Need-add-room Inv-loop μ-loop
-add-room c = omega arith
-
-add-room-2 : tie.Need-add-room-2 Inv-loop μ-loop
-add-room-2 c = omega arith
-
-mul-room : tie.Need-mul-room Inv-loop μ-loop
-mul-room c = omega arith
-
-element-copy-out-room : tie.Need-element-copy-out-room Inv-loop μ-loop
-element-copy-out-room c = omega arith
+item-requires : tie.Need-item-requires Inv-loop μ-loop
+item-requires c κs = search needs
 
 cast-room : tie.Need-cast-room Inv-loop μ-loop
 cast-room c = search needs
@@ -65,10 +56,7 @@ copy-bytes-spec =
     length-at-requires
     least-requires
     loop-holds
-    add-room
-    add-room-2
-    mul-room
-    element-copy-out-room
+    item-requires
     cast-room
     slice-write-room
     add-i

@@ -23,20 +23,11 @@ least-requires c κs = search needs
 loop-holds : tie.Need-loop-holds Inv-loop μ-loop
 loop-holds c = search needs
 
-add-room : tie.Need-add-room Inv-loop μ-loop
-add-room c = omega arith
-
-add-room-2 : tie.Need-add-room-2 Inv-loop μ-loop
-add-room-2 c = omega arith
+item-requires : tie.Need-item-requires Inv-loop μ-loop
+item-requires c κs = search needs
 
 mul-room : tie.Need-mul-room Inv-loop μ-loop
 mul-room c = omega arith
-
-element-copy-out-room : tie.Need-element-copy-out-room Inv-loop μ-loop
-element-copy-out-room c = omega arith
-
-mul-room-2 : tie.Need-mul-room-2 Inv-loop μ-loop
-mul-room-2 c = omega arith
 
 slice-write-room : tie.Need-slice-write-room Inv-loop μ-loop
 slice-write-room c = omega arith
@@ -65,11 +56,8 @@ copy-table-spec =
     length-at-requires
     least-requires
     loop-holds
-    add-room
-    add-room-2
+    item-requires
     mul-room
-    element-copy-out-room
-    mul-room-2
     slice-write-room
     add-i
     loop-less
