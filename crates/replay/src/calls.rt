@@ -7,7 +7,6 @@ use crate::lend::bytes_to_fill;
 use crate::lend::counts_at;
 use crate::lend::put_bytes;
 use crate::lend::table_at;
-use crate::lists::CALLS;
 use crate::lists::FRAME;
 use crate::lists::INDICES;
 use crate::lists::MAP;
@@ -116,32 +115,32 @@ fn with_map(n: Numbers, m: &mut [u64; 385062], paints: bool) -> u64 {
 
 // ---- A line with a call
 
-// Which call it is, and where its answer stands in the line.
+// Where the calls of a kind are counted, and where the answer stands in the line.
 struct Kind(usize, usize);
 
 fn kind_of(word: u64) -> Kind
-    ensures { λ r. ⌜ (r .0 < 7) × (r .1 < 16) ⌝ }
+    ensures { λ r. ⌜ (r .0 < 24) × (r .1 < 16) ⌝ }
 {
     match word {
-        script::LOAD => Kind(0, 7),
-        script::MERGE => Kind(1, 6),
-        script::CUT => Kind(2, 7),
-        script::FRONT => Kind(3, 4),
-        script::MAP => Kind(4, 9),
-        script::PAINT => Kind(5, 8),
-        _ => Kind(6, 0),
+        script::LOAD => Kind(17, 7),
+        script::MERGE => Kind(18, 6),
+        script::CUT => Kind(19, 7),
+        script::FRONT => Kind(20, 4),
+        script::MAP => Kind(21, 9),
+        script::PAINT => Kind(22, 8),
+        _ => Kind(23, 0),
     }
 }
 
-// Makes the call of a kind, and answers its number.
-fn call(kind: usize, n: Numbers, line: &mut [u64; 163857], m: &mut [u64; 385062]) -> u64 {
-    match kind {
-        0 => load_frame(n, m),
-        1 => merge_second(n, line, m),
-        2 => cut_lists(n, line, m),
-        3 => take_front(n, m),
-        4 => with_map(n, m, false),
-        5 => with_map(n, m, true),
+// Makes the call of a word, and answers its number.
+fn call(word: u64, n: Numbers, line: &mut [u64; 163857], m: &mut [u64; 385062]) -> u64 {
+    match word {
+        script::LOAD => load_frame(n, m),
+        script::MERGE => merge_second(n, line, m),
+        script::CUT => cut_lists(n, line, m),
+        script::FRONT => take_front(n, m),
+        script::MAP => with_map(n, m, false),
+        script::PAINT => with_map(n, m, true),
         _ => 0,
     }
 }
@@ -151,11 +150,10 @@ fn wide(n: u8) -> u64 {
 }
 
 // Keeps the number of a call, and counts the call.
-fn note(m: &mut [u64; 385062], kind: usize, x: u64)
-    requires { ⌜ kind < 7 ⌝ }
+fn note(m: &mut [u64; 385062], count: usize, x: u64)
+    requires { ⌜ count < 24 ⌝ }
 {
-    let at = CALLS + 1 + kind;
-    m[at] = wrapping_add_u64(m[at], 1);
+    m[count] = wrapping_add_u64(m[count], 1);
     m[0] = x;
 }
 
@@ -163,7 +161,7 @@ fn note(m: &mut [u64; 385062], kind: usize, x: u64)
 pub(crate) fn make(word: u64, line: &mut [u64; 163857], m: &mut [u64; 385062]) -> bool {
     let k = kind_of(word);
     let n = numbers_in(line);
-    let x = call(k.0, n, line, m);
+    let x = call(word, n, line, m);
     note(m, k.0, x);
     agree(line, k.1, m, 0, 1)
 }

@@ -30,25 +30,24 @@ fn bits(x: f64) -> u64 {
     }
 }
 
-// A box and the bits of its spread as seven numbers.
-fn numbers_of(x: BoxSpread) -> [u64; 7] {
-    [
-        x.bounds.r0 as u64,
-        x.bounds.r1 as u64,
-        x.bounds.g0 as u64,
-        x.bounds.g1 as u64,
-        x.bounds.b0 as u64,
-        x.bounds.b1 as u64,
-        bits(x.spread),
-    ]
+// A number of a box and its spread, of which there are seven.
+fn number_of(x: BoxSpread, i: usize) -> u64 {
+    match i {
+        0 => x.bounds.r0 as u64,
+        1 => x.bounds.r1 as u64,
+        2 => x.bounds.g0 as u64,
+        3 => x.bounds.g1 as u64,
+        4 => x.bounds.b0 as u64,
+        5 => x.bounds.b1 as u64,
+        _ => bits(x.spread),
+    }
 }
 
 // Makes the record of a cut a list: how many boxes there are, and every place, those past the last box too.
 fn put_record(m: &mut [u64; 385062], r: CutRecord) {
     let mut i = 0;
     while i < 1792 {
-        let numbers = numbers_of(r.places[i / 7]);
-        m[RECORD + 2 + i] = numbers[i % 7];
+        m[RECORD + 2 + i] = number_of(r.places[i / 7], i % 7);
         i = i + 1;
     }
     m[RECORD] = 1793;

@@ -8,7 +8,7 @@ ghost use Rattle.replay.specs.Lists.{FirstDifference};
 // Where a list that the calls know stands. Before the first are the number that the last call answered, and the sums.
 pub(crate) const SUMS: usize = 1;
 
-pub(crate) const CALLS: usize = 16;
+const CALLS: usize = 16;
 
 pub(crate) const PALETTE: usize = 32;
 

@@ -15,20 +15,14 @@ abbrev μ-loop : tie.MeasureT-loop
 loop-holds : tie.Need-loop-holds Inv-loop μ-loop
 loop-holds c = tt
 
-mul-numbers-of : tie.Need-mul-numbers-of Inv-loop μ-loop
-mul-numbers-of c = omega arith
+mul-number-of : tie.Need-mul-number-of Inv-loop μ-loop
+mul-number-of c = omega arith
 
-element-copy-out-numbers-of : tie.Need-element-copy-out-numbers-of Inv-loop μ-loop
-element-copy-out-numbers-of c = omega arith
+element-copy-out-number-of : tie.Need-element-copy-out-number-of Inv-loop μ-loop
+element-copy-out-number-of c = omega arith
 
-numbers-of-requires : tie.Need-numbers-of-requires Inv-loop μ-loop
-numbers-of-requires c κs = search needs
-
-mul-m : tie.Need-mul-m Inv-loop μ-loop
-mul-m c = omega arith
-
-array-read-m : tie.Need-array-read-m Inv-loop μ-loop
-array-read-m c = omega arith
+number-of-requires : tie.Need-number-of-requires Inv-loop μ-loop
+number-of-requires c κs = search needs
 
 add-m : tie.Need-add-m Inv-loop μ-loop
 add-m c = omega arith
@@ -36,8 +30,8 @@ add-m c = omega arith
 add-m-2 : tie.Need-add-m-2 Inv-loop μ-loop
 add-m-2 c = omega arith
 
-mul-m-2 : tie.Need-mul-m-2 Inv-loop μ-loop
-mul-m-2 c = omega arith
+mul-m : tie.Need-mul-m Inv-loop μ-loop
+mul-m c = omega arith
 
 element-write-m : tie.Need-element-write-m Inv-loop μ-loop
 element-write-m c = omega arith
@@ -57,8 +51,8 @@ element-write-m-2 c = omega arith
 add-m-3 : tie.Need-add-m-3 Inv-loop μ-loop
 add-m-3 c = omega arith
 
-mul-m-3 : tie.Need-mul-m-3 Inv-loop μ-loop
-mul-m-3 c = omega arith
+mul-m-2 : tie.Need-mul-m-2 Inv-loop μ-loop
+mul-m-2 c = omega arith
 
 element-write-m-3 : tie.Need-element-write-m-3 Inv-loop μ-loop
 element-write-m-3 c = omega arith
@@ -73,20 +67,18 @@ put-record-spec =
     Inv-loop
     μ-loop
     loop-holds
-    mul-numbers-of
-    element-copy-out-numbers-of
-    numbers-of-requires
-    mul-m
-    array-read-m
+    mul-number-of
+    element-copy-out-number-of
+    number-of-requires
     add-m
     add-m-2
-    mul-m-2
+    mul-m
     element-write-m
     add-i
     loop-less
     loop-again
     element-write-m-2
     add-m-3
-    mul-m-3
+    mul-m-2
     element-write-m-3
     returns)
