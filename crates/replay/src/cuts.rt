@@ -1,19 +1,25 @@
 // A cut, with its record as a list, and the filled front of a palette.
-use crate::lend::bytes_of;
-use crate::lend::counts_of;
-use crate::lend::least;
+use crate::calls::Numbers;
+use crate::lend::bytes_at;
+use crate::lend::bytes_to_fill;
+use crate::lend::counts_at;
 use crate::lend::put_bytes;
 use crate::lend::put_counts;
-use crate::lend::table_of;
-use crate::lists::places_of;
-use crate::lists::set_length;
-use crate::script::any;
-use crate::script::hold;
-use crate::script::read_sizes;
+use crate::lend::table_at;
+use crate::lists::COUNTS;
+use crate::lists::MAP;
+use crate::lists::PALETTE;
+use crate::lists::RECORD;
+use crate::lists::SECOND_NAME;
+use crate::lists::TABLE;
+use crate::lists::list_of;
 use cutter::call::CutRecord;
 use cutter::call::cut;
 use cutter::palette::front;
 use rounds::gather::BoxSpread;
+ghost use Prim.Native.Nat.{_≤_, _<_};
+
+// ---- The record
 
 // The bits of a float, or those of a NaN.
 fn bits(x: f64) -> u64 {
@@ -24,121 +30,75 @@ fn bits(x: f64) -> u64 {
     }
 }
 
-// A box and the bits of its spread as seven numbers.
-fn numbers_of(x: BoxSpread) -> [u64; 7] {
-    [
-        x.bounds.r0 as u64,
-        x.bounds.r1 as u64,
-        x.bounds.g0 as u64,
-        x.bounds.g1 as u64,
-        x.bounds.b0 as u64,
-        x.bounds.b1 as u64,
-        bits(x.spread),
-    ]
-}
-
-// Writes every place of the record of a cut, those past the last box too.
-fn put_boxes(list: &mut [u64], r: CutRecord) {
-    let n = least(list.len(), 1792);
-    let mut i = 0;
-    while i < n {
-        let numbers = numbers_of(r.places[i / 7]);
-        list[i] = numbers[i % 7];
-        i = i + 1;
+// A number of a box and its spread, of which there are seven.
+fn number_of(x: BoxSpread, i: usize) -> u64 {
+    match i {
+        0 => x.bounds.r0 as u64,
+        1 => x.bounds.r1 as u64,
+        2 => x.bounds.g0 as u64,
+        3 => x.bounds.g1 as u64,
+        4 => x.bounds.b0 as u64,
+        5 => x.bounds.b1 as u64,
+        _ => bits(x.spread),
     }
 }
 
-// Makes the record of a cut a list.
-fn set_boxes(m: &mut [u64], r: CutRecord) {
-    set_length(m, b'b', 1792);
-    let p = places_of(m, b'b');
-    let start = p.start;
-    let end = p.end;
-    put_boxes(&mut m[start..end], r);
+// Makes the record of a cut a list: how many boxes there are, and every place, those past the last box too.
+fn put_record(m: &mut [u64; 385062], r: CutRecord) {
+    let mut i = 0;
+    while i < 1792 {
+        m[RECORD + 2 + i] = number_of(r.places[i / 7], i % 7);
+        i = i + 1;
+    }
+    m[RECORD] = 1793;
+    m[RECORD + 1] = r.boxes as u64;
 }
+
+// ---- The cut
 
 // Cuts a table, with the second table as work table.
 fn cut_lent(
-    text: &[u8],
-    at: &mut usize,
-    m: &mut [u64],
+    n: Numbers,
     table: &[u64],
+    m: &mut [u64],
     palette: &mut [u8],
     counts: &mut [u32],
-    lent: &mut [u8],
+    map: &mut [u8],
 ) -> CutRecord {
-    let s = read_sizes(text, at);
-    let k = any(text, at);
-    let p = places_of(m, b's');
-    let start = p.start;
-    let end = p.end;
-    let work = &mut m[start..end];
-    cut(s.b1, s.b2, s.b3, k, table, work, palette, counts, lent)
+    let work = list_of(m, SECOND_NAME);
+    cut(n.b1, n.b2, n.b3, n.n6, table, work, palette, counts, map)
 }
 
-// Each of the next three lends one list more.
-fn with_map(
-    text: &[u8],
-    at: &mut usize,
-    m: &mut [u64],
-    table: &[u64],
-    palette: &mut [u8],
-    counts: &mut [u32],
-) -> CutRecord {
-    let mut bytes = [0; 32769];
-    let n = bytes_of(m, b'm', &mut bytes);
-    let lent = &mut bytes[0..n];
-    let r = cut_lent(text, at, m, table, palette, counts, lent);
-    put_bytes(m, b'm', lent);
-    r
+// Lends counts and map.
+fn cut_into(n: Numbers, table: &[u64], m: &mut [u64; 385062], palette: &mut [u8]) -> u8 {
+    let mut count_room = [0; 4095];
+    let mut map_room = [0; 32769];
+    let counts = counts_at(m, COUNTS, &mut count_room);
+    let map = bytes_to_fill(m, MAP, &mut map_room);
+    let r = cut_lent(n, table, m, palette, counts, map);
+    put_record(m, r);
+    put_counts(m, COUNTS, counts);
+    put_bytes(m, MAP, map);
+    r.number
 }
 
-fn with_counts(
-    text: &[u8],
-    at: &mut usize,
-    m: &mut [u64],
-    table: &[u64],
-    palette: &mut [u8],
-) -> CutRecord {
-    let mut numbers = [0; 4095];
-    let n = counts_of(m, b'c', &mut numbers);
-    let counts = &mut numbers[0..n];
-    let r = with_map(text, at, m, table, palette, counts);
-    put_counts(m, b'c', counts);
-    r
+// Lends the table and the palette, and answers the number.
+pub(crate) fn cut_lists(n: Numbers, line: &mut [u64], m: &mut [u64; 385062]) -> u64 {
+    let mut room = [0; 32769];
+    let table = table_at(m, TABLE, line);
+    let palette = bytes_to_fill(m, PALETTE, &mut room);
+    let x = cut_into(n, table, m, palette);
+    put_bytes(m, PALETTE, palette);
+    x as u64
 }
 
-fn with_palette(text: &[u8], at: &mut usize, m: &mut [u64], table: &[u64]) -> CutRecord {
-    let mut colours = [0; 4095];
-    let n = bytes_of(m, b'p', &mut colours);
-    let palette = &mut colours[0..n];
-    let r = with_counts(text, at, m, table, palette);
-    put_bytes(m, b'p', palette);
-    r
-}
-
-// Cuts the first numbers of a copy of the table.
-fn cut_copy(text: &[u8], at: &mut usize, m: &mut [u64], copy: &[u64], n: usize) -> CutRecord {
-    let t = least(n, copy.len());
-    with_palette(text, at, m, &copy[0..t])
-}
-
-// Cuts a copy of the table, and answers the number of the record.
-pub(crate) fn cut_table(text: &[u8], at: &mut usize, m: &mut [u64], spare: &mut [u64]) -> usize {
-    let n = table_of(m, b't', spare);
-    let r = cut_copy(text, at, m, spare, n);
-    set_boxes(m, r);
-    hold(text, at, 1, r.boxes as u64);
-    r.number as usize
-}
+// ---- The front
 
 // Makes the palette its filled front, and answers how many bytes that has.
-pub(crate) fn take_front(text: &[u8], at: &mut usize, m: &mut [u64]) -> usize {
-    let mut colours = [0; 4095];
-    let n = bytes_of(m, b'p', &mut colours);
-    let boxes = any(text, at);
-    let filled = front(&colours[0..n], boxes);
-    set_length(m, b'p', filled.len());
-    put_bytes(m, b'p', filled);
-    filled.len()
+pub(crate) fn take_front(n: Numbers, m: &mut [u64; 385062]) -> u64 {
+    let mut room = [0; 32769];
+    let palette = bytes_at(m, PALETTE, &mut room);
+    let filled = front(palette, n.b1).len();
+    m[PALETTE] = filled as u64;
+    filled as u64
 }

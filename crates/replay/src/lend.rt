@@ -1,82 +1,128 @@
-// Copies of lists as calls take them, and back. A copy has the length that it answers.
-use crate::lists::places_of;
-ghost use Prim.Native.Nat.{_≤_};
+// Copies of lists as calls take them, and back.
+use crate::lists::least;
+use crate::lists::length_at;
+ghost use Prim.Native.Nat.{_+_, _≤_, _<_};
 ghost use lib.ListN.{length};
 
-pub(crate) fn least(a: usize, b: usize) -> usize
-    ensures { λ r. ⌜ (r ≤ a) × (r ≤ b) ⌝ }
+// A number of the list at a place.
+fn item(m: &[u64; 385062], at: usize, i: usize) -> u64
+    requires { ⌜ at + i < 385061 ⌝ }
 {
-    if a < b { a } else { b }
+    m[at + 1 + i]
 }
 
-pub(crate) fn bytes_of(m: &[u64], list: u8, bytes: &mut [u8]) -> usize
-    ensures { λ r. ⌜ r ≤ length (now (bytes .exit)) ⌝ }
+// ---- Bytes
+
+fn copy_bytes(m: &[u64; 385062], at: usize, room: &mut [u8]) -> usize
+    requires { ⌜ at < 300000 ⌝ }
+    ensures { λ r. ⌜ r ≤ length (now (room .exit)) ⌝ }
 {
-    let p = places_of(m, list);
-    let start = p.start;
-    let n = least(p.end - start, bytes.len());
+    let n = least(length_at(m, at, 32769), room.len());
     let mut i = 0;
     while i < n {
-        bytes[i] = (m[start + i] % 256) as u8;
+        room[i] = (item(m, at, i) % 256) as u8;
         i = i + 1;
     }
     n
 }
 
-pub(crate) fn counts_of(m: &[u64], list: u8, counts: &mut [u32]) -> usize
-    ensures { λ r. ⌜ r ≤ length (now (counts .exit)) ⌝ }
+// Copies the list at a place, and answers the copy, for a call to fill.
+pub(crate) fn bytes_to_fill<'a>(m: &[u64; 385062], at: usize, room: &'a mut [u8]) -> &'a mut [u8]
+    requires { ⌜ at < 300000 ⌝ }
 {
-    let p = places_of(m, list);
-    let start = p.start;
-    let n = least(p.end - start, counts.len());
-    let mut i = 0;
-    while i < n {
-        counts[i] = (m[start + i] % 4294967296) as u32;
-        i = i + 1;
-    }
-    n
+    let n = copy_bytes(m, at, room);
+    &mut room[0..n]
 }
 
-pub(crate) fn table_of(m: &[u64], list: u8, table: &mut [u64]) -> usize
-    ensures { λ r. ⌜ r ≤ length (now (table .exit)) ⌝ }
+// The same, for a call to read.
+pub(crate) fn bytes_at<'a>(m: &[u64; 385062], at: usize, room: &'a mut [u8]) -> &'a [u8]
+    requires { ⌜ at < 300000 ⌝ }
 {
-    let p = places_of(m, list);
-    let start = p.start;
-    let n = least(p.end - start, table.len());
-    let mut i = 0;
-    while i < n {
-        table[i] = m[start + i];
-        i = i + 1;
-    }
-    n
+    let n = copy_bytes(m, at, room);
+    let copy = &room[..];
+    &copy[0..n]
 }
 
 fn byte(n: u8) -> u64 {
     n as u64
 }
 
-pub(crate) fn put_bytes(m: &mut [u64], list: u8, bytes: &[u8]) {
-    let p = places_of(m, list);
-    let start = p.start;
-    let n = least(p.end - start, bytes.len());
+pub(crate) fn put_bytes(m: &mut [u64; 385062], at: usize, bytes: &[u8])
+    requires { ⌜ at < 300000 ⌝ }
+{
+    let n = least(bytes.len(), 32769);
     let mut i = 0;
     while i < n {
-        m[start + i] = byte(bytes[i]);
+        m[at + 1 + i] = byte(bytes[i]);
         i = i + 1;
     }
+}
+
+// ---- Numbers of 32 bits
+
+fn copy_counts(m: &[u64; 385062], at: usize, room: &mut [u32]) -> usize
+    requires { ⌜ at < 300000 ⌝ }
+    ensures { λ r. ⌜ r ≤ length (now (room .exit)) ⌝ }
+{
+    let n = least(length_at(m, at, 4095), room.len());
+    let mut i = 0;
+    while i < n {
+        room[i] = (item(m, at, i) % 4294967296) as u32;
+        i = i + 1;
+    }
+    n
+}
+
+// Copies the list at a place, and answers the copy.
+pub(crate) fn counts_at<'a>(m: &[u64; 385062], at: usize, room: &'a mut [u32]) -> &'a mut [u32]
+    requires { ⌜ at < 300000 ⌝ }
+{
+    let n = copy_counts(m, at, room);
+    &mut room[0..n]
 }
 
 fn count(n: u32) -> u64 {
     n as u64
 }
 
-pub(crate) fn put_counts(m: &mut [u64], list: u8, counts: &[u32]) {
-    let p = places_of(m, list);
-    let start = p.start;
-    let n = least(p.end - start, counts.len());
+pub(crate) fn put_counts(m: &mut [u64; 385062], at: usize, counts: &[u32])
+    requires { ⌜ at < 300000 ⌝ }
+{
+    let n = least(counts.len(), 4095);
     let mut i = 0;
     while i < n {
-        m[start + i] = count(counts[i]);
+        m[at + 1 + i] = count(counts[i]);
         i = i + 1;
     }
+}
+
+// ---- Tables
+
+fn copy_table(m: &[u64; 385062], at: usize, room: &mut [u64]) -> usize
+    requires { ⌜ at < 221221 ⌝ }
+    ensures { λ r. ⌜ r ≤ length (now (room .exit)) ⌝ }
+{
+    let n = least(length_at(m, at, 163841), room.len());
+    let mut i = 0;
+    while i < n {
+        room[i] = item(m, at, i);
+        i = i + 1;
+    }
+    n
+}
+
+// Where a line has room for a table: behind its first 16 numbers, which no call's line fills.
+fn table_room(line: &mut [u64]) -> &mut [u64] {
+    let start = least(16, line.len());
+    &mut line[start..]
+}
+
+// Copies the table at a place behind the numbers of a line, and answers the copy.
+pub(crate) fn table_at<'a>(m: &[u64; 385062], at: usize, line: &'a mut [u64]) -> &'a [u64]
+    requires { ⌜ at < 221221 ⌝ }
+{
+    let room = table_room(line);
+    let n = copy_table(m, at, room);
+    let copy = &room[..];
+    &copy[0..n]
 }
