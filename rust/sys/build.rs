@@ -18,7 +18,7 @@ fn main() {
     let directory = match env::var_os(VARIABLE) {
         Some(directory) => given(Path::new(&directory)),
         // The script is run in the crate's directory.
-        None => of_project(Path::new("..")),
+        None => of_project(Path::new("../..")),
     };
     match directory {
         Ok(directory) => {
@@ -28,7 +28,7 @@ fn main() {
         Err(reason) => println!(
             "cargo::error={reason}. Run ./build in the project's root, with the Rattle kit's `rt` on the path, \
              or let {VARIABLE} name the directory of a {ARCHIVE} that was built elsewhere; a relative one is taken \
-             from the crate's directory"
+             from rust/sys"
         ),
     }
 }
