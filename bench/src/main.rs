@@ -1,8 +1,8 @@
 //! Times the proved code and the original's text in one process, on the same frames, and prints the ratios.
 //!
 //! `--quick` takes fewer runs, and `--only TEXT` takes only the rows whose grid or operation has that text. A whole run
-//! of both sides fills a template, `--template FILE`, and writes it to `--page FILE`. Where a cell misses its target and
-//! the template gives no reason, the run fails.
+//! of both sides fills a template, `--template FILE`, and writes it to `--page FILE`. Where a cell misses its target
+//! and the template gives no reason, the run fails.
 mod inputs;
 mod measure;
 mod ours;

@@ -49,7 +49,7 @@ fn frames(inputs: &[Input]) -> String {
     text
 }
 
-/// Whether the template gives a reason for an operation, under its name up to a comma or a bracket: one reason may do for
+/// Whether the template gives a reason for an operation, under its name up to a comma or a bracket: one may do for
 /// several rows, as for every k.
 pub fn explains(template: &str, operation: Operation) -> bool {
     let name = operation.to_string();

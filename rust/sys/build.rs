@@ -42,9 +42,9 @@ fn given(directory: &Path) -> Result<PathBuf, String> {
     Ok(found.parent().expect("a file has a directory").into())
 }
 
-/// A directory with a copy of the project's own archive, as its code now is. `rt` knows what has changed and proves that;
-/// from nothing it takes some minutes. It writes the archive anew each time, so it is the code whose changes cargo is told
-/// to look for. Where there is no `rt`, an archive that is there already has to do.
+/// A directory with a copy of the project's own archive, as its code now is. `rt` knows what has changed and proves
+/// that; from nothing it takes some minutes. It writes the archive anew each time, so it is the code whose changes cargo
+/// is told to look for. Where there is no `rt`, an archive that is there already has to do.
 fn of_project(root: &Path) -> Result<PathBuf, String> {
     for source in ["crates", "crates.txt"] {
         println!("cargo::rerun-if-changed={}", root.join(source).display());

@@ -1,5 +1,5 @@
-//! The calls that `include/seluvava.h` declares, for Rust. What each needs, changes and answers is said there. The crate
-//! `seluvava` is the safe way to them.
+//! The calls that `include/seluvava.h` declares, for Rust. What each needs, changes and answers is said there. The
+//! crate `seluvava` is the safe way to them.
 
 // Clippy links nothing, so it may look at the code anywhere.
 #[cfg(not(any(
