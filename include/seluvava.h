@@ -64,6 +64,12 @@
 extern "C" {
 #endif
 
+/* The version of the calls, the crate for Rust and the pages. */
+#define SELUVAVA_VERSION "0.2.0"
+#define SELUVAVA_VERSION_MAJOR 0
+#define SELUVAVA_VERSION_MINOR 2
+#define SELUVAVA_VERSION_PATCH 0
+
 /* The three sizes for RGB, as every call takes them: 8,192 bins. */
 #define SELUVAVA_RGB 16, 32, 16
 

@@ -358,7 +358,7 @@ static struct asked good(void)
     memcpy(q.colours, known, sizeof known);
     memcpy(q.weights, weights, sizeof weights);
     memcpy(q.frame, q.colours, sizeof q.frame);
-    for (size_t i = 0; i < COUNT(q.map); i++) q.map[i] = i % 3;
+    for (size_t i = 0; i < COUNT(q.map); i++) q.map[i] = (uint8_t)(i % 3);
     for (size_t i = 0; i < COUNT(q.palette); i++) q.palette[i] = (uint8_t)(7 * i);
     q.length[TABLE] = q.length[SECOND] = q.length[WORK] = 320;
     q.length[MAP] = 64;

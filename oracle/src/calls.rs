@@ -4,12 +4,12 @@ use crate::{
     answer::{Original, original},
     buffer::{Buffer, Buffers, Differs, Place, fitting, same},
     case::Case,
-    compare::Tally,
     damage::Damage,
     numbers::{self, Lengths},
     original::palette_counts::CreatePaletteCountsErrorReason as Reason,
     port::{Band, Grid, Port},
     random::Random,
+    tally::Tally,
 };
 
 /// The table of colours and weights, by the rules of document 01; totals may be any.
@@ -53,7 +53,7 @@ fn off(length: usize, by: i64) -> usize {
 }
 
 fn resize<T: Place>(list: &mut Vec<T>, by: i64, r: &mut Random) {
-    list.resize_with(off(list.len(), by), || T::of(r.next()));
+    list.resize_with(off(list.len(), by), || T::of(r.draw()));
 }
 
 impl Calls {
@@ -73,7 +73,7 @@ impl Calls {
             map: (0..case.bins())
                 .map(|_| r.from(0, case.k - 1) as u8)
                 .collect(),
-            palette: (0..3 * case.k).map(|_| r.next() as u8).collect(),
+            palette: (0..3 * case.k).map(|_| r.draw() as u8).collect(),
             told_colours: case.k,
             indices: frame.len(),
             frame: frame.into_flattened(),

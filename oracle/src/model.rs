@@ -233,8 +233,8 @@ impl Port for Model {
         let [_, b2, b3] = grid;
         for (i, item) in boxes.iter().enumerate() {
             let [n, sums @ .., _] = cutting.sum(item.min, item.max);
-            for d in 0..3 {
-                lent.palette[3 * i + d] = (sums[d] / n) as u8;
+            for (d, sum) in sums.into_iter().enumerate() {
+                lent.palette[3 * i + d] = (sum / n) as u8;
                 lent.boxes[6 * i + 2 * d] = item.min[d] as u8;
                 lent.boxes[6 * i + 2 * d + 1] = item.max[d] as u8;
             }

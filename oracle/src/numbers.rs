@@ -81,7 +81,7 @@ pub fn load(grid: Grid, table: &[u64], colours: usize, weighted: bool, weights: 
     };
     lowest(&[
         (&|| !is_grid(grid), 1),
-        (&|| colours % 3 != 0, 3),
+        (&|| !colours.is_multiple_of(3), 3),
         (&|| weighted && weights.len() != n, 4),
         (&|| table.len() != 5 * bins(grid), 5),
         (&|| sound(grid, table).is_none(), 6),
@@ -143,7 +143,7 @@ fn all_below(map: &[u8], colours: usize) -> bool {
 pub fn map(grid: Grid, map: &[u8], colours: usize, frame: usize, indices: usize, band: Band) -> u8 {
     lowest(&[
         (&|| !is_grid(grid), 1),
-        (&|| frame % 3 != 0, 3),
+        (&|| !frame.is_multiple_of(3), 3),
         (&|| map.len() != bins(grid), 5),
         (&|| !(1..=256).contains(&colours), 5),
         (&|| indices != frame / 3, 5),
@@ -155,9 +155,12 @@ pub fn map(grid: Grid, map: &[u8], colours: usize, frame: usize, indices: usize,
 pub fn paint(grid: Grid, map: &[u8], palette: usize, frame: usize, band: Band) -> u8 {
     lowest(&[
         (&|| !is_grid(grid), 1),
-        (&|| frame % 3 != 0, 3),
+        (&|| !frame.is_multiple_of(3), 3),
         (&|| map.len() != bins(grid), 5),
-        (&|| !(3..=768).contains(&palette) || palette % 3 != 0, 5),
+        (
+            &|| !(3..=768).contains(&palette) || !palette.is_multiple_of(3),
+            5,
+        ),
         (&|| reaches_past(band, frame / 3), 5),
         (&|| !all_below(map, palette / 3), 9),
     ])

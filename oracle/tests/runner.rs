@@ -4,11 +4,12 @@ use oracle::{
     answer::{Input, original},
     case::{Case, Kind},
     classes::{CLASSES, Cases, Grids, Maker},
-    compare::{Tally, check},
+    compare::check,
     model::Model,
     port::{Band, Grid, Lent, Port},
     random::Random,
     runner::run,
+    tally::Tally,
 };
 
 #[test]

@@ -64,13 +64,6 @@
 #![deny(unsafe_code, unsafe_op_in_unsafe_fn)]
 #![warn(missing_docs)]
 
-#[cfg(not(all(
-    target_arch = "x86_64",
-    target_os = "linux",
-    target_pointer_width = "64"
-)))]
-compile_error!("seluvava links an archive of proved code that exists for Linux on x86-64 alone");
-
 mod colour_map;
 mod cut;
 mod grid;

@@ -12,8 +12,14 @@ use oracle::{
 const CUBE: Grid = [2, 2, 2];
 const LIMIT: u32 = u32::MAX;
 
-/// A table of zeros with some numbers, five to a bin.
-fn table(grid: Grid, cells: &[(usize, [u64; 5])]) -> Vec<u64> {
+/// A bin's place and its five numbers.
+type Bin = (usize, [u64; 5]);
+
+/// What is changed of lists that fit.
+type Change = fn(&mut Lists);
+
+/// A table of zeros with the numbers of some bins.
+fn table(grid: Grid, cells: &[Bin]) -> Vec<u64> {
     let mut table = vec![0; 5 * bins(grid)];
     for (place, cell) in cells {
         table[5 * place..5 * place + 5].copy_from_slice(cell);
@@ -252,7 +258,7 @@ fn loads_lent(s: &mut Script) {
 /// Bin 5 has components from 128, 0 and 128 on, bin 2 from 0, 128 and 0.
 fn soundness(s: &mut Script) {
     let most = u64::MAX;
-    let bins: [(&str, (usize, [u64; 5]), u8); 17] = [
+    let bins: [(&str, Bin, u8); 17] = [
         ("sums at their lowest", (5, [2, 256, 0, 256, 0]), 0),
         ("sums at their highest", (5, [2, 510, 254, 510, 0]), 0),
         ("6, sum 1 too low", (5, [2, 255, 0, 256, 0]), 6),
@@ -439,7 +445,7 @@ fn cuts(s: &mut Script) {
             2,
         );
     }
-    let wrong: [(&str, fn(&mut Lists)); 9] = [
+    let wrong: [(&str, Change); 9] = [
         ("table one too short", |l| l.table.truncate(39)),
         ("table one too long", |l| l.table.push(0)),
         ("work table one too short", |l| l.second.truncate(39)),

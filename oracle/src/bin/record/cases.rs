@@ -128,7 +128,12 @@ fn mutants() -> Vec<Case> {
         ),
         whole("mutant: a falsely positive spread", CUBE, 3, &positive),
         whole("mutant: sums of 32 bits", CUBE, 2, &wide),
-        whole("mutant: a box of one bin with two colours", CUBE, 4, &one_bin),
+        whole(
+            "mutant: a box of one bin with two colours",
+            CUBE,
+            4,
+            &one_bin,
+        ),
         whole("mutant: half a batch", CUBE, 4, &late).in_loads(&[1, 3], false),
         whole("mutant: half a merge", CUBE, 4, &late).in_loads(&[1, 3], true),
     ]
@@ -212,7 +217,7 @@ impl Sample {
         let grids = Grids::all();
         let mut maker = Maker {
             grids: &grids,
-            r: Random(seed ^ Random(class.name.bytes().map(u64::from).sum()).next()),
+            r: Random(seed ^ Random(class.name.bytes().map(u64::from).sum()).draw()),
         };
         let fits =
             |c: &case::Case| bins(c.grid) <= MOST_BINS && c.input.colors.len() <= self.most_colours;
