@@ -55,11 +55,11 @@ module _ (b1 b2 b3 : ℕ) {g : Grid} (e : gridOf b1 b2 b3 ≡ chosen.Accepted g)
 
 module _ (b1 b2 b3 : ℕ) {g : Grid} (e : gridOf b1 b2 b3 ≡ chosen.Accepted g) (p : Plan) (y : BytesIn p)
     (h : weightOf (leaves p) ≤ limit) where
-  -- how a plan whose total fits ends: refused with the number of its first malformed batch, or else with the table of
+  -- how a plan whose total fits ends: refused with the answer to its first malformed batch, or else with the table of
   -- its colours
   pub plan-ends : ends b1 b2 b3 p ≡ endedOf (firstMalformed p) (tableOf g (leaves p))
   plan-ends = ends-is b1 b2 b3 e p y h
 
-  -- a plan with a malformed batch is refused with that batch's number
+  -- a plan with a malformed batch is refused with that batch's answer
   pub malformed-is-refused : {n : ℕ} → firstMalformed p ≡ suc n → ends b1 b2 b3 p ≡ Stopped (suc n)
   malformed-is-refused m = malformed-refused b1 b2 b3 e p y h m

@@ -1,4 +1,4 @@
--- Two plans whose tables are cut alike (demand 3). Definitions only.
+-- Two plans whose tables are cut alike (Rules, Demands). Definitions only.
 use mathlib.Core.Path.{_≡_}
 use mathlib.Core.List.{List}
 use Prim.Native.Nat.{ℕ}

@@ -1,5 +1,5 @@
--- What the record of a cut is to be, with the palette, counts and map that it leaves behind (demand 3). Definitions
--- only.
+-- What the record of a cut is to be, with the palette, counts and map that it leaves behind (Rules, Demands).
+-- Definitions only.
 use mathlib.Core.Path.{_≡_}
 use mathlib.Core.Bool.{cond}
 use mathlib.Core.List.{List}
