@@ -1,5 +1,5 @@
--- Laws of a part of a batch: what equal colours add, that a part can be added after another, and that equal
--- colours can be added at once.
+-- Laws of a part of a batch: what equal colours add, that a part can be added after another, and that equal colours can
+-- be added at once.
 -- Assumes nothing.
 use mathlib.Core.Path.{_≡_, refl, sym, ap, subst, _∙_}
 use mathlib.Core.Bool.{Bool, true, false, cond}

@@ -32,8 +32,8 @@ paintLater b1 b2 b3 map palette frame first pixels =
     (writeBand (3 * first) (3 * pixels) (paintAt g map palette frame) frame)
     frame)
 
--- what a painting on an accepted grid is given that nothing refuses, no 3, 5, 9: "the palette for painting has
--- 3..768 bytes, a multiple of three"
+-- what a painting on an accepted grid is given that nothing refuses, no 3, 5, 9: "the palette for painting has 3..768
+-- bytes, a multiple of three"
 pub record CanPaint (g : Grid) (map palette frame : List ℕ) (first pixels : ℕ) : Type 0 where
   pub threes : length frame % 3 ≡ 0
   pub lent : length map ≡ binsOf g

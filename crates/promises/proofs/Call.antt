@@ -1,7 +1,6 @@
 -- The cut that a C or Rust caller makes is the cut: it is done exactly where that is done and there is room for the
--- boxes, and then it tells
--- and leaves behind what that does. So Tiling, Full and Order, which speak of `cutRecord` and `cutLater`, speak of it
--- too.
+-- boxes, and then it tells and leaves behind what that does. So Tiling, Full and Order, which speak of `cutRecord` and
+-- `cutLater`, speak of it too.
 -- Assumes nothing.
 use mathlib.Core.Path.{_≡_, refl, sym, ap, subst, _∙_}
 use mathlib.Core.Logic.{_↔_}

@@ -1,6 +1,5 @@
--- The listing program (Rules, Listing): its example, that a refusal is all that is written, and
--- that the batches
--- in which its input comes are no matter.
+-- The listing program (Rules, Listing): its example, that a refusal is all that is written, and that the batches in
+-- which its input comes are no matter.
 -- Assumes nothing.
 use mathlib.Core.Path.{_≡_, refl, sym, ap, _∙_}
 use mathlib.Core.Bool.{true, false, cond, true≢false}

@@ -1,6 +1,5 @@
--- Demand 3, the order: the same weighted colours, in any order, in any batches, into one table or several merged in any
--- order, give
--- the same table, and so the same boxes, palette, counts and map, and every pixel the same index.
+-- Any order (Rules, Demands): the same weighted colours, in any order, in any batches, into one table or several merged
+-- in any order, give the same table, and so the same boxes, palette, counts and map, and every pixel the same index.
 -- Assumes nothing.
 use mathlib.Core.Path.{_≡_, refl, sym, _∙_}
 use mathlib.Core.List.{List, Perm}

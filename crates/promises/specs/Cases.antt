@@ -1,5 +1,4 @@
--- P1 to P10 (Rules, Cases) as one table: what is loaded and cut, and what is to come out. Definitions
--- only.
+-- P1 to P10 (Rules, Cases) as one table: what is loaded and cut, and what is to come out. Definitions only.
 use mathlib.Core.Bool.{true, false}
 use mathlib.Core.List.{List, [], _∷_, _++_}
 use Prim.Native.Nat.{ℕ, zero, suc, _-_, _*_}

@@ -50,8 +50,7 @@ pub record Tiling (g : Grid) (t : List ℕ) (r : CutRecord) (later : Buffers) : 
   pub front : frontOf (later .results .palette) (r .boxes) ≡ coloursOf g (viewOf t) (boxesIn r)
 
 -- of a table loaded from colours, "each count is the sum of loaded weights in its box": of the colours whose bin lies
--- there, which are
--- those that the map gives its index
+-- there, which are those that the map gives its index
 pub record LoadedCounts (g : Grid) (cs : List Weighted) (r : CutRecord) (later : Buffers) : Type 0 where
   pub count : (i : ℕ) → i < r .boxes
       → getD (later .results .counts) i 0

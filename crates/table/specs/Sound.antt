@@ -21,8 +21,8 @@ limit = 4294967295
 unfoldable pub between : Span → ℕ → ℕ → Bool
 between s n sum = leb (n * s .low) sum && leb sum (n * s .high)
 
--- "A bin keeps its bounds if every component sum lies between n·low and n·high" by its spans, "and the squares are
--- at most 195,075·n"
+-- "A bin keeps its bounds if every component sum lies between n·low and n·high" by its spans, "and the squares are at
+-- most 195,075·n"
 unfoldable pub inBounds : (ℕ → Span) → (ℕ → ℕ) → Bool
 inBounds span numbers =
     allFrom 0 3 (λ d. between (span d) (numbers 0) (numbers (d + 1))) && leb (numbers 4) (195075 * numbers 0)
