@@ -249,7 +249,7 @@ impl Calls {
     }
 }
 
-/// Makes the calls of a case: each answer has to be that of the rules, a refusal has to change nothing, and a call that is
+/// Makes the calls of a case: each answer has to be the rules', a refusal has to change nothing, and a call that is
 /// done has to leave what it says.
 pub fn calls(
     port: &dyn Port,

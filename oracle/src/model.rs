@@ -1,5 +1,5 @@
 //! A port in plain Rust, from docs/RULES.md: a box's sum is the sum over its bins, the heap is a list.
-//! It stands in the library's place where a mutant is to be caught, and shows whether a difference is that of the rules.
+//! It stands in the library's place where a mutant is to be caught, and shows whether a difference is the rules'.
 use crate::{
     numbers::{self, Lengths, added, bins, place},
     port::{Band, Grid, Lent, Port},
@@ -135,9 +135,9 @@ fn climb(heap: &mut [Item], mut p: usize) {
     }
 }
 
-/// "the last element leaves the end; if others remain, it will replace place 0, whose element is the one taken out. Sink
-/// a hole from 0: while both children exist, move up the right child if left ≤ right, else the left; if only a left
-/// child exists, move that up. The carried element enters the hole and climbs as above."
+/// "the last element leaves the end; if others remain, it will replace place 0, whose element is the one taken out.
+/// Sink a hole from 0: while both children exist, move up the right child if left ≤ right, else the left; if only a
+/// left child exists, move that up. The carried element enters the hole and climbs as above."
 fn take_out(heap: &mut Vec<Item>) -> Item {
     let last = heap.pop().expect("a box");
     if heap.is_empty() {

@@ -1,4 +1,4 @@
-//! Writes the script that the proved program `replay` replays: calls with the answers of the rules, and cases that are made
+//! Writes the script that the proved program `replay` replays: calls with the rules' answers, and cases that are made
 //! from a seed, with the original's. docs/REPLAY.md says what the lines mean. Standard error gets what `replay` has to
 //! write.
 mod answers;
