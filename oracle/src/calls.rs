@@ -1,4 +1,4 @@
-//! The five calls one by one, good or damaged, against the numbers of document 01.
+//! The five calls one by one, good or damaged, against the answers of the rules (Rules, Answers).
 use crate::{
     PaletteCounts, PaletteSize,
     answer::{Original, original},
@@ -12,7 +12,7 @@ use crate::{
     tally::Tally,
 };
 
-/// The table of colours and weights, by the rules of document 01; totals may be any.
+/// The table of colours and weights, by Rules, Load; totals may be any.
 fn table_of(grid: Grid, colors: &[[u8; 3]], weights: &[u32]) -> Vec<u64> {
     let mut table = vec![0; 5 * numbers::bins(grid)];
     add(grid, &mut table, colors, weights);
@@ -249,7 +249,7 @@ impl Calls {
     }
 }
 
-/// Makes the calls of a case: each number has to be document 01's, a refusal has to change nothing, and a call that is
+/// Makes the calls of a case: each answer has to be the rules', a refusal has to change nothing, and a call that is
 /// done has to leave what it says.
 pub fn calls(
     port: &dyn Port,

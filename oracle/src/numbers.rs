@@ -1,5 +1,5 @@
-//! Which number a call answers, from document 01's sections "Grid and table" and "Numbers a caller gets back" and from
-//! nothing else. What a call is lent counts here by its length, unless its contents decide.
+//! What a call answers, from docs/RULES.md (Rules, Grid; Rules, Sound; Rules, Answers; Rules, Lengths) and from nothing
+//! else. What a call is lent counts here by its length, unless its contents decide.
 use crate::port::{Band, Grid};
 
 const SIZES: [usize; 7] = [2, 4, 8, 16, 32, 64, 128];
@@ -7,7 +7,7 @@ const SIZES: [usize; 7] = [2, 4, 8, 16, 32, 64, 128];
 /// The largest total of a sound table.
 pub const LARGEST_TOTAL: u128 = 4_294_967_295;
 
-/// "A grid size not among the seven."
+/// Not "a grid size not among the seven".
 fn is_grid(grid: Grid) -> bool {
     grid.iter().all(|b| SIZES.contains(b))
 }
@@ -36,7 +36,7 @@ pub fn place([b1, b2, b3]: Grid, [r, g, b]: [u8; 3]) -> usize {
     (bin(b1, r) * b2 + bin(b2, g)) * b3 + bin(b3, b)
 }
 
-/// "Adds its weight w to n, w·c to each sum, w·(c1²+c2²+c3²) to the squares": what a colour adds to the five.
+/// What a colour "adds w to n, w·c to each sum, w·(c1²+c2²+c3²) to the squares of its bin".
 pub fn added(color: [u8; 3], w: u32) -> [u64; 5] {
     let w = u64::from(w);
     let [c1, c2, c3] = color.map(u64::from);
@@ -65,7 +65,7 @@ fn sound(grid: Grid, table: &[u64]) -> Option<u128> {
     (total <= LARGEST_TOTAL).then_some(total)
 }
 
-/// "The lowest number that applies is given": tests with their numbers, in order.
+/// "The lowest answer from 1 to 9 that applies is given": tests with their answers, in order.
 fn lowest(tests: &[(&dyn Fn() -> bool, u8)]) -> u8 {
     tests
         .iter()

@@ -1,4 +1,4 @@
-//! The runner itself: document 01's rules in plain Rust agree with the original, a line says a whole case, and a port
+//! The runner itself: the rules in plain Rust agree with the original, a line says a whole case, and a port
 //! with a fault is found out and its case made small.
 use oracle::{
     answer::{Input, original},

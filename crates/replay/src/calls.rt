@@ -113,7 +113,7 @@ fn with_map(text: &[u8], at: &mut usize, m: &mut [u64], paints: bool) -> usize {
 
 // ---- A line with a call
 
-// Makes the call of a kind, and answers its number.
+// Makes the call of a kind, and gives its answer.
 fn call(text: &[u8], at: &mut usize, m: &mut [u64], spare: &mut [u64], kind: usize) -> usize {
     match kind {
         0 => load_frame(text, at, m),
@@ -125,7 +125,7 @@ fn call(text: &[u8], at: &mut usize, m: &mut [u64], spare: &mut [u64], kind: usi
     }
 }
 
-// Makes the call of a line, holds its number, and counts it.
+// Makes the call of a line, holds its answer to the line, and counts it.
 pub(crate) fn make(
     text: &[u8],
     at: &mut usize,

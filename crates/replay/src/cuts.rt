@@ -123,7 +123,7 @@ fn cut_copy(text: &[u8], at: &mut usize, m: &mut [u64], copy: &[u64], n: usize) 
     with_palette(text, at, m, &copy[0..t])
 }
 
-// Cuts a copy of the table, and answers the number of the record.
+// Cuts a copy of the table, and gives the answer of the record.
 pub(crate) fn cut_table(text: &[u8], at: &mut usize, m: &mut [u64], spare: &mut [u64]) -> usize {
     let n = table_of(m, b't', spare);
     let r = cut_copy(text, at, m, spare, n);

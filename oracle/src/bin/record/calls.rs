@@ -1,4 +1,4 @@
-//! Calls written from document 01's sentences, each with the number that its table of numbers gives: every number of
+//! Calls written from the sentences of the rules, each with the answer that Rules, Answers gives: every answer of
 //! every call, each also where others apply that are not the lowest, and calls that are done.
 use crate::{
     lists::{Call, Lists, front},
@@ -51,7 +51,7 @@ const ONE: [u8; 3] = [10, 20, 30];
 const TWO: [u8; 6] = [10, 20, 30, 200, 100, 50];
 const NONE: [u8; 0] = [];
 
-/// Sizes that are not among the seven: "the port refuses 1", and others in each dimension.
+/// Sizes that are not among the seven: "here 1 is refused", and others in each dimension.
 const REFUSED: [Grid; 8] = [
     [1, 2, 2],
     [2, 1, 2],
@@ -84,7 +84,7 @@ fn load(
     Call::Load { weighted }.case(s, &format!("load: {of}"), CUBE, &lists, number);
 }
 
-/// "Weight 0 adds nothing", "1 when none is given, whatever list is lent", "an empty batch changes nothing".
+/// "Weight 0 adds nothing", "1 when none is given, whatever list is lent", "An empty batch changes nothing".
 fn loads_done(s: &mut Script) {
     load(s, "weight 0", (0, ONCE), &[255; 3], Some(&[0]), 0);
     load(
@@ -476,7 +476,7 @@ fn cuts(s: &mut Script) {
     cut(s, "5 before 8", CUBE, 2, &short, 5);
 }
 
-/// "If the palette is too short for that number, the part is empty."
+/// "if the palette is too short for that number, the part is empty"
 fn fronts(s: &mut Script) {
     for boxes in [0, 1, 3, 4, 256, usize::MAX / 3 + 1, usize::MAX] {
         let mut palette: Vec<u8> = (1..=11).collect();

@@ -1,4 +1,4 @@
-//! The cases: those that document 01 works out, one for each mutant, each size in each dimension, and a sample of the
+//! The cases: those of Rules, Cases, one for each mutant, each size in each dimension, and a sample of the
 //! runner's classes.
 use oracle::{
     case,
