@@ -10,6 +10,7 @@
  *
  * load counts colours into a table, merge adds a second table into a first, cut makes of a table a palette of at
  * most 256 colours and a map to it, and map and paint take the pixels of a frame to that palette.
+ * docs/CHOOSING.md has what to know first: which grid, what comes back inexactly, how to save a table.
  *
  * GRID. Each call is told three sizes, one for each component of a colour, each from 2, 4, 8, 16, 32, 64, 128.
  * The bin of component c at size s is c * s / 256, rounded down. With sizes b1, b2, b3, bin (r, g, b) stands at place
