@@ -1,140 +1,176 @@
-// The calls. Each is lent the lists as they stand, is given the numbers of its line, and its answer is held to the
-// line.
-use crate::cuts::cut_table;
+// The calls. Each is lent the lists as they stand, is given the numbers of its line, and answers a number, which is
+// held to the last of the line. A new call is a function here, an arm in `call` and one in `kind_of`.
+use crate::cuts::cut_lists;
 use crate::cuts::take_front;
-use crate::lend::bytes_of;
-use crate::lend::counts_of;
+use crate::lend::bytes_at;
+use crate::lend::copy_table;
+use crate::lend::counts_at;
 use crate::lend::put_bytes;
-use crate::lend::table_of;
+use crate::lists::CALLS;
+use crate::lists::FRAME;
+use crate::lists::INDICES;
+use crate::lists::MAP;
+use crate::lists::PALETTE;
+use crate::lists::SECOND;
+use crate::lists::WEIGHTS;
+use crate::lists::agree;
+use crate::lists::least;
 use crate::lists::places_of;
-use crate::script::any;
-use crate::script::call_verb;
-use crate::script::hold;
-use crate::script::letter;
-use crate::script::read_sizes;
+use crate::script;
 use loader::load::load;
 use loader::merge::merge;
 use mapper::call::map;
 use painter::call::paint;
 use std::num::wrapping_add_u64;
+ghost use Prim.Native.Nat.{_<_};
+
+// A number of a line.
+pub(crate) fn number(line: &[u64], at: usize) -> usize {
+    if at < line.len() {
+        line[at] as usize
+    } else {
+        0
+    }
+}
 
 // ---- Load and merge
 
-fn load_lent(
-    text: &[u8],
-    at: &mut usize,
-    m: &mut [u64],
-    list: u8,
-    frame: &[u8],
-    weights: &[u32],
-) -> usize {
-    let s = read_sizes(text, at);
-    let weighted = any(text, at) == 1;
-    let p = places_of(m, list);
-    let start = p.start;
-    let end = p.end;
-    let table = &mut m[start..end];
-    load(s.b1, s.b2, s.b3, table, frame, weighted, weights) as usize
-}
-
-fn load_colours(text: &[u8], at: &mut usize, m: &mut [u64], list: u8, frame: &[u8]) -> usize {
-    let mut numbers = [0; 4095];
-    let n = counts_of(m, b'w', &mut numbers);
-    load_lent(text, at, m, list, frame, &numbers[0..n])
+fn load_lent(line: &[u64], m: &mut [u64], frame: &[u8], weights: &[u32]) -> u8 {
+    let p = places_of(m, number(line, 2) as u64);
+    let s = p.0;
+    let e = p.1;
+    load(
+        number(line, 3),
+        number(line, 4),
+        number(line, 5),
+        &mut m[s..e],
+        frame,
+        number(line, 6) == 1,
+        weights,
+    )
 }
 
 // Loads the frame with the weights into the list that the line names.
-fn load_frame(text: &[u8], at: &mut usize, m: &mut [u64]) -> usize {
-    let list = letter(text, *at);
-    let mut bytes = [0; 4095];
-    let n = bytes_of(m, b'f', &mut bytes);
-    load_colours(text, at, m, list, &bytes[0..n])
+fn load_frame(line: &[u64], m: &mut [u64; 385062]) -> u8 {
+    let mut frame = [0; 32769];
+    let mut weights = [0; 4095];
+    let f = bytes_at(m, FRAME, &mut frame);
+    let w = counts_at(m, WEIGHTS, &mut weights);
+    load_lent(line, m, &frame[0..f], &weights[0..w])
 }
 
-fn merge_second(text: &[u8], at: &mut usize, m: &mut [u64], spare: &mut [u64]) -> usize {
-    let n = table_of(m, b's', spare);
-    let s = read_sizes(text, at);
-    let p = places_of(m, b't');
-    let start = p.start;
-    let end = p.end;
-    merge(s.b1, s.b2, s.b3, &mut m[start..end], &spare[0..n]) as usize
+fn merge_lent(line: &[u64], end: usize, m: &mut [u64]) -> u8 {
+    let t = least(end, line.len());
+    let s = least(16, t);
+    let p = places_of(m, number(line, 2) as u64);
+    let w = p.0;
+    let e = p.1;
+    merge(
+        number(line, 3),
+        number(line, 4),
+        number(line, 5),
+        &mut m[w..e],
+        &line[s..t],
+    )
+}
+
+fn merge_second(line: &mut [u64; 163857], m: &mut [u64; 385062]) -> u8 {
+    let end = copy_table(m, SECOND, line);
+    merge_lent(line, end, m)
 }
 
 // ---- Map and paint
 
-fn map_lent(text: &[u8], at: &mut usize, lent: &[u8], frame: &[u8], indices: &mut [u8]) -> usize {
-    let s = read_sizes(text, at);
-    let k = any(text, at);
-    let i = any(text, at);
-    let j = any(text, at);
-    map(s.b1, s.b2, s.b3, lent, k, frame, indices, i, j) as usize
+fn map_frame(line: &[u64], m: &mut [u64; 385062], lent: &[u8]) -> u8 {
+    let mut frame = [0; 32769];
+    let mut indices = [0; 32769];
+    let f = bytes_at(m, FRAME, &mut frame);
+    let n = bytes_at(m, INDICES, &mut indices);
+    let x = map(
+        number(line, 3),
+        number(line, 4),
+        number(line, 5),
+        lent,
+        number(line, 6),
+        &frame[0..f],
+        &mut indices[0..n],
+        number(line, 7),
+        number(line, 8),
+    );
+    put_bytes(m, INDICES, &indices, n);
+    x
 }
 
-fn map_pixels(text: &[u8], at: &mut usize, m: &mut [u64], lent: &[u8], frame: &[u8]) -> usize {
-    let mut bytes = [0; 4095];
-    let n = bytes_of(m, b'i', &mut bytes);
-    let indices = &mut bytes[0..n];
-    let number = map_lent(text, at, lent, frame, indices);
-    put_bytes(m, b'i', indices);
-    number
+fn paint_frame(line: &[u64], m: &mut [u64; 385062], lent: &[u8]) -> u8 {
+    let mut palette = [0; 32769];
+    let mut frame = [0; 32769];
+    let p = bytes_at(m, PALETTE, &mut palette);
+    let n = bytes_at(m, FRAME, &mut frame);
+    let x = paint(
+        number(line, 3),
+        number(line, 4),
+        number(line, 5),
+        lent,
+        &palette[0..p],
+        &mut frame[0..n],
+        number(line, 6),
+        number(line, 7),
+    );
+    put_bytes(m, FRAME, &frame, n);
+    x
 }
 
-fn paint_lent(text: &[u8], at: &mut usize, lent: &[u8], palette: &[u8], frame: &mut [u8]) -> usize {
-    let s = read_sizes(text, at);
-    let i = any(text, at);
-    let j = any(text, at);
-    paint(s.b1, s.b2, s.b3, lent, palette, frame, i, j) as usize
-}
-
-fn paint_pixels(text: &[u8], at: &mut usize, m: &[u64], lent: &[u8], frame: &mut [u8]) -> usize {
-    let mut colours = [0; 4095];
-    let n = bytes_of(m, b'p', &mut colours);
-    paint_lent(text, at, lent, &colours[0..n], frame)
-}
-
-// Lends the frame to a map, or to a paint, which writes it.
-fn with_frame(text: &[u8], at: &mut usize, m: &mut [u64], lent: &[u8], paints: bool) -> usize {
-    let mut pixels = [0; 4095];
-    let n = bytes_of(m, b'f', &mut pixels);
-    let frame = &mut pixels[0..n];
-    if !paints {
-        return map_pixels(text, at, m, lent, frame);
+// Lends the map to a map, or to a paint.
+fn with_map(line: &[u64], m: &mut [u64; 385062], paints: bool) -> u8 {
+    let mut lent = [0; 32769];
+    let n = bytes_at(m, MAP, &mut lent);
+    if paints {
+        return paint_frame(line, m, &lent[0..n]);
     }
-    let number = paint_pixels(text, at, m, lent, frame);
-    put_bytes(m, b'f', frame);
-    number
-}
-
-fn with_map(text: &[u8], at: &mut usize, m: &mut [u64], paints: bool) -> usize {
-    let mut bytes = [0; 32769];
-    let n = bytes_of(m, b'm', &mut bytes);
-    with_frame(text, at, m, &bytes[0..n], paints)
+    map_frame(line, m, &lent[0..n])
 }
 
 // ---- A line with a call
 
-// Makes the call of a kind, and gives its answer.
-fn call(text: &[u8], at: &mut usize, m: &mut [u64], spare: &mut [u64], kind: usize) -> usize {
-    match kind {
-        0 => load_frame(text, at, m),
-        1 => merge_second(text, at, m, spare),
-        2 => cut_table(text, at, m, spare),
-        3 => take_front(text, at, m),
-        4 => with_map(text, at, m, false),
-        _ => with_map(text, at, m, true),
+// Which call it is, and where its answer stands in the line.
+struct Kind(usize, usize);
+
+fn kind_of(word: u64) -> Kind
+    ensures { λ r. ⌜ (r .0 < 7) × (r .1 < 16) ⌝ }
+{
+    match word {
+        script::LOAD => Kind(0, 7),
+        script::MERGE => Kind(1, 6),
+        script::CUT => Kind(2, 7),
+        script::FRONT => Kind(3, 4),
+        script::MAP => Kind(4, 9),
+        script::PAINT => Kind(5, 8),
+        _ => Kind(6, 0),
     }
 }
 
-// Makes the call of a line, holds its answer to the line, and counts it.
-pub(crate) fn make(
-    text: &[u8],
-    at: &mut usize,
-    tally: &mut [u64; 6],
-    m: &mut [u64],
-    spare: &mut [u64],
-) {
-    let kind = call_verb(text, at);
-    let number = call(text, at, m, spare, kind);
-    hold(text, at, 0, number as u64);
-    tally[kind] = wrapping_add_u64(tally[kind], 1);
+// Makes the call of a kind, and answers its number.
+fn call(kind: usize, line: &mut [u64; 163857], m: &mut [u64; 385062]) -> u64 {
+    match kind {
+        0 => wide(load_frame(line, m)),
+        1 => wide(merge_second(line, m)),
+        2 => wide(cut_lists(line, m)),
+        3 => take_front(line, m),
+        4 => wide(with_map(line, m, false)),
+        5 => wide(with_map(line, m, true)),
+        _ => 0,
+    }
+}
+
+fn wide(n: u8) -> u64 {
+    n as u64
+}
+
+// Makes the call of a line, counts it, and holds its number.
+pub(crate) fn make(line: &mut [u64; 163857], m: &mut [u64; 385062]) -> bool {
+    let k = kind_of(line[1]);
+    let kind = k.0;
+    m[0] = call(kind, line, m);
+    m[CALLS + 1 + kind] = wrapping_add_u64(m[CALLS + 1 + kind], 1);
+    agree(line, k.1, m, 0, 1)
 }

@@ -1,19 +1,25 @@
 // A cut, with its record as a list, and the filled front of a palette.
-use crate::lend::bytes_of;
-use crate::lend::counts_of;
-use crate::lend::least;
+use crate::calls::number;
+use crate::lend::bytes_at;
+use crate::lend::copy_table;
+use crate::lend::counts_at;
 use crate::lend::put_bytes;
 use crate::lend::put_counts;
-use crate::lend::table_of;
+use crate::lists::COUNTS;
+use crate::lists::MAP;
+use crate::lists::PALETTE;
+use crate::lists::RECORD;
+use crate::lists::SECOND_NAME;
+use crate::lists::TABLE;
+use crate::lists::least;
 use crate::lists::places_of;
-use crate::lists::set_length;
-use crate::script::any;
-use crate::script::hold;
-use crate::script::read_sizes;
 use cutter::call::CutRecord;
 use cutter::call::cut;
 use cutter::palette::front;
 use rounds::gather::BoxSpread;
+ghost use Prim.Native.Nat.{_≤_, _<_};
+
+// ---- The record
 
 // The bits of a float, or those of a NaN.
 fn bits(x: f64) -> u64 {
@@ -37,108 +43,87 @@ fn numbers_of(x: BoxSpread) -> [u64; 7] {
     ]
 }
 
-// Writes every place of the record of a cut, those past the last box too.
-fn put_boxes(list: &mut [u64], r: CutRecord) {
-    let n = least(list.len(), 1792);
-    let mut i = 0;
-    while i < n {
-        let numbers = numbers_of(r.places[i / 7]);
-        list[i] = numbers[i % 7];
-        i = i + 1;
+fn put(m: &mut [u64], at: usize, n: u64) {
+    if at < m.len() {
+        m[at] = n;
     }
 }
 
-// Makes the record of a cut a list.
-fn set_boxes(m: &mut [u64], r: CutRecord) {
-    set_length(m, b'b', 1792);
-    let p = places_of(m, b'b');
-    let start = p.start;
-    let end = p.end;
-    put_boxes(&mut m[start..end], r);
+// Makes the record of a cut a list: how many boxes there are, and every place, those past the last box too.
+fn put_record(m: &mut [u64], r: CutRecord) {
+    if m.len() < 385062 {
+        return;
+    }
+    let mut i = 0;
+    while i < 1792 {
+        let numbers = numbers_of(r.places[i / 7]);
+        m[RECORD + 2 + i] = numbers[i % 7];
+        i = i + 1;
+    }
+    put(m, RECORD, 1793);
+    put(m, RECORD + 1, r.boxes as u64);
 }
 
-// Cuts a table, with the second table as work table.
+// ---- The cut
+
+// Cuts the copy of a table, which ends at a place, with the second table as work table.
 fn cut_lent(
-    text: &[u8],
-    at: &mut usize,
+    line: &[u64],
+    end: usize,
     m: &mut [u64],
-    table: &[u64],
     palette: &mut [u8],
     counts: &mut [u32],
-    lent: &mut [u8],
-) -> CutRecord {
-    let s = read_sizes(text, at);
-    let k = any(text, at);
-    let p = places_of(m, b's');
-    let start = p.start;
-    let end = p.end;
-    let work = &mut m[start..end];
-    cut(s.b1, s.b2, s.b3, k, table, work, palette, counts, lent)
+    map: &mut [u8],
+) -> u8 {
+    let t = least(end, line.len());
+    let s = least(16, t);
+    let p = places_of(m, SECOND_NAME);
+    let w = p.0;
+    let e = p.1;
+    let r = cut(
+        number(line, 3),
+        number(line, 4),
+        number(line, 5),
+        number(line, 6),
+        &line[s..t],
+        &mut m[w..e],
+        palette,
+        counts,
+        map,
+    );
+    put_record(m, r);
+    r.number
 }
 
-// Each of the next three lends one list more.
-fn with_map(
-    text: &[u8],
-    at: &mut usize,
-    m: &mut [u64],
-    table: &[u64],
-    palette: &mut [u8],
-    counts: &mut [u32],
-) -> CutRecord {
-    let mut bytes = [0; 32769];
-    let n = bytes_of(m, b'm', &mut bytes);
-    let lent = &mut bytes[0..n];
-    let r = cut_lent(text, at, m, table, palette, counts, lent);
-    put_bytes(m, b'm', lent);
-    r
+// Lends counts and map.
+fn cut_into(line: &mut [u64; 163857], m: &mut [u64; 385062], palette: &mut [u8]) -> u8 {
+    let mut counts = [0; 4095];
+    let mut map = [0; 32769];
+    let t = copy_table(m, TABLE, line);
+    let c = counts_at(m, COUNTS, &mut counts);
+    let n = bytes_at(m, MAP, &mut map);
+    let x = cut_lent(line, t, m, palette, &mut counts[0..c], &mut map[0..n]);
+    put_counts(m, COUNTS, &counts, c);
+    put_bytes(m, MAP, &map, n);
+    x
 }
 
-fn with_counts(
-    text: &[u8],
-    at: &mut usize,
-    m: &mut [u64],
-    table: &[u64],
-    palette: &mut [u8],
-) -> CutRecord {
-    let mut numbers = [0; 4095];
-    let n = counts_of(m, b'c', &mut numbers);
-    let counts = &mut numbers[0..n];
-    let r = with_map(text, at, m, table, palette, counts);
-    put_counts(m, b'c', counts);
-    r
+// Lends the palette, and answers the number.
+pub(crate) fn cut_lists(line: &mut [u64; 163857], m: &mut [u64; 385062]) -> u8 {
+    let mut palette = [0; 32769];
+    let n = bytes_at(m, PALETTE, &mut palette);
+    let x = cut_into(line, m, &mut palette[0..n]);
+    put_bytes(m, PALETTE, &palette, n);
+    x
 }
 
-fn with_palette(text: &[u8], at: &mut usize, m: &mut [u64], table: &[u64]) -> CutRecord {
-    let mut colours = [0; 4095];
-    let n = bytes_of(m, b'p', &mut colours);
-    let palette = &mut colours[0..n];
-    let r = with_counts(text, at, m, table, palette);
-    put_bytes(m, b'p', palette);
-    r
-}
-
-// Cuts the first numbers of a copy of the table.
-fn cut_copy(text: &[u8], at: &mut usize, m: &mut [u64], copy: &[u64], n: usize) -> CutRecord {
-    let t = least(n, copy.len());
-    with_palette(text, at, m, &copy[0..t])
-}
-
-// Cuts a copy of the table, and gives the answer of the record.
-pub(crate) fn cut_table(text: &[u8], at: &mut usize, m: &mut [u64], spare: &mut [u64]) -> usize {
-    let n = table_of(m, b't', spare);
-    let r = cut_copy(text, at, m, spare, n);
-    set_boxes(m, r);
-    hold(text, at, 1, r.boxes as u64);
-    r.number as usize
-}
+// ---- The front
 
 // Makes the palette its filled front, and answers how many bytes that has.
-pub(crate) fn take_front(text: &[u8], at: &mut usize, m: &mut [u64]) -> usize {
-    let mut colours = [0; 4095];
-    let n = bytes_of(m, b'p', &mut colours);
-    let boxes = any(text, at);
-    let filled = front(&colours[0..n], boxes);
-    set_length(m, b'p', filled.len());
-    put_bytes(m, b'p', filled);
-    filled.len()
+pub(crate) fn take_front(line: &[u64], m: &mut [u64; 385062]) -> u64 {
+    let mut palette = [0; 32769];
+    let n = bytes_at(m, PALETTE, &mut palette);
+    let filled = front(&palette[0..n], number(line, 3)).len();
+    m[PALETTE] = filled as u64;
+    filled as u64
 }

@@ -1,117 +1,179 @@
-// The lists that calls are lent and fill, each told by the first letter of its name, in one memory: its length, and
-// then its numbers.
-use crate::script::any;
-use crate::script::letter;
-use crate::script::lose;
-use crate::script::number;
-use crate::script::passed;
+// The lists that calls are lent and fill, by name, in one memory: the length of each, and then its numbers.
+use crate::tell;
+use std::num::wrapping_add_u64;
 ghost use Prim.Native.Nat.{_+_, _≤_, _<_};
 ghost use lib.ListN.{length};
+ghost use Rattle.replay.specs.Lists.{FirstDifference};
 
-// ---- Where a list stands
+// Where a list that the calls know stands. Before the first are the number that the last call answered, and the sums.
+pub(crate) const SUMS: usize = 1;
 
-// The place of its length, and how many numbers there is room for behind that.
-struct Area(usize, usize);
+pub(crate) const CALLS: usize = 16;
 
-fn area_of(list: u8) -> Area
-    ensures { λ r. ⌜ r .0 + r .1 < 385030 ⌝ }
+pub(crate) const PALETTE: usize = 32;
+
+pub(crate) const FRAME: usize = 4128;
+
+pub(crate) const INDICES: usize = 8224;
+
+pub(crate) const COUNTS: usize = 12320;
+
+pub(crate) const WEIGHTS: usize = 16416;
+
+pub(crate) const RECORD: usize = 20512;
+
+pub(crate) const MAP: usize = 24608;
+
+pub(crate) const TABLE: usize = 57378;
+
+pub(crate) const SECOND: usize = 221220;
+
+// The name of the second table.
+pub(crate) const SECOND_NAME: u64 = 0x7365636f6e64;
+
+// Where the list of a name stands, and how many numbers there is room for behind its length.
+pub(crate) struct Area(pub(crate) usize, pub(crate) usize);
+
+pub(crate) fn area_of(name: u64) -> Area
+    ensures { λ r. ⌜ (r .0 + r .1 < 385062) × (r .1 < 163842) ⌝ }
 {
-    match list {
-        b't' => Area(0, 163841),
-        b's' => Area(163842, 163841),
-        b'm' => Area(327684, 32769),
-        b'p' => Area(360454, 4095),
-        b'f' => Area(364550, 4095),
-        b'i' => Area(368646, 4095),
-        b'c' => Area(372742, 4095),
-        b'w' => Area(376838, 4095),
-        b'b' => Area(380934, 4095),
-        _ => Area(0, 0),
+    match name {
+        0x7461626c65 => Area(TABLE, 163841),
+        SECOND_NAME => Area(SECOND, 163841),
+        0x6d6170 => Area(MAP, 32769),
+        0x70616c65747465 => Area(PALETTE, 4095),
+        0x6672616d65 => Area(FRAME, 4095),
+        0x696e6469636573 => Area(INDICES, 4095),
+        0x636f756e7473 => Area(COUNTS, 4095),
+        0x77656967687473 => Area(WEIGHTS, 4095),
+        0x7265636f7264 => Area(RECORD, 4095),
+        0x63616c6c73 => Area(CALLS, 15),
+        _ => Area(15, 0),
     }
+}
+
+pub(crate) fn least(a: usize, b: usize) -> usize
+    ensures { λ r. ⌜ (r ≤ a) × (r ≤ b) ⌝ }
+{
+    if a < b { a } else { b }
+}
+
+// The length of the list at a place.
+pub(crate) fn length_at(m: &[u64; 385062], at: usize, most: usize) -> usize
+    requires { ⌜ at < 385062 ⌝ }
+    ensures { λ r. ⌜ r ≤ most ⌝ }
+{
+    least(m[at] as usize, most)
+}
+
+// ---- Comparing
+
+// The first of so many places at which a line differs from the memory, or how many there are.
+fn first_difference(
+    line: &[u64; 163857],
+    at: usize,
+    m: &[u64; 385062],
+    from: usize,
+    n: usize,
+) -> usize
+    requires { ⌜ (at + n ≤ 163857) × (from + n ≤ 385062) ⌝ }
+    ensures { λ r. ⌜ FirstDifference (now (line .entry)) at (now (m .entry)) from n r ⌝ }
+{
+    let mut i = 0;
+    while i < n && line[at + i] == m[from + i] {
+        i = i + 1;
+    }
+    i
+}
+
+// Holds so many numbers of the memory to the last of a line, of which the first is at a place.
+pub(crate) fn agree(
+    line: &[u64; 163857],
+    at: usize,
+    m: &[u64; 385062],
+    from: usize,
+    n: usize,
+) -> bool
+    requires { ⌜ (at + n ≤ 163857) × (from + n ≤ 385062) ⌝ }
+{
+    let end = (at + n) as u64;
+    if line[0] != end {
+        tell::difference(0, end, line[0]);
+        return false;
+    }
+    let p = first_difference(line, at, m, from, n);
+    if p < n {
+        tell::difference(p + 1, m[from + p], line[at + p]);
+    }
+    p == n
+}
+
+// Holds a list to the one that the line has.
+pub(crate) fn hold(line: &[u64; 163857], m: &[u64; 385062]) -> bool {
+    let a = area_of(line[2]);
+    let n = length_at(m, a.0, a.1);
+    agree(line, 3, m, a.0, n + 1)
+}
+
+// ---- Setting
+
+fn copy(line: &[u64; 163857], m: &mut [u64; 385062], from: usize, n: usize)
+    requires { ⌜ (from + n < 385062) × (n < 163842) ⌝ }
+{
+    m[from] = n as u64;
+    let mut i = 0;
+    while i < n {
+        i = i + 1;
+        m[from + i] = line[3 + i];
+    }
+}
+
+// Sets a list to the one that the line has.
+pub(crate) fn set(line: &[u64; 163857], m: &mut [u64; 385062]) -> bool {
+    let a = area_of(line[2]);
+    copy(line, m, a.0, least(line[3] as usize, a.1));
+    hold(line, m)
+}
+
+// ---- Long lists
+
+// Puts the length of a list, the sum of its numbers, and the sum of the sums up to each of them, both modulo 2^64.
+fn put_sums(m: &mut [u64; 385062], from: usize, n: usize)
+    requires { ⌜ from + n < 385062 ⌝ }
+{
+    let mut sum = 0;
+    let mut sums = 0;
+    let mut i = 0;
+    while i < n {
+        i = i + 1;
+        sum = wrapping_add_u64(sum, m[from + i]);
+        sums = wrapping_add_u64(sums, sum);
+    }
+    m[1] = n as u64;
+    m[2] = sum;
+    m[3] = sums;
+}
+
+// Holds the length of a list and the two sums to those of the line.
+pub(crate) fn hold_sums(line: &[u64; 163857], m: &mut [u64; 385062]) -> bool {
+    let a = area_of(line[2]);
+    let from = a.0;
+    let n = length_at(m, from, a.1);
+    put_sums(m, from, n);
+    agree(line, 3, m, SUMS, 3)
 }
 
 // The places of a list, from the first to past the last.
-pub(crate) struct Places {
-    pub(crate) start: usize,
-    pub(crate) end: usize,
-}
+pub(crate) struct Places(pub(crate) usize, pub(crate) usize);
 
-pub(crate) fn places_of(m: &[u64], list: u8) -> Places
-    ensures { λ r. ⌜ (r .start ≤ r .end) × (r .end ≤ length (now (m .entry))) ⌝ }
+pub(crate) fn places_of(m: &[u64], name: u64) -> Places
+    ensures { λ r. ⌜ (r .0 ≤ r .1) × (r .1 ≤ length (now (m .entry))) ⌝ }
 {
-    if m.len() < 385030 {
-        return Places { start: 0, end: 0 };
+    if m.len() < 385062 {
+        return Places(0, 0);
     }
-    let a = area_of(list);
+    let a = area_of(name);
     let from = a.0;
     let start = from + 1;
-    let n = m[from] as usize;
-    if n > a.1 {
-        return Places { start, end: start };
-    }
-    let end = start + n;
-    Places { start, end }
-}
-
-// Gives a list so many places, if there is room.
-pub(crate) fn set_length(m: &mut [u64], list: u8, n: usize) {
-    let a = area_of(list);
-    let from = a.0;
-    if from < m.len() {
-        m[from] = n as u64;
-    }
-}
-
-// ---- Reading
-
-// A value, and how many times more it stands there.
-struct Run {
-    value: u64,
-    left: usize,
-}
-
-// The next value of a list: a number, or before a star one that stands there so many times.
-fn next(text: &[u8], at: &mut usize, r: Run) -> Run {
-    if r.left > 0 {
-        let value = r.value;
-        let left = r.left - 1;
-        return Run { value, left };
-    }
-    let value = any(text, at) as u64;
-    if !passed(text, at, b"*") {
-        return Run { value, left: 0 };
-    }
-    let times = any(text, at);
-    if times == 0 {
-        lose(text, at);
-        return Run { value, left: 0 };
-    }
-    let left = times - 1;
-    Run { value, left }
-}
-
-// Reads as many values as there are places.
-pub(crate) fn read(text: &[u8], at: &mut usize, list: &mut [u64]) {
-    let mut r = Run { value: 0, left: 0 };
-    let mut i = 0;
-    while i < list.len() {
-        r = next(text, at, r);
-        list[i] = r.value;
-        i = i + 1;
-    }
-    if r.left > 0 {
-        lose(text, at);
-    }
-}
-
-// Sets a list to what the line says.
-pub(crate) fn set(text: &[u8], at: &mut usize, m: &mut [u64]) {
-    let list = letter(text, *at);
-    let a = area_of(list);
-    let n = number(text, at, a.1);
-    set_length(m, list, n);
-    let p = places_of(m, list);
-    let start = p.start;
-    let end = p.end;
-    read(text, at, &mut m[start..end]);
+    Places(start, start + least(m[from] as usize, a.1))
 }

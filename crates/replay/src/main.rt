@@ -1,50 +1,51 @@
 // Replays a script of calls, good and refused, and holds what each answers and leaves to the script on standard input.
 // docs/REPLAY.md says what its lines mean and where they come from.
 mod calls;
-mod compare;
 mod cuts;
 mod lend;
 mod lists;
 mod script;
 mod tell;
 
+use crate::script::read_line;
 use libc::STDIN_FILENO;
+ghost use Prim.Native.Nat.{_≤_};
 
-// Does what a line of the script says, up to its end.
-fn line(text: &[u8], at: &mut usize, tally: &mut [u64; 6], m: &mut [u64], spare: &mut [u64]) {
-    match script::list_verb(text, at) {
-        0 => calls::make(text, at, tally, m, spare),
-        1 => script::skip(text, at),
-        2 => lists::set(text, at, m),
-        3 => compare::hold(text, at, m),
-        _ => compare::hold_sums(text, at, m),
+// Does what a line says, and answers whether all agreed.
+fn step(line: &mut [u64; 163857], m: &mut [u64; 385062]) -> bool {
+    match line[1] {
+        script::CASE => true,
+        script::LET => lists::set(line, m),
+        script::IS => lists::hold(line, m),
+        script::SUMS => lists::hold_sums(line, m),
+        _ => calls::make(line, m),
     }
 }
 
-// Replays the script, and tells how many calls there were if all agreed.
-fn replay(text: &[u8], m: &mut [u64], spare: &mut [u64]) {
+// Replays the script up to its end, or to the first line that does not agree.
+fn replay(text: &[u8; 1048576], end: usize, line: &mut [u64; 163857], m: &mut [u64; 385062])
+    requires { ⌜ end ≤ 1048576 ⌝ }
+{
     let mut at = 0;
-    let mut tally = [0; 6];
-    let mut left: usize = 1000000;
-    while left > 0 && at < text.len() {
-        line(text, &mut at, &mut tally, m, spare);
-        script::pass(text, &mut at, b"\n");
-        left = left - 1;
+    let mut lines = 0;
+    let mut agreed = true;
+    while at < end && agreed {
+        at = read_line(text, end, at, line);
+        agreed = step(line, m);
+        lines = lines + 1;
     }
-    if at == text.len() {
-        tell::tally(&tally);
-    }
+    tell::end(lines, agreed && at == end);
 }
 
-fn read_and_replay(space: &mut [u8], m: &mut [u64], spare: &mut [u64]) {
-    let n = io::read_full(STDIN_FILENO, space);
-    replay(&space[0..n], m, spare);
+fn read_and_replay(text: &mut [u8; 1048576], line: &mut [u64; 163857], m: &mut [u64; 385062]) {
+    let end = io::read_full(STDIN_FILENO, text);
+    replay(text, end, line, m);
 }
 
-// Room for a mebibyte of script, for the lists, and for the copy of a table.
+// Room for a mebibyte of script, for a line, and for the lists.
 fn main() {
-    let mut space = [0; 1048576];
-    let mut m = [0; 385030];
-    let mut spare = [0; 163841];
-    read_and_replay(&mut space, &mut m, &mut spare);
+    let mut text = [0; 1048576];
+    let mut line = [0; 163857];
+    let mut m = [0; 385062];
+    read_and_replay(&mut text, &mut line, &mut m);
 }

@@ -1,200 +1,145 @@
-// The script, whole in memory. It is read from its start to its end: words that are due, and numbers, before each of
-// which other words of its line may stand.
-use crate::tell;
+// A line of the script as numbers: how many there are with this one, and then a number for each word and number that
+// counts. A word is the number that its bytes make, the first the highest.
+use crate::lists::least;
 ghost use Prim.Native.Nat.{_≤_, _<_};
 
-// No place of any script: nothing more is read once something did not agree.
-const LOST: usize = usize::MAX;
+// The words that begin a line.
+pub(crate) const CASE: u64 = 0x63617365;
 
-// What is due does not stand here. It is told if it is the first that does not agree.
-pub(crate) fn lose(text: &[u8], at: &mut usize) {
-    if *at != LOST {
-        tell::no_line(text, *at);
-        *at = LOST;
-    }
-}
+pub(crate) const LET: u64 = 0x6c6574;
 
-// Tells what came and what was to come, if it is the first that does not agree.
-pub(crate) fn differs(text: &[u8], at: &mut usize, place: usize, came: u64, due: u64) {
-    if *at != LOST {
-        tell::difference(text, *at, place, came, due);
-        *at = LOST;
-    }
-}
+pub(crate) const IS: u64 = 0x6973;
 
-// ---- Words
+pub(crate) const SUMS: u64 = 0x73756d73;
 
-// The place after a word that stands at a place, or no place.
-fn after(text: &[u8], place: usize, word: &[u8]) -> usize {
-    let mut p = place;
-    let mut i = 0;
-    while i < word.len() {
-        if p >= text.len() {
-            return LOST;
-        }
-        if text[p] != word[i] {
-            return LOST;
-        }
-        p = p + 1;
-        i = i + 1;
-    }
-    p
-}
+pub(crate) const LOAD: u64 = 0x6c6f6164;
 
-// Goes past a word if it stands here, and answers whether it did.
-pub(crate) fn passed(text: &[u8], at: &mut usize, word: &[u8]) -> bool {
-    let place = after(text, *at, word);
-    if place == LOST {
-        return false;
-    }
-    *at = place;
-    true
-}
+pub(crate) const MERGE: u64 = 0x6d65726765;
 
-// Goes past a word that is due.
-pub(crate) fn pass(text: &[u8], at: &mut usize, word: &[u8]) {
-    if !passed(text, at, word) {
-        lose(text, at);
-    }
-}
+pub(crate) const CUT: u64 = 0x637574;
 
-// Which line it is: 1 to 4 for what a list is, or 0 for a call.
-pub(crate) fn list_verb(text: &[u8], at: &mut usize) -> usize {
-    if passed(text, at, b"case ") {
-        return 1;
-    }
-    if passed(text, at, b"let ") {
-        return 2;
-    }
-    if passed(text, at, b"is ") {
-        return 3;
-    }
-    if passed(text, at, b"sums ") {
-        return 4;
-    }
-    0
-}
+pub(crate) const FRONT: u64 = 0x66726f6e74;
 
-// Which call it is, in the order in which they are told.
-pub(crate) fn call_verb(text: &[u8], at: &mut usize) -> usize
-    ensures { λ r. ⌜ r < 6 ⌝ }
-{
-    if passed(text, at, b"load ") {
-        return 0;
-    }
-    if passed(text, at, b"merge ") {
-        return 1;
-    }
-    if passed(text, at, b"cut ") {
-        return 2;
-    }
-    later_verb(text, at)
-}
+pub(crate) const MAP: u64 = 0x6d6170;
 
-fn later_verb(text: &[u8], at: &mut usize) -> usize
-    ensures { λ r. ⌜ r < 6 ⌝ }
-{
-    if passed(text, at, b"front ") {
-        return 3;
-    }
-    if passed(text, at, b"map ") {
-        return 4;
-    }
-    pass(text, at, b"paint ");
-    5
-}
-
-// The letter that stands here.
-pub(crate) fn letter(text: &[u8], at: usize) -> u8 {
-    if at < text.len() { text[at] } else { 0 }
-}
-
-// ---- Numbers
+pub(crate) const PAINT: u64 = 0x7061696e74;
 
 fn is_digit(b: u8) -> bool {
     b'0' <= b && b <= b'9'
 }
 
-// The end of the line, or where there is one the first digit of its rest.
-fn ahead(text: &[u8], place: usize, to_digit: bool) -> usize {
-    let mut p = place;
-    while p < text.len() && text[p] != b'\n' && !(to_digit && is_digit(text[p])) {
-        p = p + 1;
-    }
-    p
-}
-
-// Goes to the end of the line.
-pub(crate) fn skip(text: &[u8], at: &mut usize) {
-    *at = ahead(text, *at, false);
-}
-
 // A number with a digit more. What is too large counts as the largest number.
-fn with_digit(n: usize, b: u8) -> usize {
+fn with_digit(n: u64, b: u8) -> u64 {
     if n > 1844674407370955161 {
-        return usize::MAX;
+        return u64::MAX;
     }
     let tens = 10 * n;
-    let ones = (b % 16) as usize;
-    if usize::MAX - tens < ones {
-        return usize::MAX;
+    let ones = (b % 16) as u64;
+    if u64::MAX - tens < ones {
+        return u64::MAX;
     }
     tens + ones
 }
 
-// A number and the place after it.
-struct Digits {
-    n: usize,
+fn wide(b: u8) -> u64
+    ensures { λ r. ⌜ r < 256 ⌝ }
+{
+    b as u64
+}
+
+// The same, or a word with a letter more.
+fn grown(n: u64, b: u8) -> u64 {
+    if is_digit(b) {
+        return with_digit(n, b);
+    }
+    if n > 72057594037927935 {
+        return u64::MAX;
+    }
+    256 * n + wide(b)
+}
+
+// What stands between two separators, and the place after it.
+struct Word {
+    n: u64,
     end: usize,
 }
 
-fn digits_at(text: &[u8], place: usize) -> Digits {
+// The word or number at a place. A blank, a star and the end of a line separate.
+fn word_at(text: &[u8; 1048576], end: usize, start: usize) -> Word
+    requires { ⌜ (end ≤ 1048576) × (start ≤ 1048576) ⌝ }
+    ensures { λ r. ⌜ (start ≤ r .end) × (r .end ≤ 1048576) ⌝ }
+{
     let mut n = 0;
-    let mut p = place;
-    while p < text.len() && is_digit(text[p]) {
-        n = with_digit(n, text[p]);
+    let mut p = start;
+    while p < end && text[p] > b'*' {
+        n = grown(n, text[p]);
         p = p + 1;
     }
-    Digits { n, end: p }
+    Word { n, end: p }
 }
 
-// The next number of the line. It is due, and is not to be larger than the most.
-pub(crate) fn number(text: &[u8], at: &mut usize, most: usize) -> usize
-    ensures { λ r. ⌜ r ≤ most ⌝ }
+// Repeats the last number, so that it stands there so many times. No line has a number that stands there no times.
+fn repeat(line: &mut [u64; 163857], used: usize, times: u64) -> usize
+    requires { ⌜ (1 ≤ used) × (used ≤ 163857) ⌝ }
+    ensures { λ r. ⌜ (1 ≤ r) × (r ≤ 163857) ⌝ }
 {
-    let start = ahead(text, *at, true);
-    let r = digits_at(text, start);
-    if r.end == start || most < r.n {
-        lose(text, at);
-        return 0;
+    if times == 0 {
+        return 163857;
     }
-    *at = r.end;
-    r.n
-}
-
-// The next number of the line, whatever it is.
-pub(crate) fn any(text: &[u8], at: &mut usize) -> usize {
-    number(text, at, usize::MAX)
-}
-
-// The sizes of a grid, accepted or not.
-pub(crate) struct Sizes {
-    pub(crate) b1: usize,
-    pub(crate) b2: usize,
-    pub(crate) b3: usize,
-}
-
-pub(crate) fn read_sizes(text: &[u8], at: &mut usize) -> Sizes {
-    let b1 = any(text, at);
-    let b2 = any(text, at);
-    let b3 = any(text, at);
-    Sizes { b1, b2, b3 }
-}
-
-// Holds a number that came to the next one of the line.
-pub(crate) fn hold(text: &[u8], at: &mut usize, place: usize, came: u64) {
-    let due = any(text, at) as u64;
-    if due != came {
-        differs(text, at, place, came, due);
+    if times > 163857 {
+        return 163857;
     }
+    let n = line[used - 1];
+    let end = least(used - 1 + times as usize, 163857);
+    let mut k = used;
+    while k < end {
+        line[k] = n;
+        k = k + 1;
+    }
+    k
+}
+
+// Puts a word or a number behind the others, and answers how many there are. From the third on only numbers count.
+fn put(line: &mut [u64; 163857], used: usize, n: u64, first: u8, star: bool) -> usize
+    requires { ⌜ (1 ≤ used) × (used ≤ 163857) ⌝ }
+    ensures { λ r. ⌜ (1 ≤ r) × (r ≤ 163857) ⌝ }
+{
+    if star {
+        return repeat(line, used, n);
+    }
+    if used > 163856 {
+        return used;
+    }
+    if used > 2 && !is_digit(first) {
+        return used;
+    }
+    line[used] = n;
+    used + 1
+}
+
+// Reads the line at a place, and answers the place after its end.
+pub(crate) fn read_line(
+    text: &[u8; 1048576],
+    end: usize,
+    at: usize,
+    line: &mut [u64; 163857],
+) -> usize
+    requires { ⌜ (end ≤ 1048576) × (at ≤ 1048576) ⌝ }
+    ensures { λ r. ⌜ at < r ⌝ }
+{
+    let mut p = at;
+    let mut used = 1;
+    let mut star = false;
+    while p < end && text[p] != b'\n' {
+        let w = word_at(text, end, p);
+        if w.end > p {
+            used = put(line, used, w.n, text[p], star);
+            p = w.end;
+        } else {
+            star = text[p] == b'*';
+            p = p + 1;
+        }
+    }
+    line[0] = used as u64;
+    p + 1
 }

@@ -50,23 +50,26 @@ pub fn cut(grid: Grid, k: usize, l: &mut Lists) -> (u8, Boxes) {
     (number, boxes.take(found).collect())
 }
 
-/// Each of the 256 places as seven numbers; those past the last box are zeros.
-fn places(boxes: &Boxes) -> Vec<u64> {
-    let mut list: Vec<u64> = Vec::with_capacity(7 * PLACES);
+/// The record of a cut as a list: how many boxes there are, and each of the 256 places as seven numbers, zeros past the
+/// last box.
+fn record(boxes: &Boxes) -> Vec<u64> {
+    let mut list = vec![boxes.len() as u64];
     for (ends, spread) in boxes {
         list.extend(ends.map(u64::from));
         list.push(*spread);
     }
-    list.resize(7 * PLACES, 0);
+    list.resize(1 + 7 * PLACES, 0);
     list
 }
 
-/// The line of a cut, and the one of its boxes.
+/// The line of a cut, and the one of its record.
 pub fn write_cut(s: &mut Script, grid: Grid, k: usize, number: u8, boxes: &Boxes) {
-    let ([b1, b2, b3], n) = (grid, boxes.len());
-    let line = format!("{b1} {b2} {b3} k {k} boxes {n} -> {number}");
-    s.call(Kind::Cut, &line);
-    s.whole("boxes", &places(boxes));
+    let [b1, b2, b3] = grid;
+    s.call(
+        Kind::Cut,
+        &format!("table {b1} {b2} {b3} k {k} -> {number}"),
+    );
+    s.whole("record", &record(boxes));
 }
 
 impl Call {
@@ -110,7 +113,7 @@ impl Call {
             }
             Self::Merge => {
                 let number = Model.merge(grid, &mut l.table, &l.second);
-                s.call(Kind::Merge, &format!("{b1} {b2} {b3} -> {number}"));
+                s.call(Kind::Merge, &format!("table {b1} {b2} {b3} -> {number}"));
                 number
             }
             Self::Cut { k } => {
@@ -120,7 +123,7 @@ impl Call {
             }
             Self::Map { colours, band } => {
                 let number = Model.map(grid, &l.map, colours, &l.frame, &mut l.indices, band);
-                let given = format!("{b1} {b2} {b3} colours {colours}");
+                let given = format!("frame {b1} {b2} {b3} colours {colours}");
                 let Band { first, pixels } = band;
                 let line = format!("{given} first {first} pixels {pixels} -> {number}");
                 s.call(Kind::Map, &line);
@@ -129,7 +132,8 @@ impl Call {
             Self::Paint { band } => {
                 let number = Model.paint(grid, &l.map, &l.palette, &mut l.frame, band);
                 let Band { first, pixels } = band;
-                let line = format!("{b1} {b2} {b3} first {first} pixels {pixels} -> {number}");
+                let line =
+                    format!("frame {b1} {b2} {b3} first {first} pixels {pixels} -> {number}");
                 s.call(Kind::Paint, &line);
                 number
             }
@@ -161,6 +165,6 @@ pub fn front(s: &mut Script, boxes: usize, palette: &mut Vec<u8>) {
         3 * boxes
     };
     palette.truncate(n);
-    s.call(Kind::Front, &format!("{boxes} -> {n}"));
+    s.call(Kind::Front, &format!("palette boxes {boxes} -> {n}"));
     s.whole("palette", palette);
 }

@@ -21,11 +21,13 @@ fn main() {
     script.case(&format!(
         "of the rules, and of quantette 0.6.0 with the seed {seed}"
     ));
+    script.set("calls", &[0_u64; 6]);
     calls::write(&mut script);
     for case in cases::all(seed) {
         answers::write(&mut script, &case);
     }
+    script.hold_calls();
     assert!(script.text.len() <= MOST_BYTES, "too many bytes");
     print!("{}", script.text);
-    eprintln!("{}", script.tally());
+    eprintln!("{}", script.agreed());
 }

@@ -1,7 +1,7 @@
 //! The lines of a script: lists that are set, calls with what they answer, and lists that are held.
 use std::fmt::Write as _;
 
-/// The calls, in the order in which `replay` tells how many there were.
+/// The calls, in the order in which the list `calls` has how many there were.
 #[derive(Clone, Copy)]
 pub enum Kind {
     Load,
@@ -14,14 +14,13 @@ pub enum Kind {
 
 const NAMES: [&str; 6] = ["load", "merge", "cut", "front", "map", "paint"];
 
-/// How many numbers `replay` has the room to compare, and how long a line of them may be.
-const MOST_NUMBERS: usize = 4_095;
+/// How long a line of numbers may be that need not be there.
 const LONGEST_LINE: usize = 400;
 
 #[derive(Default)]
 pub struct Script {
     pub text: String,
-    calls: [usize; 6],
+    calls: [u64; 6],
 }
 
 /// The values of a list, each once or with a star and how many times it stands there.
@@ -74,7 +73,7 @@ impl Script {
     /// A list, number by number or, where its line is long, by checksums.
     pub fn held<T: Copy + Into<u64>>(&mut self, name: &str, list: &[T]) {
         let list = numbers(list);
-        if list.len() <= MOST_NUMBERS && values(&list).len() <= LONGEST_LINE {
+        if values(&list).len() <= LONGEST_LINE {
             return self.whole(name, &list);
         }
         let (sum, sums) = checksums(&list);
@@ -87,10 +86,13 @@ impl Script {
         self.calls[kind as usize] += 1;
     }
 
+    /// The line that holds how many calls there were of each kind.
+    pub fn hold_calls(&mut self) {
+        self.whole("calls", &self.calls.clone());
+    }
+
     /// What `replay` writes where all agrees.
-    pub fn tally(&self) -> String {
-        let counts = NAMES.iter().zip(self.calls);
-        let counts: Vec<_> = counts.map(|(name, n)| format!("{name} {n}")).collect();
-        format!("{}: all agreed", counts.join(", "))
+    pub fn agreed(&self) -> String {
+        format!("all agreed, lines: {}", self.text.lines().count())
     }
 }

@@ -1,25 +1,21 @@
--- `replay::lend::counts_of` is safe and ends.
--- The measure is what is left to copy. From turn to turn the copy keeps its length.
+-- `replay::lend::counts_at` is safe and ends.
 -- Assumes nothing.
 use borrow.Author.Needs.{needs}
 use native.Mathlib.Omega.{arith}
 use Prim.Native.Nat.{_-_}
 use mathlib.Core.Path.{_≡_}
 use lib.ListN.{length}
-use Rattle.replay.proofs.lend.counts_of.Statement.{statement}
-use Rattle.replay.proofs.lend.counts_of.Tie as tie
+use Rattle.replay.proofs.lend.counts_at.Statement.{statement}
+use Rattle.replay.proofs.lend.counts_at.Tie as tie
 
 abbrev Inv-loop : tie.InvT-loop
-Inv-loop m list counts₀ start n i₀ counts i = length counts ≡ length counts₀
+Inv-loop m at counts₀ n i₀ counts i = length counts ≡ length counts₀
 
 abbrev μ-loop : tie.MeasureT-loop
-μ-loop m list counts₀ start n i₀ counts i = n - i
+μ-loop m at counts₀ n i₀ counts i = n - i
 
-places-of-requires : tie.Need-places-of-requires Inv-loop μ-loop
-places-of-requires c κs = search needs
-
-sub-least : tie.Need-sub-least Inv-loop μ-loop
-sub-least c = omega arith
+length-at-requires : tie.Need-length-at-requires Inv-loop μ-loop
+length-at-requires c κs = search needs
 
 least-requires : tie.Need-least-requires Inv-loop μ-loop
 least-requires c κs = search needs
@@ -30,11 +26,14 @@ loop-holds c = search needs
 add-counts : tie.Need-add-counts Inv-loop μ-loop
 add-counts c = omega arith
 
+add-counts-2 : tie.Need-add-counts-2 Inv-loop μ-loop
+add-counts-2 c = omega arith
+
 mul-counts : tie.Need-mul-counts Inv-loop μ-loop
 mul-counts c = omega arith
 
-shared-slice-read-counts : tie.Need-shared-slice-read-counts Inv-loop μ-loop
-shared-slice-read-counts c = omega arith
+element-copy-out-counts : tie.Need-element-copy-out-counts Inv-loop μ-loop
+element-copy-out-counts c = omega arith
 
 cast-counts : tie.Need-cast-counts Inv-loop μ-loop
 cast-counts c = search needs
@@ -60,19 +59,19 @@ same-length c = search needs
 returns : tie.Need-returns Inv-loop μ-loop
 returns c = search needs
 
-pub counts-of-spec : {M : Type 1} → statement M
-counts-of-spec =
+pub counts-at-spec : {M : Type 1} → statement M
+counts-at-spec =
     tie.close
     (tie.spec
     Inv-loop
     μ-loop
-    places-of-requires
-    sub-least
+    length-at-requires
     least-requires
     loop-holds
     add-counts
+    add-counts-2
     mul-counts
-    shared-slice-read-counts
+    element-copy-out-counts
     cast-counts
     mul-counts-2
     slice-write-counts

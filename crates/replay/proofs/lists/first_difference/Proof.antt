@@ -1,34 +1,41 @@
--- `replay::compare::first_difference` meets its contract: up to each turn's place the lists are alike.
+-- `replay::lists::first_difference` meets its contract: up to each turn's place the line and the memory are alike.
 -- Assumes nothing.
-use Prim.Native.Nat.{_-_, _≤_}
 use native.Mathlib.Omega.{arith}
 use borrow.Author.Tests.{eqb-true, eqb-false}
 use denote.Ref.{now}
-use lib.ListN.{length}
 use Rattle.replay.proofs.Alike.{Alike, alike-none, alike-next}
-use Rattle.replay.proofs.compare.first_difference.Statement.{statement}
-use Rattle.replay.proofs.compare.first_difference.Tie as tie
+use Prim.Native.Nat.{_-_, _≤_}
+use Rattle.replay.proofs.lists.first_difference.Statement.{statement}
+use Rattle.replay.proofs.lists.first_difference.Tie as tie
 
 abbrev Inv-loop : tie.InvT-loop
-Inv-loop came due i₀ i = (i ≤ length came) × Alike came due i
+Inv-loop line at m from n i₀ i = (i ≤ n) × Alike line at m from i
 
 abbrev μ-loop : tie.MeasureT-loop
-μ-loop came due i₀ i = length came - i
+μ-loop line at m from n i₀ i = n - i
 
 loop-holds : tie.Need-loop-holds Inv-loop μ-loop
-loop-holds c = (omega arith, alike-none (now (c .args .came)) (now (c .args .due)))
+loop-holds c =
+    let a = c .args in
+    (omega arith, alike-none (now (a .line)) (a .at) (now (a .m)) (a .from))
+
+add-if1 : tie.Need-add-if1 Inv-loop μ-loop
+add-if1 c = omega arith
 
 mul-if1 : tie.Need-mul-if1 Inv-loop μ-loop
 mul-if1 c = omega arith
 
-shared-slice-read-if1 : tie.Need-shared-slice-read-if1 Inv-loop μ-loop
-shared-slice-read-if1 c = omega arith
+element-copy-out-if1 : tie.Need-element-copy-out-if1 Inv-loop μ-loop
+element-copy-out-if1 c = omega arith
+
+add-if1-2 : tie.Need-add-if1-2 Inv-loop μ-loop
+add-if1-2 c = omega arith
 
 mul-if1-2 : tie.Need-mul-if1-2 Inv-loop μ-loop
 mul-if1-2 c = omega arith
 
-shared-slice-read-if1-2 : tie.Need-shared-slice-read-if1-2 Inv-loop μ-loop
-shared-slice-read-if1-2 c = omega arith
+element-copy-out-if1-2 : tie.Need-element-copy-out-if1-2 Inv-loop μ-loop
+element-copy-out-if1-2 c = omega arith
 
 add-i : tie.Need-add-i Inv-loop μ-loop
 add-i c = omega arith
@@ -40,7 +47,8 @@ loop-again : tie.Need-loop-again Inv-loop μ-loop
 loop-again c =
     let l = c .before .before .before .before .loop in
     let a = c .before .before .before .before .before .args in
-    (omega arith, alike-next (now (a .came)) (now (a .due)) (l .i) (eqb-true _ _ (c .if1 .taken)) (l .inv .1))
+    let e = eqb-true _ _ (c .if1 .taken) in
+    (omega arith, alike-next (now (a .line)) (a .at) (now (a .m)) (a .from) (l .i) e (l .inv .1))
 
 returns : tie.Need-returns Inv-loop μ-loop
 returns c =
@@ -59,10 +67,12 @@ first-difference-spec =
     Inv-loop
     μ-loop
     loop-holds
+    add-if1
     mul-if1
-    shared-slice-read-if1
+    element-copy-out-if1
+    add-if1-2
     mul-if1-2
-    shared-slice-read-if1-2
+    element-copy-out-if1-2
     add-i
     loop-less
     loop-again

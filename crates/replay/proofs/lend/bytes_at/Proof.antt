@@ -1,25 +1,21 @@
--- `replay::lend::bytes_of` is safe and ends.
--- The measure is what is left to copy. From turn to turn the copy keeps its length.
+-- `replay::lend::bytes_at` is safe and ends.
 -- Assumes nothing.
 use borrow.Author.Needs.{needs}
 use native.Mathlib.Omega.{arith}
 use Prim.Native.Nat.{_-_}
 use mathlib.Core.Path.{_≡_}
 use lib.ListN.{length}
-use Rattle.replay.proofs.lend.bytes_of.Statement.{statement}
-use Rattle.replay.proofs.lend.bytes_of.Tie as tie
+use Rattle.replay.proofs.lend.bytes_at.Statement.{statement}
+use Rattle.replay.proofs.lend.bytes_at.Tie as tie
 
 abbrev Inv-loop : tie.InvT-loop
-Inv-loop m list bytes₀ start n i₀ bytes i = length bytes ≡ length bytes₀
+Inv-loop m at bytes₀ n i₀ bytes i = length bytes ≡ length bytes₀
 
 abbrev μ-loop : tie.MeasureT-loop
-μ-loop m list bytes₀ start n i₀ bytes i = n - i
+μ-loop m at bytes₀ n i₀ bytes i = n - i
 
-places-of-requires : tie.Need-places-of-requires Inv-loop μ-loop
-places-of-requires c κs = search needs
-
-sub-least : tie.Need-sub-least Inv-loop μ-loop
-sub-least c = omega arith
+length-at-requires : tie.Need-length-at-requires Inv-loop μ-loop
+length-at-requires c κs = search needs
 
 least-requires : tie.Need-least-requires Inv-loop μ-loop
 least-requires c κs = search needs
@@ -30,11 +26,14 @@ loop-holds c = search needs
 add-bytes : tie.Need-add-bytes Inv-loop μ-loop
 add-bytes c = omega arith
 
+add-bytes-2 : tie.Need-add-bytes-2 Inv-loop μ-loop
+add-bytes-2 c = omega arith
+
 mul-bytes : tie.Need-mul-bytes Inv-loop μ-loop
 mul-bytes c = omega arith
 
-shared-slice-read-bytes : tie.Need-shared-slice-read-bytes Inv-loop μ-loop
-shared-slice-read-bytes c = omega arith
+element-copy-out-bytes : tie.Need-element-copy-out-bytes Inv-loop μ-loop
+element-copy-out-bytes c = omega arith
 
 cast-bytes : tie.Need-cast-bytes Inv-loop μ-loop
 cast-bytes c = search needs
@@ -57,19 +56,19 @@ same-length c = search needs
 returns : tie.Need-returns Inv-loop μ-loop
 returns c = search needs
 
-pub bytes-of-spec : {M : Type 1} → statement M
-bytes-of-spec =
+pub bytes-at-spec : {M : Type 1} → statement M
+bytes-at-spec =
     tie.close
     (tie.spec
     Inv-loop
     μ-loop
-    places-of-requires
-    sub-least
+    length-at-requires
     least-requires
     loop-holds
     add-bytes
+    add-bytes-2
     mul-bytes
-    shared-slice-read-bytes
+    element-copy-out-bytes
     cast-bytes
     slice-write-bytes
     add-i
