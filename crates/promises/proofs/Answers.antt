@@ -23,7 +23,7 @@ use Rattle.boxes.specs.Box.{Within}
 use Rattle.spread.specs.Cut.{positionAnswer, bestCut}
 use Rattle.spread.specs.Best.{Candidate, Tells}
 use Rattle.spread.proofs.Least.{best-told}
-use Rattle.promises.specs.Answers.{Among, NotAmong, ShiftTold, GridTold, WeighedTold}
+use Rattle.promises.specs.Answers.{Among, NotAmong, ShiftTold, GridTold, SoundTold}
 use Rattle.promises.proofs.Each.{each}
 
 -- ---- a size
@@ -82,9 +82,9 @@ grid-told b1 b2 b3 =
     }
 
 -- ---- a table
-pub weighed-told : (g : Grid) (v : View)
-    → WeighedTold (sound limit g v) (total g v) (soundAnswer (soundTotal limit g v))
-weighed-told g v =
+pub sound-told : (g : Grid) (v : View)
+    → SoundTold (sound limit g v) (total g v) (soundAnswer (soundTotal limit g v))
+sound-told g v =
     record {
       done = λ e. ap soundAnswer (total-told limit g v e);
       refused = λ e. ap soundAnswer (unsound-told limit g v e);

@@ -33,6 +33,6 @@ pub record GridTold (b1 b2 b3 : ℕ) (a : Answer) : Type 0 where
   pub refused : NotAmong b1 ⊎ (NotAmong b2 ⊎ NotAmong b3) → a ≡ refusedBy 1
 
 -- of a table: the total of a sound one, or 6, "a table is not sound"
-pub record WeighedTold (is-sound : Bool) (total : ℕ) (a : Answer) : Type 0 where
+pub record SoundTold (is-sound : Bool) (total : ℕ) (a : Answer) : Type 0 where
   pub done : is-sound ≡ true → a ≡ answered (total ∷ [])
   pub refused : is-sound ≡ false → a ≡ refusedBy 6

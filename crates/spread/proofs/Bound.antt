@@ -305,8 +305,8 @@ module _ {n a b c sq : ℕ} (box : Numbers n a b c sq) where
   unfolding z
   z-few = omega (arith, near-double (lit≤ tt) (q .near), v-few, box .some)
 
-  viewOf : (z * U ≡ 0) ⊎ (2 ^ 1042 * n ≤ z * U)
-  viewOf = zero-or-wide z n (box .most)
+  wide : (z * U ≡ 0) ⊎ (2 ^ 1042 * n ≤ z * U)
+  wide = zero-or-wide z n (box .most)
 
   -- Q / n in the smallest values
   pub w : ℕ
@@ -322,11 +322,11 @@ module _ {n a b c sq : ℕ} (box : Numbers n a b c sq) where
 
   w-near : Near 67 (w * n) (v * U)
   unfolding w z
-  w-near = again (lit≤ tt) (near-scale U (q .near)) (rounded-or-zero (z * U) n (box .some) (narrow z n viewOf))
+  w-near = again (lit≤ tt) (near-scale U (q .near)) (rounded-or-zero (z * U) n (box .some) (narrow z n wide))
 
   w-parts : Multiple 990 w
   unfolding w
-  w-parts = coarse-or-zero 990 1042 (z * U) n (box .some) (lit≤ tt) viewOf
+  w-parts = coarse-or-zero 990 1042 (z * U) n (box .some) (lit≤ tt) wide
 
   pub w-lt : w < 2 ^ 1124
   w-lt =
