@@ -3,10 +3,10 @@
 use crate::cuts::cut_lists;
 use crate::cuts::take_front;
 use crate::lend::bytes_at;
-use crate::lend::copy_table;
+use crate::lend::bytes_to_fill;
 use crate::lend::counts_at;
 use crate::lend::put_bytes;
-use crate::lists::CALLS;
+use crate::lend::table_at;
 use crate::lists::FRAME;
 use crate::lists::INDICES;
 use crate::lists::MAP;
@@ -14,8 +14,7 @@ use crate::lists::PALETTE;
 use crate::lists::SECOND;
 use crate::lists::WEIGHTS;
 use crate::lists::agree;
-use crate::lists::least;
-use crate::lists::places_of;
+use crate::lists::list_of;
 use crate::script;
 use loader::load::load;
 use loader::merge::merge;
@@ -24,8 +23,7 @@ use painter::call::paint;
 use std::num::wrapping_add_u64;
 ghost use Prim.Native.Nat.{_<_};
 
-// A number of a line.
-pub(crate) fn number(line: &[u64], at: usize) -> usize {
+fn number(line: &[u64], at: usize) -> usize {
     if at < line.len() {
         line[at] as usize
     } else {
@@ -33,131 +31,116 @@ pub(crate) fn number(line: &[u64], at: usize) -> usize {
     }
 }
 
+// The numbers of a call's line: its list, its grid, and the three that follow.
+pub(crate) struct Numbers {
+    pub(crate) list: usize,
+    pub(crate) b1: usize,
+    pub(crate) b2: usize,
+    pub(crate) b3: usize,
+    pub(crate) n6: usize,
+    pub(crate) n7: usize,
+    pub(crate) n8: usize,
+}
+
+fn numbers_in(line: &[u64]) -> Numbers {
+    Numbers {
+        list: number(line, 2),
+        b1: number(line, 3),
+        b2: number(line, 4),
+        b3: number(line, 5),
+        n6: number(line, 6),
+        n7: number(line, 7),
+        n8: number(line, 8),
+    }
+}
+
 // ---- Load and merge
 
-fn load_lent(line: &[u64], m: &mut [u64], frame: &[u8], weights: &[u32]) -> u8 {
-    let p = places_of(m, number(line, 2) as u64);
-    let s = p.0;
-    let e = p.1;
-    load(
-        number(line, 3),
-        number(line, 4),
-        number(line, 5),
-        &mut m[s..e],
-        frame,
-        number(line, 6) == 1,
-        weights,
-    )
+fn load_lent(n: Numbers, m: &mut [u64], frame: &[u8], weights: &[u32]) -> u8 {
+    let table = list_of(m, n.list as u64);
+    load(n.b1, n.b2, n.b3, table, frame, n.n6 == 1, weights)
 }
 
 // Loads the frame with the weights into the list that the line names.
-fn load_frame(line: &[u64], m: &mut [u64; 385062]) -> u8 {
-    let mut frame = [0; 32769];
-    let mut weights = [0; 4095];
-    let f = bytes_at(m, FRAME, &mut frame);
-    let w = counts_at(m, WEIGHTS, &mut weights);
-    load_lent(line, m, &frame[0..f], &weights[0..w])
+fn load_frame(n: Numbers, m: &mut [u64; 385062]) -> u64 {
+    let mut frame_room = [0; 32769];
+    let mut weight_room = [0; 4095];
+    let frame = bytes_at(m, FRAME, &mut frame_room);
+    let weights = counts_at(m, WEIGHTS, &mut weight_room);
+    wide(load_lent(n, m, frame, weights))
 }
 
-fn merge_lent(line: &[u64], end: usize, m: &mut [u64]) -> u8 {
-    let t = least(end, line.len());
-    let s = least(16, t);
-    let p = places_of(m, number(line, 2) as u64);
-    let w = p.0;
-    let e = p.1;
-    merge(
-        number(line, 3),
-        number(line, 4),
-        number(line, 5),
-        &mut m[w..e],
-        &line[s..t],
-    )
+fn merge_lent(n: Numbers, m: &mut [u64], second: &[u64]) -> u8 {
+    let table = list_of(m, n.list as u64);
+    merge(n.b1, n.b2, n.b3, table, second)
 }
 
-fn merge_second(line: &mut [u64; 163857], m: &mut [u64; 385062]) -> u8 {
-    let end = copy_table(m, SECOND, line);
-    merge_lent(line, end, m)
+// Adds the second table to the list that the line names.
+fn merge_second(n: Numbers, line: &mut [u64], m: &mut [u64; 385062]) -> u64 {
+    let second = table_at(m, SECOND, line);
+    wide(merge_lent(n, m, second))
 }
 
 // ---- Map and paint
 
-fn map_frame(line: &[u64], m: &mut [u64; 385062], lent: &[u8]) -> u8 {
-    let mut frame = [0; 32769];
-    let mut indices = [0; 32769];
-    let f = bytes_at(m, FRAME, &mut frame);
-    let n = bytes_at(m, INDICES, &mut indices);
-    let x = map(
-        number(line, 3),
-        number(line, 4),
-        number(line, 5),
-        lent,
-        number(line, 6),
-        &frame[0..f],
-        &mut indices[0..n],
-        number(line, 7),
-        number(line, 8),
-    );
-    put_bytes(m, INDICES, &indices, n);
-    x
+fn map_frame(n: Numbers, m: &mut [u64; 385062], lent: &[u8]) -> u64 {
+    let mut frame_room = [0; 32769];
+    let mut index_room = [0; 32769];
+    let frame = bytes_at(m, FRAME, &mut frame_room);
+    let indices = bytes_to_fill(m, INDICES, &mut index_room);
+    let x = map(n.b1, n.b2, n.b3, lent, n.n6, frame, indices, n.n7, n.n8);
+    put_bytes(m, INDICES, indices);
+    wide(x)
 }
 
-fn paint_frame(line: &[u64], m: &mut [u64; 385062], lent: &[u8]) -> u8 {
-    let mut palette = [0; 32769];
-    let mut frame = [0; 32769];
-    let p = bytes_at(m, PALETTE, &mut palette);
-    let n = bytes_at(m, FRAME, &mut frame);
-    let x = paint(
-        number(line, 3),
-        number(line, 4),
-        number(line, 5),
-        lent,
-        &palette[0..p],
-        &mut frame[0..n],
-        number(line, 6),
-        number(line, 7),
-    );
-    put_bytes(m, FRAME, &frame, n);
-    x
+fn paint_frame(n: Numbers, m: &mut [u64; 385062], lent: &[u8]) -> u64 {
+    let mut palette_room = [0; 32769];
+    let mut frame_room = [0; 32769];
+    let palette = bytes_at(m, PALETTE, &mut palette_room);
+    let frame = bytes_to_fill(m, FRAME, &mut frame_room);
+    let x = paint(n.b1, n.b2, n.b3, lent, palette, frame, n.n6, n.n7);
+    put_bytes(m, FRAME, frame);
+    wide(x)
 }
 
 // Lends the map to a map, or to a paint.
-fn with_map(line: &[u64], m: &mut [u64; 385062], paints: bool) -> u8 {
-    let mut lent = [0; 32769];
-    let n = bytes_at(m, MAP, &mut lent);
+fn with_map(n: Numbers, m: &mut [u64; 385062], paints: bool) -> u64 {
+    let mut room = [0; 32769];
+    let lent = bytes_at(m, MAP, &mut room);
     if paints {
-        return paint_frame(line, m, &lent[0..n]);
+        return paint_frame(n, m, lent);
     }
-    map_frame(line, m, &lent[0..n])
+    map_frame(n, m, lent)
 }
 
 // ---- A line with a call
 
-// Which call it is, and where its answer stands in the line.
+// Where the calls of a kind are counted, and where the answer stands in the line.
 struct Kind(usize, usize);
 
 fn kind_of(word: u64) -> Kind
-    ensures { λ r. ⌜ (r .0 < 7) × (r .1 < 16) ⌝ }
+    ensures { λ r. ⌜ (r .0 < 24) × (r .1 < 16) ⌝ }
 {
     match word {
-        script::LOAD => Kind(0, 7),
-        script::MERGE => Kind(1, 6),
-        script::CUT => Kind(2, 7),
-        script::FRONT => Kind(3, 4),
-        script::MAP => Kind(4, 9),
-        script::PAINT => Kind(5, 8),
-        _ => Kind(6, 0),
+        script::LOAD => Kind(17, 7),
+        script::MERGE => Kind(18, 6),
+        script::CUT => Kind(19, 7),
+        script::FRONT => Kind(20, 4),
+        script::MAP => Kind(21, 9),
+        script::PAINT => Kind(22, 8),
+        _ => Kind(23, 0),
     }
 }
 
-// Makes the call of a kind, and answers its number.
-fn call(kind: usize, line: &mut [u64; 163857], m: &mut [u64; 385062]) -> u64 {
-    match kind {
-        0 => wide(load_frame(line, m)),
-        1 => wide(merge_second(line, m)),
-        2 => wide(cut_lists(line, m)),
-        3 => take_front(line, m),
-        4 => wide(with_map(line, m, false)),
-        5 => wide(with_map(line, m, true)),
+// Makes the call of a word, and answers its number.
+fn call(word: u64, n: Numbers, line: &mut [u64; 163857], m: &mut [u64; 385062]) -> u64 {
+    match word {
+        script::LOAD => load_frame(n, m),
+        script::MERGE => merge_second(n, line, m),
+        script::CUT => cut_lists(n, line, m),
+        script::FRONT => take_front(n, m),
+        script::MAP => with_map(n, m, false),
+        script::PAINT => with_map(n, m, true),
         _ => 0,
     }
 }
@@ -166,11 +149,19 @@ fn wide(n: u8) -> u64 {
     n as u64
 }
 
-// Makes the call of a line, counts it, and holds its number.
-pub(crate) fn make(line: &mut [u64; 163857], m: &mut [u64; 385062]) -> bool {
-    let k = kind_of(line[1]);
-    let kind = k.0;
-    m[0] = call(kind, line, m);
-    m[CALLS + 1 + kind] = wrapping_add_u64(m[CALLS + 1 + kind], 1);
+// Keeps the number of a call, and counts the call.
+fn note(m: &mut [u64; 385062], count: usize, x: u64)
+    requires { ⌜ count < 24 ⌝ }
+{
+    m[count] = wrapping_add_u64(m[count], 1);
+    m[0] = x;
+}
+
+// Makes the call of a line, and holds its number.
+pub(crate) fn make(word: u64, line: &mut [u64; 163857], m: &mut [u64; 385062]) -> bool {
+    let k = kind_of(word);
+    let n = numbers_in(line);
+    let x = call(word, n, line, m);
+    note(m, k.0, x);
     agree(line, k.1, m, 0, 1)
 }

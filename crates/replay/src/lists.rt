@@ -8,7 +8,7 @@ ghost use Rattle.replay.specs.Lists.{FirstDifference};
 // Where a list that the calls know stands. Before the first are the number that the last call answered, and the sums.
 pub(crate) const SUMS: usize = 1;
 
-pub(crate) const CALLS: usize = 16;
+const CALLS: usize = 16;
 
 pub(crate) const PALETTE: usize = 32;
 
@@ -97,8 +97,9 @@ pub(crate) fn agree(
     requires { ⌜ (at + n ≤ 163857) × (from + n ≤ 385062) ⌝ }
 {
     let end = (at + n) as u64;
-    if line[0] != end {
-        tell::difference(0, end, line[0]);
+    let due = line[0];
+    if due != end {
+        tell::difference(0, end, due);
         return false;
     }
     let p = first_difference(line, at, m, from, n);
@@ -164,9 +165,9 @@ pub(crate) fn hold_sums(line: &[u64; 163857], m: &mut [u64; 385062]) -> bool {
 }
 
 // The places of a list, from the first to past the last.
-pub(crate) struct Places(pub(crate) usize, pub(crate) usize);
+struct Places(usize, usize);
 
-pub(crate) fn places_of(m: &[u64], name: u64) -> Places
+fn places_of(m: &[u64], name: u64) -> Places
     ensures { λ r. ⌜ (r .0 ≤ r .1) × (r .1 ≤ length (now (m .entry))) ⌝ }
 {
     if m.len() < 385062 {
@@ -176,4 +177,12 @@ pub(crate) fn places_of(m: &[u64], name: u64) -> Places
     let from = a.0;
     let start = from + 1;
     Places(start, start + least(m[from] as usize, a.1))
+}
+
+// The list of a name, for a call to fill.
+pub(crate) fn list_of(m: &mut [u64], name: u64) -> &mut [u64] {
+    let p = places_of(m, name);
+    let start = p.0;
+    let end = p.1;
+    &mut m[start..end]
 }

@@ -13,12 +13,13 @@ ghost use Prim.Native.Nat.{_≤_};
 
 // Does what a line says, and answers whether all agreed.
 fn step(line: &mut [u64; 163857], m: &mut [u64; 385062]) -> bool {
-    match line[1] {
+    let word = line[1];
+    match word {
         script::CASE => true,
         script::LET => lists::set(line, m),
         script::IS => lists::hold(line, m),
         script::SUMS => lists::hold_sums(line, m),
-        _ => calls::make(line, m),
+        _ => calls::make(word, line, m),
     }
 }
 

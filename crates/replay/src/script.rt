@@ -64,6 +64,12 @@ struct Word {
     end: usize,
 }
 
+fn byte_at(text: &[u8; 1048576], p: usize) -> u8
+    requires { ⌜ p < 1048576 ⌝ }
+{
+    text[p]
+}
+
 // The word or number at a place. A blank, a star and the end of a line separate.
 fn word_at(text: &[u8; 1048576], end: usize, start: usize) -> Word
     requires { ⌜ (end ≤ 1048576) × (start ≤ 1048576) ⌝ }
@@ -71,8 +77,8 @@ fn word_at(text: &[u8; 1048576], end: usize, start: usize) -> Word
 {
     let mut n = 0;
     let mut p = start;
-    while p < end && text[p] > b'*' {
-        n = grown(n, text[p]);
+    while p < end && byte_at(text, p) > b'*' {
+        n = grown(n, byte_at(text, p));
         p = p + 1;
     }
     Word { n, end: p }
@@ -86,11 +92,8 @@ fn repeat(line: &mut [u64; 163857], used: usize, times: u64) -> usize
     if times == 0 {
         return 163857;
     }
-    if times > 163857 {
-        return 163857;
-    }
     let n = line[used - 1];
-    let end = least(used - 1 + times as usize, 163857);
+    let end = least(used - 1 + least(times as usize, 163857), 163857);
     let mut k = used;
     while k < end {
         line[k] = n;
@@ -130,13 +133,13 @@ pub(crate) fn read_line(
     let mut p = at;
     let mut used = 1;
     let mut star = false;
-    while p < end && text[p] != b'\n' {
+    while p < end && byte_at(text, p) != b'\n' {
         let w = word_at(text, end, p);
         if w.end > p {
-            used = put(line, used, w.n, text[p], star);
+            used = put(line, used, w.n, byte_at(text, p), star);
             p = w.end;
         } else {
-            star = text[p] == b'*';
+            star = byte_at(text, p) == b'*';
             p = p + 1;
         }
     }

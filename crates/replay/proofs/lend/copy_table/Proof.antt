@@ -3,41 +3,34 @@
 use borrow.Author.Needs.{needs}
 use native.Mathlib.Omega.{arith}
 use Prim.Native.Nat.{_-_}
+use mathlib.Core.Path.{_≡_}
+use lib.ListN.{length}
 use Rattle.replay.proofs.lend.copy_table.Statement.{statement}
 use Rattle.replay.proofs.lend.copy_table.Tie as tie
 
 abbrev Inv-loop : tie.InvT-loop
-Inv-loop m at line₀ n i₀ line i = Unit {0}
+Inv-loop m at room₀ n i₀ room i = length room ≡ length room₀
 
 abbrev μ-loop : tie.MeasureT-loop
-μ-loop m at line₀ n i₀ line i = n - i
+μ-loop m at room₀ n i₀ room i = n - i
 
 length-at-requires : tie.Need-length-at-requires Inv-loop μ-loop
 length-at-requires c κs = search needs
 
+least-requires : tie.Need-least-requires Inv-loop μ-loop
+least-requires c κs = search needs
+
 loop-holds : tie.Need-loop-holds Inv-loop μ-loop
-loop-holds c = tt
+loop-holds c = search needs
 
-add-line : tie.Need-add-line Inv-loop μ-loop
-add-line c = omega arith
+item-requires : tie.Need-item-requires Inv-loop μ-loop
+item-requires c κs = search needs
 
-add-line-2 : tie.Need-add-line-2 Inv-loop μ-loop
-add-line-2 c = omega arith
+mul-room : tie.Need-mul-room Inv-loop μ-loop
+mul-room c = omega arith
 
-mul-line : tie.Need-mul-line Inv-loop μ-loop
-mul-line c = omega arith
-
-element-copy-out-line : tie.Need-element-copy-out-line Inv-loop μ-loop
-element-copy-out-line c = omega arith
-
-add-line-3 : tie.Need-add-line-3 Inv-loop μ-loop
-add-line-3 c = omega arith
-
-mul-line-2 : tie.Need-mul-line-2 Inv-loop μ-loop
-mul-line-2 c = omega arith
-
-element-write-line : tie.Need-element-write-line Inv-loop μ-loop
-element-write-line c = omega arith
+slice-write-room : tie.Need-slice-write-room Inv-loop μ-loop
+slice-write-room c = omega arith
 
 add-i : tie.Need-add-i Inv-loop μ-loop
 add-i c = omega arith
@@ -46,10 +39,10 @@ loop-less : tie.Need-loop-less Inv-loop μ-loop
 loop-less c = omega arith
 
 loop-again : tie.Need-loop-again Inv-loop μ-loop
-loop-again c = tt
+loop-again c = search needs
 
-add-result : tie.Need-add-result Inv-loop μ-loop
-add-result c = omega arith
+same-length : tie.Need-same-length Inv-loop μ-loop
+same-length c = search needs
 
 returns : tie.Need-returns Inv-loop μ-loop
 returns c = search needs
@@ -61,16 +54,13 @@ copy-table-spec =
     Inv-loop
     μ-loop
     length-at-requires
+    least-requires
     loop-holds
-    add-line
-    add-line-2
-    mul-line
-    element-copy-out-line
-    add-line-3
-    mul-line-2
-    element-write-line
+    item-requires
+    mul-room
+    slice-write-room
     add-i
     loop-less
     loop-again
-    add-result
+    same-length
     returns)

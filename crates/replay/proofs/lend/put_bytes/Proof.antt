@@ -12,11 +12,14 @@ Inv-loop m₀ at bytes n i₀ m i = Unit {0}
 abbrev μ-loop : tie.MeasureT-loop
 μ-loop m₀ at bytes n i₀ m i = n - i
 
+least-requires : tie.Need-least-requires Inv-loop μ-loop
+least-requires c κs = search needs
+
 loop-holds : tie.Need-loop-holds Inv-loop μ-loop
 loop-holds c = tt
 
-element-copy-out-byte : tie.Need-element-copy-out-byte Inv-loop μ-loop
-element-copy-out-byte c = omega arith
+shared-slice-read-byte : tie.Need-shared-slice-read-byte Inv-loop μ-loop
+shared-slice-read-byte c = omega arith
 
 byte-requires : tie.Need-byte-requires Inv-loop μ-loop
 byte-requires c κs = search needs
@@ -51,8 +54,9 @@ put-bytes-spec =
     (tie.spec
     Inv-loop
     μ-loop
+    least-requires
     loop-holds
-    element-copy-out-byte
+    shared-slice-read-byte
     byte-requires
     add-m
     add-m-2

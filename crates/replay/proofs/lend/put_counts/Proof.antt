@@ -12,14 +12,17 @@ Inv-loop m₀ at counts n i₀ m i = Unit {0}
 abbrev μ-loop : tie.MeasureT-loop
 μ-loop m₀ at counts n i₀ m i = n - i
 
+least-requires : tie.Need-least-requires Inv-loop μ-loop
+least-requires c κs = search needs
+
 loop-holds : tie.Need-loop-holds Inv-loop μ-loop
 loop-holds c = tt
 
 mul-count : tie.Need-mul-count Inv-loop μ-loop
 mul-count c = omega arith
 
-element-copy-out-count : tie.Need-element-copy-out-count Inv-loop μ-loop
-element-copy-out-count c = omega arith
+shared-slice-read-count : tie.Need-shared-slice-read-count Inv-loop μ-loop
+shared-slice-read-count c = omega arith
 
 count-requires : tie.Need-count-requires Inv-loop μ-loop
 count-requires c κs = search needs
@@ -54,9 +57,10 @@ put-counts-spec =
     (tie.spec
     Inv-loop
     μ-loop
+    least-requires
     loop-holds
     mul-count
-    element-copy-out-count
+    shared-slice-read-count
     count-requires
     add-m
     add-m-2

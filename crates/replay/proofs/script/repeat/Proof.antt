@@ -15,9 +15,6 @@ abbrev μ-loop : tie.MeasureT-loop
 returns : tie.Need-returns Inv-loop μ-loop
 returns c = search needs
 
-returns-2 : tie.Need-returns-2 Inv-loop μ-loop
-returns-2 c = search needs
-
 sub-n : tie.Need-sub-n Inv-loop μ-loop
 sub-n c = omega arith
 
@@ -30,11 +27,14 @@ element-copy-out-n c = omega arith
 sub-least : tie.Need-sub-least Inv-loop μ-loop
 sub-least c = omega arith
 
+least-requires : tie.Need-least-requires Inv-loop μ-loop
+least-requires c κs = search needs
+
 add-least : tie.Need-add-least Inv-loop μ-loop
 add-least c = omega arith
 
-least-requires : tie.Need-least-requires Inv-loop μ-loop
-least-requires c κs = search needs
+least-requires-2 : tie.Need-least-requires-2 Inv-loop μ-loop
+least-requires-2 c κs = search needs
 
 loop-holds : tie.Need-loop-holds Inv-loop μ-loop
 loop-holds c = search needs
@@ -54,8 +54,8 @@ loop-less c = omega arith
 loop-again : tie.Need-loop-again Inv-loop μ-loop
 loop-again c = search needs
 
-returns-3 : tie.Need-returns-3 Inv-loop μ-loop
-returns-3 c = search needs
+returns-2 : tie.Need-returns-2 Inv-loop μ-loop
+returns-2 c = search needs
 
 pub repeat-spec : {M : Type 1} → statement M
 repeat-spec =
@@ -64,17 +64,17 @@ repeat-spec =
     Inv-loop
     μ-loop
     returns
-    returns-2
     sub-n
     mul-n
     element-copy-out-n
     sub-least
-    add-least
     least-requires
+    add-least
+    least-requires-2
     loop-holds
     mul-line
     element-write-line
     add-k
     loop-less
     loop-again
-    returns-3)
+    returns-2)

@@ -15,11 +15,11 @@ abbrev μ-loop : tie.MeasureT-loop
 loop-holds : tie.Need-loop-holds Inv-loop μ-loop
 loop-holds c = search needs
 
-element-copy-out-if1 : tie.Need-element-copy-out-if1 Inv-loop μ-loop
-element-copy-out-if1 c = omega arith
+byte-at-requires : tie.Need-byte-at-requires Inv-loop μ-loop
+byte-at-requires c κs = search needs
 
-element-copy-out-grown : tie.Need-element-copy-out-grown Inv-loop μ-loop
-element-copy-out-grown c = omega arith
+byte-at-requires-2 : tie.Need-byte-at-requires-2 Inv-loop μ-loop
+byte-at-requires-2 c κs = search needs
 
 grown-requires : tie.Need-grown-requires Inv-loop μ-loop
 grown-requires c κs = search needs
@@ -46,8 +46,8 @@ word-at-spec =
     Inv-loop
     μ-loop
     loop-holds
-    element-copy-out-if1
-    element-copy-out-grown
+    byte-at-requires
+    byte-at-requires-2
     grown-requires
     add-p
     loop-less

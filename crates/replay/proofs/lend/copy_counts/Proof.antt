@@ -1,18 +1,18 @@
--- `replay::lend::bytes_at` is safe and ends.
+-- `replay::lend::copy_counts` is safe and ends.
 -- Assumes nothing.
 use borrow.Author.Needs.{needs}
 use native.Mathlib.Omega.{arith}
 use Prim.Native.Nat.{_-_}
 use mathlib.Core.Path.{_≡_}
 use lib.ListN.{length}
-use Rattle.replay.proofs.lend.bytes_at.Statement.{statement}
-use Rattle.replay.proofs.lend.bytes_at.Tie as tie
+use Rattle.replay.proofs.lend.copy_counts.Statement.{statement}
+use Rattle.replay.proofs.lend.copy_counts.Tie as tie
 
 abbrev Inv-loop : tie.InvT-loop
-Inv-loop m at bytes₀ n i₀ bytes i = length bytes ≡ length bytes₀
+Inv-loop m at room₀ n i₀ room i = length room ≡ length room₀
 
 abbrev μ-loop : tie.MeasureT-loop
-μ-loop m at bytes₀ n i₀ bytes i = n - i
+μ-loop m at room₀ n i₀ room i = n - i
 
 length-at-requires : tie.Need-length-at-requires Inv-loop μ-loop
 length-at-requires c κs = search needs
@@ -23,23 +23,17 @@ least-requires c κs = search needs
 loop-holds : tie.Need-loop-holds Inv-loop μ-loop
 loop-holds c = search needs
 
-add-bytes : tie.Need-add-bytes Inv-loop μ-loop
-add-bytes c = omega arith
+item-requires : tie.Need-item-requires Inv-loop μ-loop
+item-requires c κs = search needs
 
-add-bytes-2 : tie.Need-add-bytes-2 Inv-loop μ-loop
-add-bytes-2 c = omega arith
+cast-room : tie.Need-cast-room Inv-loop μ-loop
+cast-room c = search needs
 
-mul-bytes : tie.Need-mul-bytes Inv-loop μ-loop
-mul-bytes c = omega arith
+mul-room : tie.Need-mul-room Inv-loop μ-loop
+mul-room c = omega arith
 
-element-copy-out-bytes : tie.Need-element-copy-out-bytes Inv-loop μ-loop
-element-copy-out-bytes c = omega arith
-
-cast-bytes : tie.Need-cast-bytes Inv-loop μ-loop
-cast-bytes c = search needs
-
-slice-write-bytes : tie.Need-slice-write-bytes Inv-loop μ-loop
-slice-write-bytes c = omega arith
+slice-write-room : tie.Need-slice-write-room Inv-loop μ-loop
+slice-write-room c = omega arith
 
 add-i : tie.Need-add-i Inv-loop μ-loop
 add-i c = omega arith
@@ -56,8 +50,8 @@ same-length c = search needs
 returns : tie.Need-returns Inv-loop μ-loop
 returns c = search needs
 
-pub bytes-at-spec : {M : Type 1} → statement M
-bytes-at-spec =
+pub copy-counts-spec : {M : Type 1} → statement M
+copy-counts-spec =
     tie.close
     (tie.spec
     Inv-loop
@@ -65,12 +59,10 @@ bytes-at-spec =
     length-at-requires
     least-requires
     loop-holds
-    add-bytes
-    add-bytes-2
-    mul-bytes
-    element-copy-out-bytes
-    cast-bytes
-    slice-write-bytes
+    item-requires
+    cast-room
+    mul-room
+    slice-write-room
     add-i
     loop-less
     loop-again
