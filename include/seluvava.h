@@ -10,6 +10,7 @@
  *
  * load counts colours into a table, merge adds a second table into a first, cut makes of a table a palette of at
  * most 256 colours and a map to it, and map and paint take the pixels of a frame to that palette.
+ * docs/CHOOSING.md has what to know first: which grid, what comes back inexactly, how to save a table.
  *
  * GRID. Each call is told three sizes, one for each component of a colour, each from 2, 4, 8, 16, 32, 64, 128.
  * The bin of component c at size s is c * s / 256, rounded down. With sizes b1, b2, b3, bin (r, g, b) stands at place
@@ -37,7 +38,7 @@
  * enough for each, as tests/stack.c measures. Of a C library the archive takes memcpy and memset and nothing else; a
  * program without one brings these two.
  *
- * NUMBERS. What load, merge, map and paint answer, and a cut in `number`:
+ * ANSWERS. What load, merge, map and paint hand back, and a cut in `number`:
  *
  *   0  done
  *   1  a grid size not among the seven
@@ -50,8 +51,8 @@
  *   8  cut of a table with total 0
  *   9  some entry of the map is not below the palette's length
  *
- * The lowest number that applies is given, and none is given otherwise. Any number but 0 is a refusal, which writes
- * nothing: every lent byte stays as it was.
+ * The lowest answer from 1 to 9 that applies is given; where none applies, the answer is 0. Any answer but 0 is a
+ * refusal, which writes nothing: every lent byte stays as it was.
  */
 #ifndef SELUVAVA_H
 #define SELUVAVA_H
@@ -63,6 +64,12 @@
 #ifdef __cplusplus
 extern "C" {
 #endif
+
+/* The version of the calls, the crate for Rust and the pages. */
+#define SELUVAVA_VERSION "0.2.0"
+#define SELUVAVA_VERSION_MAJOR 0
+#define SELUVAVA_VERSION_MINOR 2
+#define SELUVAVA_VERSION_PATCH 0
 
 /* The three sizes for RGB, as every call takes them: 8,192 bins. */
 #define SELUVAVA_RGB 16, 32, 16
@@ -110,7 +117,8 @@ struct seluvava_cut_answer {
 };
 
 /*
- * Cut: divides the grid into at most k boxes, each with weight in it, and each bin in exactly one.
+ * Cut: divides the grid into at most k boxes, each with weight in it, and each bin in exactly one. A table loaded from
+ * colours gets as many as the smaller of k and the bins that have weight.
  *
  *   table     5 * bins numbers, sound, with a total above 0.
  *   work      5 * bins numbers, whatever they are. Afterwards the moments: at each place the sum over all bins
@@ -121,8 +129,9 @@ struct seluvava_cut_answer {
  *   boxes     at least 6 * k bytes. Box i's bins, from 6 * i on: r0, r1, g0, g1, b0, b1, where r0 is the first bin in
  *             the first dimension and r1 the first that is not, and so on.
  *   spreads   at least k. Box i's spread, at place i: squares - (c1*c1 + c2*c2 + c3*c3) / n of its sums, each whole
- *             number first turned into double, each operation rounded once, so that it can lie slightly below 0;
- *             0.0 for a box of one bin, or one found impossible to cut; infinity at k = 1.
+ *             number first turned into double, each operation rounded once, so that it can lie slightly below 0 (and
+ *             further below, for a sound table that no colours gave); 0.0 for a box of one bin, or one found
+ *             impossible to cut; infinity at k = 1.
  *
  * Of palette, counts, boxes and spreads, places past the last box stay as they were.
  * Answers 0, 1, 2, 5, 6, 8.

@@ -1,5 +1,5 @@
 /*
- * Every call of seluvava.h, held to document 01: the worked boxes P1 to P10, every number of every call, alone and two
+ * Every call of seluvava.h, held to docs/RULES.md: the cases P1 to P10, every number of every call, alone and two
  * at a time, lengths one off, NULL with length 0, bands, and batches and frames of every length up to 200; and all of it
  * once more with the processor's flush modes set.
  * What a lent buffer must hold afterwards is said here once more, in C, by the same rules.
@@ -358,7 +358,7 @@ static struct asked good(void)
     memcpy(q.colours, known, sizeof known);
     memcpy(q.weights, weights, sizeof weights);
     memcpy(q.frame, q.colours, sizeof q.frame);
-    for (size_t i = 0; i < COUNT(q.map); i++) q.map[i] = i % 3;
+    for (size_t i = 0; i < COUNT(q.map); i++) q.map[i] = (uint8_t)(i % 3);
     for (size_t i = 0; i < COUNT(q.palette); i++) q.palette[i] = (uint8_t)(7 * i);
     q.length[TABLE] = q.length[SECOND] = q.length[WORK] = 320;
     q.length[MAP] = 64;

@@ -1,8 +1,8 @@
 //! Times the proved code and the original's text in one process, on the same frames, and prints the ratios.
 //!
 //! `--quick` takes fewer runs, and `--only TEXT` takes only the rows whose grid or operation has that text. A whole run
-//! of both sides fills a draft, `--draft FILE`, and writes it to `--page FILE`. Where a cell misses its target and the
-//! draft gives no reason, the run fails.
+//! of both sides fills a template, `--template FILE`, and writes it to `--page FILE`. Where a cell misses its target
+//! and the template gives no reason, the run fails.
 mod inputs;
 mod measure;
 mod ours;
@@ -83,7 +83,7 @@ fn measure(sizes: Sizes, inputs: &[Input], operations: &[Operation], effort: Eff
 struct Asked {
     quick: bool,
     only: Option<String>,
-    draft: Option<String>,
+    template: Option<String>,
     page: Option<String>,
 }
 
@@ -94,7 +94,7 @@ fn asked() -> Asked {
         match word.as_str() {
             "--quick" => asked.quick = true,
             "--only" => asked.only = words.next(),
-            "--draft" => asked.draft = words.next(),
+            "--template" => asked.template = words.next(),
             "--page" => asked.page = words.next(),
             _ => panic!("what is {word}?"),
         }
@@ -104,10 +104,9 @@ fn asked() -> Asked {
 
 fn main() -> ExitCode {
     let asked = asked();
-    assert!(
-        !cfg!(debug_assertions),
-        "only a release build is worth timing"
-    );
+    if cfg!(debug_assertions) {
+        panic!("only a release build is worth timing");
+    }
     if !cfg!(feature = "original") {
         println!("The original's text is not at hand: our side is timed alone.\n");
     }
@@ -130,18 +129,18 @@ fn main() -> ExitCode {
     let misses = report::misses(&rows, &inputs);
     misses.iter().for_each(|(_, line)| println!("{line}"));
 
-    let Some(draft) = asked.draft else {
+    let Some(template) = asked.template else {
         return ExitCode::SUCCESS;
     };
-    let draft = fs::read_to_string(draft).expect("the draft");
+    let template = fs::read_to_string(template).expect("the template");
     let whole = !asked.quick && asked.only.is_none() && cfg!(feature = "original");
     if let (true, Some(page)) = (whole, asked.page) {
-        fs::write(page, page::filled(&draft, &rows, &inputs)).expect("the page");
+        fs::write(page, page::filled(&template, &rows, &inputs)).expect("the page");
     }
     let mut status = ExitCode::SUCCESS;
     for (operation, line) in &misses {
-        if !page::explains(&draft, *operation) {
-            eprintln!("the draft gives no reason for a miss:\n{line}");
+        if !page::explains(&template, *operation) {
+            eprintln!("the template gives no reason for a miss:\n{line}");
             status = ExitCode::FAILURE;
         }
     }

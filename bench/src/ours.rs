@@ -1,11 +1,8 @@
 //! Our side: the calls of the archive, on tables that stay from run to run.
-#[path = "../../rust/src/calls.rs"]
-mod calls;
-
 use crate::side::{Answer, Lent, MOST, Operation, Side, Sizes, touch};
-use calls::{
-    seluvava_bins, seluvava_cut, seluvava_load, seluvava_map, seluvava_merge, seluvava_table_len,
-    seluvava_paint,
+use seluvava_sys::{
+    seluvava_bins, seluvava_cut, seluvava_load, seluvava_map, seluvava_merge, seluvava_paint,
+    seluvava_table_len,
 };
 
 /// Adds a frame to a table, with weights where any are given.
@@ -58,7 +55,8 @@ struct Cut {
 
 impl Cut {
     fn new([b1, b2, b3]: Sizes) -> Self {
-        let (numbers, bins) = unsafe { (seluvava_table_len(b1, b2, b3), seluvava_bins(b1, b2, b3)) };
+        let (numbers, bins) =
+            unsafe { (seluvava_table_len(b1, b2, b3), seluvava_bins(b1, b2, b3)) };
         Self {
             work: vec![0; numbers],
             palette: vec![0; 3 * MOST],

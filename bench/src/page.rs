@@ -1,4 +1,4 @@
-//! Fills the draft of docs/SPEED.md: each line that is a word in braces gives way to what was measured.
+//! Fills the template of docs/SPEED.md: each line that is a word in braces gives way to what was measured.
 use crate::{
     inputs::Input,
     report::{self, Row},
@@ -49,12 +49,12 @@ fn frames(inputs: &[Input]) -> String {
     text
 }
 
-/// Whether the draft gives a reason for an operation, under its name up to a comma or a bracket: one reason may do for
+/// Whether the template gives a reason for an operation, under its name up to a comma or a bracket: one may do for
 /// several rows, as for every k.
-pub fn explains(draft: &str, operation: Operation) -> bool {
+pub fn explains(template: &str, operation: Operation) -> bool {
     let name = operation.to_string();
     let end = name.find([',', '(']).unwrap_or(name.len());
-    draft.contains(&format!("**{}**", name[..end].trim_end()))
+    template.contains(&format!("**{}**", name[..end].trim_end()))
 }
 
 /// The cells that miss.
@@ -66,7 +66,7 @@ fn misses(rows: &[Row], inputs: &[Input]) -> String {
     }
 }
 
-pub fn filled(draft: &str, rows: &[Row], inputs: &[Input]) -> String {
+pub fn filled(template: &str, rows: &[Row], inputs: &[Input]) -> String {
     let line = |line: &str| match line {
         "{run}" => run(),
         "{frames}" => frames(inputs),
@@ -74,5 +74,5 @@ pub fn filled(draft: &str, rows: &[Row], inputs: &[Input]) -> String {
         "{misses}" => misses(rows, inputs),
         other => format!("{other}\n"),
     };
-    draft.lines().map(line).collect()
+    template.lines().map(line).collect()
 }

@@ -155,7 +155,7 @@ fn of_grid<const B1: usize, const B2: usize, const B3: usize>(
 #[derive(Clone, Copy)]
 pub struct Original {
     pub of_grid: OfGrid,
-    pub told: fn(&Input, PaletteSize, bool, &[[u8; 3]]) -> Option<Told>,
+    pub told: Tell,
     pub of_table: fn(&[u64], PaletteSize) -> Answer,
 }
 
@@ -169,6 +169,7 @@ impl Original {
     }
 }
 
+pub type Tell = fn(&Input, PaletteSize, bool, &[[u8; 3]]) -> Option<Told>;
 pub type OfGrid = fn(&Input, PaletteSize, u64) -> Option<(Vec<u64>, Answer)>;
 
 /// The grids of the judge: all 343, where the package is built with `all-grids`.

@@ -19,7 +19,7 @@ impl Batch {
     pub fn of_pixels(input: &Input, r: &mut Random) -> Self {
         Self {
             colors: input.pixels(),
-            weights: (0..r.from(0, 3)).map(|_| r.next() as u32).collect(),
+            weights: (0..r.from(0, 3)).map(|_| r.draw() as u32).collect(),
             weighted: false,
         }
     }

@@ -40,9 +40,9 @@ pub struct Buffer<T> {
 impl<T: Place> Buffer<T> {
     fn with(contents: impl ExactSizeIterator<Item = T>, r: &mut Random) -> Self {
         let mut old = Vec::with_capacity(contents.len() + 2 * ABOUT);
-        old.extend((0..ABOUT).map(|_| T::of(r.next())));
+        old.extend((0..ABOUT).map(|_| T::of(r.draw())));
         old.extend(contents);
-        old.extend((0..ABOUT).map(|_| T::of(r.next())));
+        old.extend((0..ABOUT).map(|_| T::of(r.draw())));
         let now = old.clone();
         Self { old, now }
     }
@@ -56,8 +56,8 @@ impl<T: Place> Buffer<T> {
     }
 
     pub fn random(length: usize, r: &mut Random) -> Self {
-        let mut inside = Random(r.next());
-        Self::with((0..length).map(|_| T::of(inside.next())), r)
+        let mut inside = Random(r.draw());
+        Self::with((0..length).map(|_| T::of(inside.draw())), r)
     }
 
     pub fn lend(&mut self) -> &mut [T] {

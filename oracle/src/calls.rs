@@ -1,18 +1,18 @@
-//! The five calls one by one, good or damaged, against the numbers of document 01.
+//! The five calls one by one, good or damaged, against the answers of the rules (Rules, Answers).
 use crate::{
     PaletteCounts, PaletteSize,
     answer::{Original, original},
     buffer::{Buffer, Buffers, Differs, Place, fitting, same},
     case::Case,
-    compare::Tally,
     damage::Damage,
     numbers::{self, Lengths},
     original::palette_counts::CreatePaletteCountsErrorReason as Reason,
     port::{Band, Grid, Port},
     random::Random,
+    tally::Tally,
 };
 
-/// The table of colours and weights, by the rules of document 01; totals may be any.
+/// The table of colours and weights, by Rules, Load; totals may be any.
 fn table_of(grid: Grid, colors: &[[u8; 3]], weights: &[u32]) -> Vec<u64> {
     let mut table = vec![0; 5 * numbers::bins(grid)];
     add(grid, &mut table, colors, weights);
@@ -53,7 +53,7 @@ fn off(length: usize, by: i64) -> usize {
 }
 
 fn resize<T: Place>(list: &mut Vec<T>, by: i64, r: &mut Random) {
-    list.resize_with(off(list.len(), by), || T::of(r.next()));
+    list.resize_with(off(list.len(), by), || T::of(r.draw()));
 }
 
 impl Calls {
@@ -73,7 +73,7 @@ impl Calls {
             map: (0..case.bins())
                 .map(|_| r.from(0, case.k - 1) as u8)
                 .collect(),
-            palette: (0..3 * case.k).map(|_| r.next() as u8).collect(),
+            palette: (0..3 * case.k).map(|_| r.draw() as u8).collect(),
             told_colours: case.k,
             indices: frame.len(),
             frame: frame.into_flattened(),
@@ -249,7 +249,7 @@ impl Calls {
     }
 }
 
-/// Makes the calls of a case: each number has to be document 01's, a refusal has to change nothing, and a call that is
+/// Makes the calls of a case: each answer has to be the rules', a refusal has to change nothing, and a call that is
 /// done has to leave what it says.
 pub fn calls(
     port: &dyn Port,

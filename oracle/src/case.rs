@@ -76,7 +76,7 @@ impl fmt::Display for Case {
 }
 
 /// The numbers among the words of a text.
-pub fn numbers<T: std::str::FromStr>(text: &str) -> Vec<T> {
+fn numbers<T: std::str::FromStr>(text: &str) -> Vec<T> {
     text.split_whitespace()
         .filter_map(|w| w.parse().ok())
         .collect()

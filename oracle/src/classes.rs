@@ -1,8 +1,9 @@
 //! Makes the cases of each class.
+mod damages;
+
 use crate::{
     answer::{Input, grids},
     case::{Case, Kind},
-    damage::one,
     numbers::bins,
     port::{Band, Grid},
     random::Random,
@@ -173,7 +174,7 @@ impl Maker<'_> {
             frame,
             band,
             spare,
-            seed: self.r.next(),
+            seed: self.r.draw(),
         }
     }
 
@@ -313,7 +314,7 @@ fn single(m: &mut Maker<'_>, _: usize) -> Case {
 
 fn crowded(m: &mut Maker<'_>, _: usize) -> Case {
     let near: Vec<_> = (0..m.r.from(1, 4)).map(|_| m.r.color()).collect();
-    let color = |r: &mut Random| r.one_of(&near).map(|c| c ^ (r.next() % 16) as u8);
+    let color = |r: &mut Random| r.one_of(&near).map(|c| c ^ (r.draw() % 16) as u8);
     let n = m.r.from(2, 30);
     let input = m.input(n, color, |r| r.one_of(&[1, 1, 3, 100, 70_000]));
     let (grid, k) = (m.grid(), m.k());
@@ -368,8 +369,8 @@ fn sound_calls(m: &mut Maker<'_>, _: usize) -> Case {
 
 fn damaged(m: &mut Maker<'_>, _: usize) -> Case {
     let mut case = calls(m);
-    let wrong = m.r.one_of(&[1, 1, 1, 2, 3]);
-    let made = (0..wrong).map(|_| one(&case, &mut m.r)).collect();
+    let count = m.r.one_of(&[1, 1, 1, 2, 3]);
+    let made = (0..count).map(|_| damages::one(&case, &mut m.r)).collect();
     if let Kind::Calls { damages, .. } = &mut case.kind {
         *damages = made;
     }

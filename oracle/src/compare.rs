@@ -1,33 +1,16 @@
-//! Runs one case and counts it.
+//! Runs one case, whole or call by call.
 use crate::{
     buffer::Differs,
     calls::calls,
     case::{Case, Kind},
     port::Port,
+    tally::Tally,
     whole::whole,
 };
 use std::{
     any::Any,
     panic::{AssertUnwindSafe, catch_unwind},
 };
-
-/// How many cases there were, and of what sort.
-#[derive(Clone, Debug, Default)]
-pub struct Tally {
-    pub cases: usize,
-    pub boxes: usize,
-    pub of_total_0: usize,
-    pub too_heavy: usize,
-    pub by_pixels: usize,
-    pub by_batches: usize,
-    pub wide: usize,
-    pub negative: usize,
-    pub put_back: usize,
-    pub falsely_positive: usize,
-    pub fewer: usize,
-    /// Of the calls made one by one, how many answered each number: load, merge, cut, map, paint.
-    pub numbers: [[usize; 10]; 5],
-}
 
 /// What a panic says.
 fn said(panic: Box<dyn Any + Send>) -> String {

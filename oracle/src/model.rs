@@ -1,5 +1,5 @@
-//! A port in plain Rust, from document 01's section "Steps": a box's sum is the sum over its bins, the heap is a list.
-//! It stands in the library's place where a mutant is to be caught, and shows whether a difference is the document's.
+//! A port in plain Rust, from docs/RULES.md: a box's sum is the sum over its bins, the heap is a list.
+//! It stands in the library's place where a mutant is to be caught, and shows whether a difference is the rules'.
 use crate::{
     numbers::{self, Lengths, added, bins, place},
     port::{Band, Grid, Lent, Port},
@@ -37,7 +37,7 @@ struct Cutting<'a> {
 }
 
 impl Cutting<'_> {
-    /// "An index below 0 counts as all zeros": the bounds are exclusive.
+    /// "an index below 0 counts as all zeros": the bounds are exclusive.
     fn corner(&self, [r, g, b]: [usize; 3]) -> Sums {
         if r == 0 || g == 0 || b == 0 {
             return [0; 5];
@@ -47,7 +47,7 @@ impl Cutting<'_> {
         self.moments[at..at + 5].try_into().expect("five")
     }
 
-    /// "Its sum is found by inclusion and exclusion."
+    /// "Its sum is found by inclusion and exclusion"
     fn sum(&self, min: [usize; 3], max: [usize; 3]) -> Sums {
         let [mut with, mut without] = [[0; 5]; 2];
         for corner in 0..8 {
@@ -121,7 +121,7 @@ impl Cutting<'_> {
     }
 }
 
-/// "Append, then climb while strictly greater than the parent."
+/// "append, then climb while strictly greater than the parent"
 fn put_in(heap: &mut Vec<Item>, item: Item) {
     heap.push(item);
     let end = heap.len() - 1;
@@ -135,9 +135,9 @@ fn climb(heap: &mut [Item], mut p: usize) {
     }
 }
 
-/// "The last element leaves the end; if others remain, it will replace place 0 .. Sink a hole from 0: while both
-/// children exist, move up the right child if left ≤ right, else the left; if only a left child exists, move that up.
-/// The carried element enters the hole and climbs as above."
+/// "the last element leaves the end; if others remain, it will replace place 0, whose element is the one taken out.
+/// Sink a hole from 0: while both children exist, move up the right child if left ≤ right, else the left; if only a
+/// left child exists, move that up. The carried element enters the hole and climbs as above."
 fn take_out(heap: &mut Vec<Item>) -> Item {
     let last = heap.pop().expect("a box");
     if heap.is_empty() {
@@ -233,8 +233,8 @@ impl Port for Model {
         let [_, b2, b3] = grid;
         for (i, item) in boxes.iter().enumerate() {
             let [n, sums @ .., _] = cutting.sum(item.min, item.max);
-            for d in 0..3 {
-                lent.palette[3 * i + d] = (sums[d] / n) as u8;
+            for (d, sum) in sums.into_iter().enumerate() {
+                lent.palette[3 * i + d] = (sum / n) as u8;
                 lent.boxes[6 * i + 2 * d] = item.min[d] as u8;
                 lent.boxes[6 * i + 2 * d + 1] = item.max[d] as u8;
             }

@@ -1,5 +1,5 @@
-//! Which number a call answers, from document 01's sections "Grid and table" and "Numbers a caller gets back" and from
-//! nothing else. What a call is lent counts here by its length, unless its contents decide.
+//! What a call answers, from docs/RULES.md (Rules, Grid; Rules, Sound; Rules, Answers; Rules, Lengths) and from nothing
+//! else. What a call is lent counts here by its length, unless its contents decide.
 use crate::port::{Band, Grid};
 
 const SIZES: [usize; 7] = [2, 4, 8, 16, 32, 64, 128];
@@ -7,7 +7,7 @@ const SIZES: [usize; 7] = [2, 4, 8, 16, 32, 64, 128];
 /// The largest total of a sound table.
 pub const LARGEST_TOTAL: u128 = 4_294_967_295;
 
-/// "A grid size not among the seven."
+/// Not "a grid size not among the seven".
 fn is_grid(grid: Grid) -> bool {
     grid.iter().all(|b| SIZES.contains(b))
 }
@@ -36,7 +36,7 @@ pub fn place([b1, b2, b3]: Grid, [r, g, b]: [u8; 3]) -> usize {
     (bin(b1, r) * b2 + bin(b2, g)) * b3 + bin(b3, b)
 }
 
-/// "Adds its weight w to n, w·c to each sum, w·(c1²+c2²+c3²) to the squares": what a colour adds to the five.
+/// What a colour "adds w to n, w·c to each sum, w·(c1²+c2²+c3²) to the squares of its bin".
 pub fn added(color: [u8; 3], w: u32) -> [u64; 5] {
     let w = u64::from(w);
     let [c1, c2, c3] = color.map(u64::from);
@@ -65,7 +65,7 @@ fn sound(grid: Grid, table: &[u64]) -> Option<u128> {
     (total <= LARGEST_TOTAL).then_some(total)
 }
 
-/// "The lowest number that applies is given": tests with their numbers, in order.
+/// "The lowest answer from 1 to 9 that applies is given": tests with their answers, in order.
 fn lowest(tests: &[(&dyn Fn() -> bool, u8)]) -> u8 {
     tests
         .iter()
@@ -81,7 +81,7 @@ pub fn load(grid: Grid, table: &[u64], colours: usize, weighted: bool, weights: 
     };
     lowest(&[
         (&|| !is_grid(grid), 1),
-        (&|| colours % 3 != 0, 3),
+        (&|| !colours.is_multiple_of(3), 3),
         (&|| weighted && weights.len() != n, 4),
         (&|| table.len() != 5 * bins(grid), 5),
         (&|| sound(grid, table).is_none(), 6),
@@ -143,7 +143,7 @@ fn all_below(map: &[u8], colours: usize) -> bool {
 pub fn map(grid: Grid, map: &[u8], colours: usize, frame: usize, indices: usize, band: Band) -> u8 {
     lowest(&[
         (&|| !is_grid(grid), 1),
-        (&|| frame % 3 != 0, 3),
+        (&|| !frame.is_multiple_of(3), 3),
         (&|| map.len() != bins(grid), 5),
         (&|| !(1..=256).contains(&colours), 5),
         (&|| indices != frame / 3, 5),
@@ -155,9 +155,12 @@ pub fn map(grid: Grid, map: &[u8], colours: usize, frame: usize, indices: usize,
 pub fn paint(grid: Grid, map: &[u8], palette: usize, frame: usize, band: Band) -> u8 {
     lowest(&[
         (&|| !is_grid(grid), 1),
-        (&|| frame % 3 != 0, 3),
+        (&|| !frame.is_multiple_of(3), 3),
         (&|| map.len() != bins(grid), 5),
-        (&|| !(3..=768).contains(&palette) || palette % 3 != 0, 5),
+        (
+            &|| !(3..=768).contains(&palette) || !palette.is_multiple_of(3),
+            5,
+        ),
         (&|| reaches_past(band, frame / 3), 5),
         (&|| !all_below(map, palette / 3), 9),
     ])

@@ -3,7 +3,7 @@
 pub struct Random(pub u64);
 
 impl Random {
-    pub fn next(&mut self) -> u64 {
+    pub fn draw(&mut self) -> u64 {
         self.0 = self.0.wrapping_add(0x9e37_79b9_7f4a_7c15);
         let mut z = self.0;
         z = (z ^ (z >> 30)).wrapping_mul(0xbf58_476d_1ce4_e5b9);
@@ -13,7 +13,7 @@ impl Random {
 
     /// From low to high, both included.
     pub fn from(&mut self, low: usize, high: usize) -> usize {
-        low + (self.next() % (high - low + 1) as u64) as usize
+        low + (self.draw() % (high - low + 1) as u64) as usize
     }
 
     /// Once in so many times.
@@ -26,7 +26,7 @@ impl Random {
     }
 
     pub fn color(&mut self) -> [u8; 3] {
-        [(); 3].map(|()| self.next() as u8)
+        [(); 3].map(|()| self.draw() as u8)
     }
 
     /// A colour whose components are among a few, so that scores and spreads tie.

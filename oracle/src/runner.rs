@@ -3,10 +3,11 @@ use crate::{
     buffer::Differs,
     case::Case,
     classes::{CLASSES, Cases, Class, Grids, Maker},
-    compare::{Tally, check},
+    compare::check,
     port::{Grid, Port},
     random::Random,
     shrink::shrink,
+    tally::Tally,
 };
 use std::{collections::HashSet, env, fs, panic, process::ExitCode, time::Instant};
 
@@ -41,7 +42,7 @@ pub fn run(port: &dyn Port, class: &Class, cases: usize, seed: u64, most: usize)
     let grids = Grids::of_judge();
     let mut maker = Maker {
         grids: &grids,
-        r: Random(seed ^ Random(class.name.bytes().map(u64::from).sum()).next()),
+        r: Random(seed ^ Random(class.name.bytes().map(u64::from).sum()).draw()),
     };
     let mut ran = Ran {
         tally: Tally::default(),

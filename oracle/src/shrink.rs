@@ -94,7 +94,7 @@ fn with(case: &Case, old: usize, put: impl Fn(&mut Case, usize)) -> Vec<Case> {
 /// Smaller grids first: what comes after is quicker there.
 const STEPS: [fn(&Case) -> Vec<Case>; 7] = [sizes, kinds, ks, weights, colors, frames, spares];
 
-/// Nothing by pixels, fewer batches, or less put wrong.
+/// Nothing by pixels, fewer batches, or fewer damages.
 fn kinds(case: &Case) -> Vec<Case> {
     let mut list = Vec::new();
     match &case.kind {

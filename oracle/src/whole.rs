@@ -5,9 +5,9 @@ use crate::{
     batches::{Batch, merged, split},
     buffer::{Buffer, Buffers, Differs, fitting, same},
     case::Case,
-    compare::Tally,
     port::{Band, Grid, Port},
     random::Random,
+    tally::Tally,
 };
 
 /// One whole case on one port.

@@ -27,7 +27,7 @@ fn order(a: Element, b: Element) -> Ordering {
     boxed(a).cmp(&boxed(b))
 }
 
-/// "The parent of p is (p − 1)/2 rounded down"; "climb while strictly greater than the parent".
+/// "the parent of p is (p − 1)/2 rounded down"; "climb while strictly greater than the parent".
 fn climb(list: &mut [Element], mut p: usize) {
     while p > 0 && order(list[p], list[(p - 1) / 2]) == Ordering::Greater {
         list.swap(p, (p - 1) / 2);

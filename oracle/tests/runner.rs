@@ -1,14 +1,15 @@
-//! The runner itself: document 01's rules in plain Rust agree with the original, a line says a whole case, and a port
+//! The runner itself: the rules in plain Rust agree with the original, a line says a whole case, and a port
 //! with a fault is found out and its case made small.
 use oracle::{
     answer::{Input, original},
     case::{Case, Kind},
     classes::{CLASSES, Cases, Grids, Maker},
-    compare::{Tally, check},
+    compare::check,
     model::Model,
     port::{Band, Grid, Lent, Port},
     random::Random,
     runner::run,
+    tally::Tally,
 };
 
 #[test]

@@ -11,6 +11,8 @@
 //! the crate quantette 0.6.0, module `quantize/wu`, for colours of three `u8` components; over a million runs beside
 //! its own text gave the same answers.
 //!
+//! What to know before choosing a grid, or saving a table, stands in docs/CHOOSING.md of the project.
+//!
 //! A cut works in `f64` and counts on the processor rounding to nearest, which no call can test. Rust programs have it:
 //! they begin so, and the language takes it as given everywhere, so that changing it is undefined behaviour in any of
 //! their code. Only where C code of the same thread calls `fesetround` does it have to set the mode back before it
@@ -63,13 +65,6 @@
 //! ```
 #![deny(unsafe_code, unsafe_op_in_unsafe_fn)]
 #![warn(missing_docs)]
-
-#[cfg(not(all(
-    target_arch = "x86_64",
-    target_os = "linux",
-    target_pointer_width = "64"
-)))]
-compile_error!("seluvava links an archive of proved code that exists for Linux on x86-64 alone");
 
 mod colour_map;
 mod cut;

@@ -7,13 +7,10 @@
 //! - No buffer that is not const overlaps another one lent to the same call: it is lent by `&mut`, and no other
 //!   reference points there. Const ones are lent by `&`; they may overlap each other.
 //! - Nobody else writes to a buffer, or reads one that is not const, before the call returns: so long lasts the borrow.
-#[path = "calls.rs"]
-mod calls;
-
 use crate::{Grid, Refused};
-use calls::{
-    seluvava_bins, seluvava_cut, seluvava_load, seluvava_map, seluvava_merge, seluvava_table_len,
-    seluvava_paint,
+use seluvava_sys::{
+    seluvava_bins, seluvava_cut, seluvava_load, seluvava_map, seluvava_merge, seluvava_paint,
+    seluvava_table_len,
 };
 
 /// The bins of a grid, or 0 where it is refused.

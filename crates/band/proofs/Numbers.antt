@@ -1,4 +1,4 @@
--- The number of a band, test by test.
+-- The answer to a band, test by test.
 -- Assumes nothing.
 use mathlib.Core.Path.{_≡_, refl, sym}
 use mathlib.Core.Bool.{Bool, true, false, not, true≢false}
@@ -25,7 +25,7 @@ pub record Passed (g : Grid) (map : List ℕ) (paletteColours : ℕ) (fits : Boo
   pub inside : first + pixels ≤ bytes / 3
   pub below : allBelow paletteColours map ≡ true
 
--- a test that gives another number than 9, and a last one that does not refuse
+-- a test that gives another answer than 9, and a last one that does not refuse
 past : (b : Bool) (n rest : ℕ) → refuse b n rest ≡ 9 → eqb n 9 ≡ false → rest ≡ 9
 unfolding refuse
 past true n rest e other = absurd (eqb-false n 9 other e)
@@ -59,7 +59,7 @@ module _ (g : Grid) (map : List ℕ) (paletteColours : ℕ) (fits : Bool) (bytes
         below = not-false _ (last .0);
       }
 
-  -- and the other way round: "none is given otherwise"
+  -- and the other way round: "where none applies, the answer is 0"
   pub band-accepted : Passed g map paletteColours fits bytes first pixels
       → bandNumber g map paletteColours fits bytes first pixels ≡ 0
   unfolding bandNumber refuse

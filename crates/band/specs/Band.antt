@@ -1,5 +1,4 @@
--- What mapping and painting a band have in common (document 01, "Map and paint" and "Numbers a caller gets back").
--- Definitions only.
+-- What mapping and painting a band have in common (Rules, Bands; Rules, Answers). Definitions only.
 use mathlib.Core.Bool.{Bool, not, _&&_, cond}
 use mathlib.Core.List.{List}
 use Prim.Native.Nat.{ℕ, _+_, _/_, _%_}
@@ -15,7 +14,7 @@ use Rattle.pixels.specs.Colour.{colourAt}
 unfoldable pub indexAt : Grid → List ℕ → List ℕ → ℕ → ℕ
 indexAt g map frame i = getD map (colourPlace g (colourAt frame i)) 0
 
--- number i is among the n from a first one onward
+-- i is among the n from a first one onward
 unfoldable pub among : ℕ → ℕ → ℕ → Bool
 among first n i = leb first i && ltb i (first + n)
 
@@ -28,7 +27,7 @@ writeBand first n f old = listFrom 0 (length old) (λ i. cond (among first n i) 
 unfoldable pub allBelow : ℕ → List ℕ → Bool
 allBelow paletteColours map = allFrom 0 (length map) (λ p. ltb (getD map p 0) paletteColours)
 
--- the number of a band on an accepted grid, with a palette of some colours: "map exactly bins", a palette's length "in
+-- the answer to a band on an accepted grid, with a palette of some colours: "map exactly bins", a palette's length "in
 -- colours, and anything outside 1..256 gives 5", "a band reaches past the frame". `fits` is what only one of the calls
 -- tests: the index buffer's length, or that no byte of the palette is left over
 unfoldable pub bandNumber : Grid → List ℕ → ℕ → Bool → ℕ → ℕ → ℕ → ℕ

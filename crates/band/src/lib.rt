@@ -1,4 +1,4 @@
-// What mapping and painting a band of a frame have in common: its number, and the look-up of a pixel's index.
+// What mapping and painting a band of a frame have in common: its answer, and the look-up of a pixel's index.
 pub mod look_up;
 pub mod number;
 

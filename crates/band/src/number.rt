@@ -1,4 +1,4 @@
-// The number of a band of a frame.
+// The answer to a band of a frame.
 use grid::place::Grid;
 use grid::place::bins;
 ghost use mathlib.Core.Path.{_≡_};
@@ -32,7 +32,7 @@ fn reaches_past(n: usize, first: usize, pixels: usize) -> bool
     n - first < pixels
 }
 
-// The number of a band of a frame of some bytes, with a palette of some colours. Whether the index buffer fits, or the
+// The answer to a band of a frame of some bytes, with a palette of some colours. Whether the index buffer fits, or the
 // palette's last bytes do, the call has found out itself.
 pub fn band_number(
     g: Grid,

@@ -1,14 +1,14 @@
--- What a caller is told (document 01, "Numbers a caller gets back"). Definitions only.
+-- What a caller is told (Rules, Answers). Definitions only.
 use mathlib.Core.Bool.{Bool, true, false}
 use mathlib.Core.List.{List}
 use Prim.Native.Nat.{ℕ, zero, suc}
 
--- a number of the table, and the values that stand beside it
+-- an answer, 0 to 9, and the values that stand beside it
 pub record Answer : Type 0 where
   pub number : ℕ
   pub values : List ℕ
 
--- the number n where the test holds, else what comes after it: "The lowest number that applies is given"
+-- the answer n where the test holds, else what comes after it: "The lowest answer from 1 to 9 that applies is given"
 unfoldable pub refuse : Bool → ℕ → ℕ → ℕ
 refuse true n rest = n
 refuse false n rest = rest

@@ -7,8 +7,8 @@ use denote.Triple.Clauses.{AtExit}
 use borrow.Fn.Kinds.{PK, RK, Dens, resT, endedOf, Out}
 
 -- "any two results allowed by its statement are equal": whatever the arguments, what the contract allows as result and
--- as the parameters
--- at exit is the same in what `seen` takes of it, which is the result and each later content of what may be written
+-- as the parameters at exit is the same in what `seen` takes of it, which is the result and each later content of what
+-- may be written
 abbrev pub Determines : {A : Type 0} (n : ℕ) (ps : List (PK n)) (r : RK n) → Out n ps r
     → ((κs : Lfts n) → resT r κs .Denot → AtExit (endedOf n ps r) κs → A) → Type 0
 Determines n ps r allowed seen =

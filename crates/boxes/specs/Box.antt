@@ -1,4 +1,4 @@
--- A box and its two sides (document 01, "Moments" and "Cutting one box"). Definitions only.
+-- A box and its two sides (Rules, Moments; Rules, Cutting). Definitions only.
 use mathlib.Core.Bool.{Bool, _&&_}
 use Prim.Native.Nat.{ℕ, _-_, _≤_, _<_}
 use lib.Dec.{eqb}
@@ -18,7 +18,7 @@ maxAt x d = choose d (x .r1) (x .g1) (x .b1)
 abbrev pub noBox : Bounds
 noBox = record { r0 = 0; r1 = 0; g0 = 0; g1 = 0; b0 = 0; b1 = 0 }
 
--- "the whole grid" as a box
+-- the whole grid as a box
 unfoldable pub wholeOf : Grid → Bounds
 wholeOf g = record { r0 = 0; r1 = g .size1; g0 = 0; g1 = g .size2; b0 = 0; b1 = g .size3 }
 

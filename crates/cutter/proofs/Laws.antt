@@ -1,5 +1,5 @@
--- What a caller of cut may use without seeing inside its definitions: a refusal hands back its number with no boxes and
--- leaves all as it was, and where the number is 0 the grid is accepted, the table is sound, and record and buffers are
+-- What a caller of cut may use without seeing inside its definitions: a refusal hands back its answer with no boxes and
+-- leaves all as it was, and where the answer is 0 the grid is accepted, the table is sound, and record and buffers are
 -- those of the boxes found.
 -- Assumes nothing.
 use mathlib.Core.Path.{_≡_, refl, sym, ap, _∙_}
@@ -30,7 +30,7 @@ nothing-refuses {limit} {g} {k} {fit} {v} c e =
     accepts limit g k fit v (c .least) (c .most) e (c .is-sound) (λ z. omega (arith, c .some))
 
 module _ (b1 b2 b3 k : ℕ) (t : List ℕ) (b : Buffers) where
-  -- the number of the record
+  -- the answer of the record
   pub record-number : cutRecord b1 b2 b3 k t b .number ≡ cutNumber b1 b2 b3 k t b
   unfolding cutRecord cutNumber recordOn numberOn onGrid gridAnswer whenDone refusedRecord doneRecord
   record-number = go (gridOf b1 b2 b3)
@@ -48,7 +48,7 @@ module _ (b1 b2 b3 k : ℕ) (t : List ℕ) (b : Buffers) where
           of (cutNumberOn limit g k (lengthsRight g k t b) (viewOf t)) (doneRecord (boxesOf g (viewOf t) k)) refl
       go chosen.Refused = refl
 
-  -- "A refusal returns its number and, from a cut, zero boxes and box places all zero, and writes nothing"
+  -- "A refusal writes nothing. A refused cut hands back its answer, zero boxes and box places all zero."
   pub cut-refuses : {n : ℕ} → cutNumber b1 b2 b3 k t b ≡ suc n
       → (cutRecord b1 b2 b3 k t b ≡ refusedRecord (suc n)) × (cutLater b1 b2 b3 k t b ≡ b)
   unfolding cutRecord cutLater cutNumber recordOn numberOn onGrid gridAnswer whenDone
@@ -92,7 +92,7 @@ module _ (b1 b2 b3 k : ℕ) (t : List ℕ) (b : Buffers) where
         leaves = rw (e, m) refl;
       }
 
-  -- "none is given otherwise"
+  -- "where none applies, the answer is 0"
   pub cut-accepts : {g : Grid} → gridOf b1 b2 b3 ≡ chosen.Accepted g → CanCut limit g k (viewOf t)
       → LengthsFit g k (length t) (lengthsOf b)
       → cutNumber b1 b2 b3 k t b ≡ 0

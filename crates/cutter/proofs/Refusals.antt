@@ -1,4 +1,4 @@
--- The number of a cut, test by test, and what a cut that nothing refuses is given.
+-- The answer to a cut, test by test, and what a cut that nothing refuses is given.
 -- Assumes nothing.
 use mathlib.Core.Path.{_≡_, refl, _∙_}
 use mathlib.Core.Bool.{Bool, true, false, _&&_}

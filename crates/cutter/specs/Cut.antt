@@ -1,5 +1,5 @@
--- The call cut (document 01, "Results" and "Numbers a caller gets back"): its number, its record and its results over a
--- view and for any limit, and the call on lent lists. Definitions only.
+-- The call cut (Rules, Results; Rules, Answers): its answer, its record and its results over a view and for any limit,
+-- and the call on lent lists. Definitions only.
 use mathlib.Core.Path.{_≡_}
 use mathlib.Core.Bool.{Bool, true, not, _&&_}
 use mathlib.Core.List.{List, map}
@@ -22,8 +22,8 @@ use Rattle.cutter.specs.declared.call.CutRecord.{CutRecord}
 use Rattle.cutter.specs.Palette.{paletteLater, countsLater}
 use Rattle.cutter.specs.Map.{mapOf}
 
--- ---- the number
--- the number of a cut on an accepted grid, where lengths fit or not
+-- ---- the answer
+-- the answer to a cut on an accepted grid, where lengths fit or not
 unfoldable pub cutNumberOn : ℕ → Grid → ℕ → Bool → View → ℕ
 cutNumberOn most g k fit v =
     refuse (not (leb 1 k && leb k 256)) 2
@@ -38,9 +38,9 @@ pub record CanCut (limit : ℕ) (g : Grid) (k : ℕ) (v : View) : Type 0 where
   pub is-sound : sound limit g v ≡ true
   pub some : 0 < total g v
 
--- ---- the record: "its number, the number of boxes, and the boxes with their spreads in order; places past the last
+-- ---- the record: "its answer, the number of boxes, and the boxes with their spreads in order; places past the last
 -- box are all zeros"
--- "A refusal returns its number and, from a cut, zero boxes and box places all zero"
+-- "A refused cut hands back its answer, zero boxes and box places all zero."
 unfoldable pub refusedRecord : ℕ → CutRecord
 refusedRecord n = record { number = n; boxes = 0; places = replicate 256 (withZero noBox) }
 
@@ -102,7 +102,7 @@ lengthsOf b =
           (r .map);
     }
 
--- "table and work table exactly 5·bins; map exactly bins; palette at least 3·k bytes and counts (u32) at least k"
+-- "table and work table exactly 5·bins; map exactly bins", "palette at least 3·k bytes and counts (u32) at least k"
 pub record LengthsFit (g : Grid) (k numbers : ℕ) (l : Lengths) : Type 0 where
   pub table : numbers ≡ tableLen (binsOf g)
   pub work : l .work ≡ tableLen (binsOf g)
@@ -132,7 +132,7 @@ cutRecord b1 b2 b3 k t b =
 unfoldable pub laterOn : Grid → View → ℕ → Buffers → Buffers
 laterOn g v k b = record { work = written (binsOf g) (momentsOf g v); results = resultsOn g v k (b .results) }
 
--- "A refusal .. writes nothing"
+-- "A refusal writes nothing."
 unfoldable pub cutLater : ℕ → ℕ → ℕ → ℕ → Table → Buffers → Buffers
 cutLater b1 b2 b3 k t b =
     onGrid (gridOf b1 b2 b3) b

@@ -1,4 +1,4 @@
--- The map of a list of boxes (document 01, "Results"). Definitions only.
+-- The map of a list of boxes (Rules, Results). Definitions only.
 use mathlib.Core.Bool.{cond}
 use mathlib.Core.List.{List, [], _∷_}
 use Prim.Native.Nat.{ℕ, suc}

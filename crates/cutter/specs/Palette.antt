@@ -1,4 +1,4 @@
--- Palette and counts of a list of boxes (document 01, "Results"). Definitions only.
+-- Palette and counts of a list of boxes (Rules, Results). Definitions only.
 use mathlib.Core.Bool.{cond}
 use mathlib.Core.List.{List, [], _∷_}
 use Prim.Native.Nat.{ℕ, _*_, _/_}
@@ -11,7 +11,7 @@ use Rattle.boxes.specs.declared.sides.Bounds.{Bounds}
 use Rattle.sums.specs.Box.{boxSum}
 use Rattle.cutter.specs.Fronts.{joinAll, filled}
 
--- a "sum divided by n, rounded down"
+-- "each sum divided by n, rounded down"
 unfoldable pub meanOf : ℕ → ℕ → ℕ
 meanOf sum n = sum / n
 

@@ -23,7 +23,7 @@ ghost use Rattle.rounds.specs.Loop.{boxesOf};
 ghost use Rattle.cutter.specs.Cut.{buffers, lengthsOf, longEnough, cutNumberOn, CanCut, LengthsFit};
 ghost use Rattle.cutter.specs.Cut.{refusedRecord, doneRecord, laterOn, cutRecord, cutLater};
 
-// What a cut hands back: its number, the number of boxes, and a place for each box with its spread.
+// What a cut hands back: its answer, the number of boxes, and a place for each box with its spread.
 pub struct CutRecord {
     pub number: u8,
     pub boxes: usize,
@@ -98,7 +98,7 @@ fn long_enough(
     map == n
 }
 
-// The number of a cut on an accepted grid.
+// The answer to a cut on an accepted grid.
 fn number_on(
     g: Grid,
     k: usize,

@@ -1,4 +1,4 @@
--- How a call ends: it gives the number of a chain over the grid, and leaves what was there unless it is done.
+-- How a call ends: it gives the answer of a chain over the grid, and leaves what was there unless it is done.
 -- Assumes nothing.
 use mathlib.Core.Path.{_≡_, refl}
 use Prim.Native.Nat.{ℕ, zero, suc}
@@ -21,7 +21,7 @@ module _ {A : Type 0} (c : Chosen) (f : Grid → ℕ) (done : Grid → A) (kept 
   unfolding numberOn onGrid
   ends p q r = (rw (p, q) refl, rw (p, q, r) refl)
 
--- ---- what its number tells
+-- ---- what its answer tells
 left-alone : {A : Type 0} (m : ℕ) (x t : A) {n : ℕ} → m ≡ suc n → whenDone m x t ≡ t
 unfolding whenDone
 left-alone m x t e = rw e refl

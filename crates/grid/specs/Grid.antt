@@ -1,4 +1,4 @@
--- Grids, bins and their places (document 01, "Grid and table"). Definitions only.
+-- Grids, bins and their places (Rules, Grid). Definitions only.
 use mathlib.Core.Path.{_≡_}
 use mathlib.Core.List.{List, [], _∷_}
 use Prim.Native.Nat.{ℕ, _+_, _*_, _/_, _%_, _<_}
@@ -35,7 +35,7 @@ gridOf b1 b2 b3 = gridWith b1 b2 b3 (shiftOf b1) (shiftOf b2) (shiftOf b3)
 unfoldable pub rgbGrid : Grid
 rgbGrid = record { shift1 = 4; shift2 = 3; shift3 = 4; size1 = 16; size2 = 32; size3 = 16 }
 
--- the number and the values of each case
+-- the answer and the values of each case
 unfoldable pub gridAnswer : Chosen → Answer
 gridAnswer (chosen.Accepted g) =
     record { number = 0; values = g .shift1 ∷ g .shift2 ∷ g .shift3 ∷ g .size1 ∷ g .size2 ∷ g .size3 ∷ [] }
@@ -46,7 +46,7 @@ unfoldable pub onGrid : {A : Type 0} → Chosen → A → (Grid → A) → A
 onGrid (chosen.Accepted g) refused f = f g
 onGrid chosen.Refused refused f = refused
 
--- the number of a call: the grid's refusal first
+-- the answer of a call: the grid's refusal first
 unfoldable pub numberOn : Chosen → (Grid → ℕ) → ℕ
 numberOn c f = onGrid c (gridAnswer c .number) f
 

@@ -1,4 +1,4 @@
--- The seven sizes of a dimension and their shifts (document 01, "Grid and table"). Definitions only.
+-- The seven sizes of a dimension and their shifts (Rules, Grid). Definitions only.
 use mathlib.Core.Bool.{cond}
 use mathlib.Core.List.{List, [], _∷_}
 use Prim.Native.Nat.{ℕ, _+_, _-_, _*_, _/_, _^_, _<_}
@@ -32,7 +32,7 @@ pub record InSize (shift bin : ℕ) : Type 0 where
 unfoldable pub spanOf : ℕ → ℕ → Span
 spanOf shift bin = record { low = bin * 2 ^ shift; high = bin * 2 ^ shift + (2 ^ shift - 1) }
 
--- the number and the values of each case
+-- the answer and the values of each case
 unfoldable pub shiftAnswer : Shift → Answer
 shiftAnswer (By s) = record { number = 0; values = s ∷ [] }
 shiftAnswer Refused = record { number = 1; values = [] }

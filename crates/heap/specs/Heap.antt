@@ -1,6 +1,5 @@
--- The heap (document 01, "The heap"): a list of elements of any type with their spreads; how many places are in use
--- stands beside it.
--- Definitions only.
+-- The heap (Rules, Heap): a list of elements of any type with their spreads; how many places are in use stands beside
+-- it. Definitions only.
 use mathlib.Core.Path.{_≡_}
 use mathlib.Core.Bool.{Bool, false, _&&_, cond}
 use mathlib.Core.List.{List, [], _∷_}
@@ -65,7 +64,7 @@ module _ {X : Type 0} (spread : X → Float) (none : X) where
   unfoldable pub enter : Holed X → X → List X
   enter s x = climb (s .hole) (set (s .room) (s .hole) x) (s .hole)
 
-  -- "Take out: the last element leaves the end; if others remain, it will replace place 0 .. Sink a hole from 0";
+  -- "Take out: the last element leaves the end; if others remain, it will replace place 0", and "Sink a hole from 0";
   -- n places are in use before, the last of them is free afterwards and keeps what stood there
   unfoldable pub takeOut : List X → ℕ → List X
   takeOut h n =

@@ -1,4 +1,4 @@
-// The heap of document 01 in two lent arrays of 256 places: the spreads, and the boxes each packed into a number.
+// The heap (Rules, Heap) in two lent arrays of 256 places: the spreads, and the boxes each packed into a number.
 ghost use mathlib.Core.Path.{_≡_};
 ghost use mathlib.Core.Bool.{cond};
 ghost use Prim.Native.Nat.{_+_, _*_, _<_, _≤_};

@@ -1,2 +1,2 @@
-// The heap of document 01.
+// The heap (Rules, Heap).
 pub mod arrays;

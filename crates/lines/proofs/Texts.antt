@@ -1,4 +1,4 @@
--- Laws of what the program says: the lower of two numbers, and the text by the number so far and that of the cut.
+-- Laws of what the program says: the lower of two answers, and the text by the answer so far and that of the cut.
 -- Assumes nothing.
 use mathlib.Core.Path.{_≡_, refl, sym, ap}
 use mathlib.Core.List.{List}
@@ -12,7 +12,7 @@ use Rattle.cutter.specs.Cut.{Buffers, buffers, cutRecord, cutLater}
 use Rattle.lines.specs.Text.{listingOf, refusedOf}
 use Rattle.lines.specs.Listing.{lowerOf, lentZeros, cutText, textOf}
 
--- ---- the lower of two numbers
+-- ---- the lower of two answers
 pub lower-first : (n m : ℕ) → n ≡ 0 → m ≡ lowerOf n m
 unfolding lowerOf
 lower-first zero m e = refl

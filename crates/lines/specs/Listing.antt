@@ -1,4 +1,4 @@
--- The listing program (document 01, "The listing program") between reading and writing. Definitions only.
+-- The listing program (Rules, Listing) between reading and writing. Definitions only.
 use mathlib.Core.Path.{_≡_}
 use mathlib.Core.Bool.{false}
 use mathlib.Core.List.{List, []}
@@ -12,24 +12,24 @@ use Rattle.cutter.specs.Cut.{Buffers, buffers, cutRecord, cutLater}
 use Rattle.lines.specs.declared.batches.Loaded.{Loaded}
 use Rattle.lines.specs.Text.{listingOf, refusedOf}
 
--- ---- "It reads RGB triples from standard input in batches, grid 8,8,8"
+-- ---- "reads RGB triples from standard input in batches, grid 8,8,8"
 unfoldable pub emptyTable : Table
 emptyTable = emptyOf (8 * 8 * 8)
 
--- the number of a load of some bytes without weights, and the table then
+-- the answer to a load of some bytes without weights, and the table then
 unfoldable pub partNumber : List ℕ → List ℕ → ℕ
 partNumber t bytes = loadNumber 8 8 8 t bytes false []
 
 unfoldable pub partLater : List ℕ → List ℕ → List ℕ
 partLater t bytes = loadLater 8 8 8 t bytes false []
 
--- the lower of two numbers, of which 0 is none
+-- the lower of two answers, where 0 is no refusal
 unfoldable pub lowerOf : ℕ → ℕ → ℕ
 lowerOf zero m = m
 lowerOf (suc n) zero = suc n
 lowerOf (suc n) (suc m) = min (suc n) (suc m)
 
--- a batch whose first bytes are filled: the lowest number so far, and that another one may follow where it is full
+-- a batch whose first bytes are filled: the lowest refusal so far, and that another one may follow where it is full
 unfoldable pub batchAnswer : List ℕ → List ℕ → ℕ → ℕ → Loaded
 batchAnswer t batch filled lowest =
     record { number = lowerOf lowest (partNumber t (take filled batch)); more = eqb filled (length batch) }
@@ -37,7 +37,7 @@ batchAnswer t batch filled lowest =
 unfoldable pub batchLater : List ℕ → List ℕ → ℕ → List ℕ
 batchLater t batch filled = partLater t (take filled batch)
 
--- ---- ".. k=16": the text for the table that was loaded
+-- ---- "grid 8,8,8, k=16": the text for the table that was loaded
 -- what a cut is lent, as long as it has to be
 unfoldable pub lentZeros : Buffers
 lentZeros = buffers (emptyOf (8 * 8 * 8)) (replicate (3 * 16) 0) (replicate 16 0) (replicate (8 * 8 * 8) 0)
@@ -49,7 +49,7 @@ cutText t =
     whenDone (r .number) (listingOf (r .boxes) (later .results .palette) (later .results .counts))
     (refusedOf (r .number))
 
--- "On a refusal it writes only `refused N`": the lowest number of the loads, or else that of the cut
+-- "On a refusal it writes only `refused N`": the lowest refusal of the loads, or else that of the cut
 unfoldable pub textOf : ℕ → List ℕ → List ℕ
 textOf number t = whenDone number (cutText t) (refusedOf number)
 

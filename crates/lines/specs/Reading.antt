@@ -1,4 +1,4 @@
--- An input that is read and loaded in batches (document 01, "The listing program"). Definitions only.
+-- An input that is read and loaded in batches (Rules, Listing). Definitions only.
 use mathlib.Core.Path.{_≡_}
 use mathlib.Core.Bool.{Bool, true, cond}
 use mathlib.Core.List.{List, [], _∷_, _++_}
@@ -6,7 +6,7 @@ use Prim.Native.Nat.{ℕ, _%_}
 use lib.ListN.{length}
 use Rattle.lines.specs.Listing.{partNumber, partLater, lowerOf}
 
--- between two batches: the lowest number of the loads so far, 0 where none was refused, and the table
+-- between two batches: the lowest refusal of the loads so far, 0 where there was none, and the table
 pub record Progress : Type 0 where
   pub number : ℕ
   pub table : List ℕ

@@ -1,4 +1,4 @@
--- The text that the listing program writes (document 01, "The listing program"), as a list of bytes. Definitions only.
+-- The text that the listing program writes (Rules, Listing), as a list of bytes. Definitions only.
 use mathlib.Core.Bool.{cond}
 use mathlib.Core.List.{List, [], _∷_, _++_}
 use Prim.Native.Nat.{ℕ, zero, suc, _+_, _*_, _/_, _%_}
@@ -19,7 +19,7 @@ unfoldable pub decimalOf : ℕ → List ℕ
 decimalOf n = digitsWithin (suc n) n
 
 -- ---- lines
--- the bytes of "boxes ", of " total " and of "refused "
+-- the bytes of the words `boxes`, `total` and `refused`, with the spaces around them
 unfoldable pub boxesWord : List ℕ
 boxesWord = 98 ∷ 111 ∷ 120 ∷ 101 ∷ 115 ∷ 32 ∷ []
 

@@ -11,7 +11,7 @@ pub fn empty_table() -> [u64; 2560]
     zeros
 }
 
-// The lower of two numbers, of which 0 is none.
+// The lower of two answers, where 0 is no refusal.
 fn lower(number: u8, other: u8) -> u8
     ensures { λ r. ⌜ r ≡ lowerOf number other ⌝ }
 {
@@ -24,13 +24,13 @@ fn lower(number: u8, other: u8) -> u8
     if other < number { other } else { number }
 }
 
-// The lowest number that a load has given so far, 0 where none was refused, and whether another batch may follow.
+// The lowest refusal that a load has given so far, 0 where there was none, and whether another batch may follow.
 pub struct Loaded {
     pub number: u8,
     pub more: bool,
 }
 
-// Loads the filled front of a batch. A refusal does not end the input: what follows may have a lower number.
+// Loads the filled front of a batch. A refusal does not end the input: what follows may have a lower one.
 pub fn load_batch(table: &mut [u64], batch: &[u8], filled: usize, lowest: u8) -> Loaded
     requires { ⌜ Filled (now batch) filled ⌝ }
     ensures answer { λ r. ⌜ r ≡ batchAnswer (now (table .entry)) (now (batch .entry)) filled lowest ⌝ }

@@ -49,7 +49,7 @@ fn fill(space: &mut [u8]) -> Batch
     }
 }
 
-// The lowest number of the loads so far, 0 where none was refused; whether there may be more to read; and whether a
+// The lowest refusal of the loads so far, 0 where there was none; whether there may be more to read; and whether a
 // read failed.
 struct Progress {
     number: u8,
@@ -72,7 +72,7 @@ fn load_next(table: &mut [u64], lowest: u8) -> Progress
     }
 }
 
-// Loads all of the input, past a refusal too, since stray bytes at its end give a lower number than a total that
+// Loads all of the input, past a refusal too, since stray bytes at its end give a lower answer than a total that
 // is too large. A proved loop has to end, so it counts its turns down, from a number that no run uses up.
 fn load_all(table: &mut [u64]) -> Progress
     ensures { λ r. ⌜ AllCame (progress 0 (now (table .entry))) (progress (r .number) (now (table .exit))) (r .more) ⌝ }

@@ -122,7 +122,7 @@ module _ (xs ys weights : List ℕ) (whole : length xs % 3 ≡ 0) where
 -- ---- a load into the table of some colours
 module _ (b1 b2 b3 : ℕ) {g : Grid} (e : gridOf b1 b2 b3 ≡ chosen.Accepted g) (cs : List Weighted) (y : AllBytes cs)
     (few : weightOf cs ≤ limit) (bytes weights : List ℕ) where
-  -- its number, and the colours of the table that it leaves
+  -- its answer, and the colours of the table that it leaves
   abbrev Loads : ℕ → List Weighted → Type 0
   Loads n ds =
       (loadNumber b1 b2 b3 (tableOf g cs) bytes false weights ≡ n)

@@ -1,4 +1,4 @@
--- How the calls end: which number they give and what they leave, case by case.
+-- How the calls end: which answer they give and what they leave, case by case.
 -- Assumes nothing.
 use mathlib.Core.Path.{_≡_, refl, ap}
 use mathlib.Core.Bool.{Bool, true, false, not, _&&_}
@@ -23,7 +23,7 @@ module _ (b1 b2 b3 : ℕ) (t s : Table) where
   abbrev MergeEnds : ℕ → Table → Type 0
   MergeEnds n e = (n ≡ mergeNumber b1 b2 b3 t s) × (e ≡ mergeLater b1 b2 b3 t s)
 
-  -- the number on a grid, and the table where it is 0
+  -- the answer on a grid, and the table where it is 0
   abbrev pub merge-on : Grid → ℕ
   merge-on g = mergeNumberOn limit 7 g (isSized t (binsOf g) && isSized s (binsOf g)) (viewOf t) (viewOf s)
 

@@ -1,5 +1,5 @@
 -- What a caller of load and merge may use without seeing inside their definitions: a refusal leaves all as it was,
--- lengths stay, and where the number is 0 the grid is accepted, the tables were sound, the total fits, and each number
+-- lengths stay, and where the answer is 0 the grid is accepted, the tables were sound, the total fits, and each number
 -- is known.
 -- Assumes nothing.
 use mathlib.Core.Path.{_≡_, refl, sym, _∙_}
@@ -89,7 +89,7 @@ module _ (b1 b2 b3 : ℕ) (t : Table) (colours : List ℕ) (weighted : Bool) (we
             rw (c .later) (list-holds (binsOf (c .g)) (loaded (c .g) (batchOf colours weighted weights) (viewOf t)));
       }
 
-  -- and the other way round: "none is given otherwise"
+  -- and the other way round: "where none applies, the answer is 0"
   pub load-accepts : {g : Grid} → gridOf b1 b2 b3 ≡ chosen.Accepted g → length colours % 3 ≡ 0
       → (weighted ≡ true → length weights ≡ length colours / 3) → Sized t (binsOf g) → sound limit g (viewOf t) ≡ true
       → total g (viewOf t) + weightOf (batchOf colours weighted weights) ≤ limit → number ≡ 0

@@ -173,7 +173,7 @@ module _ (b1 b2 b3 : ℕ) {g : Grid} (e : gridOf b1 b2 b3 ≡ chosen.Accepted g)
   on-merge zero (suc m) cs ds y z h = refl
   on-merge (suc n) m cs ds y z h = refl
 
-  -- A plan whose total fits is refused with the number of its first malformed batch, and otherwise gives the table of
+  -- A plan whose total fits is refused with the answer to its first malformed batch, and otherwise gives the table of
   -- its colours.
   pub ends-is : (p : Plan) → BytesIn p → weightOf (leaves p) ≤ limit
       → ends b1 b2 b3 p ≡ endedOf (firstMalformed p) (tableOf g (leaves p))
@@ -204,7 +204,7 @@ module _ (b1 b2 b3 : ℕ) {g : Grid} (e : gridOf b1 b2 b3 ≡ chosen.Accepted g)
       ends-is q z (omega (arith, over-perm (λ c. c .weight) π)) ∙ ap (λ (k : ℕ). endedOf k (tableOf g (leaves q))) n in
       (first, second ∙ ap Filled (sym (table-perm g π)) ∙ sym first)
 
-  -- A plan with a malformed batch is refused with that batch's number.
+  -- A plan with a malformed batch is refused with that batch's answer.
   pub malformed-refused : (p : Plan) → BytesIn p → weightOf (leaves p) ≤ limit → {n : ℕ} → firstMalformed p ≡ suc n
       → ends b1 b2 b3 p ≡ Stopped (suc n)
   unfolding endedOf

@@ -1,5 +1,5 @@
--- Laws of a part of a batch: what colours that are one add, that a part can be added after another, and that colours
--- that are one can be added at once.
+-- Laws of a part of a batch: what equal colours add, that a part can be added after another, and that equal colours can
+-- be added at once.
 -- Assumes nothing.
 use mathlib.Core.Path.{_≡_, refl, sym, ap, subst, _∙_}
 use mathlib.Core.Bool.{Bool, true, false, cond}
@@ -27,7 +27,7 @@ use Rattle.table.proofs.Tables.{has-cell, Holds, holds-same, holds-itself, list
 use Rattle.table.proofs.Cells.{number-cell, number-plus}
 use Rattle.loader.proofs.Loading.{over-list, AllBytes, load-sound, held-sound, held-total}
 
--- ---- colours that are one
+-- ---- equal colours
 share-none : (x : Rgb) (j : ℕ) → share (record { colour = x; weight = 0 }) j ≡ 0
 unfolding share
 share-none x zero = refl
@@ -69,7 +69,7 @@ module _ (g : Grid) (x : Rgb) (c : ℕ → Weighted) (p j : ℕ) where
       go true = sym (share-plus x a b j)
       go false = refl
 
-  -- any number of colours that are one add what it adds with the sum of their weights
+  -- any number of equal colours add what one adds with the sum of their weights
   run-adds : (i n : ℕ) → ((k : ℕ) → k < n → c (i + k) .colour ≡ x)
       → sumOver (listFrom i n c) (λ d. adds g d p j)
       ≡ adds g (record { colour = x; weight = weightOf (listFrom i n c) }) p j
@@ -205,7 +205,7 @@ unfolding withPart
 part-held g t colours weighted weights i n r =
     rw r (list-holds (binsOf g) (loaded g (partOf colours weighted weights i n) (viewOf t)))
 
--- colours that fit and are one can be added at once
+-- equal colours that fit can be added at once
 module _ {most : ℕ} {g : Grid} {t : Table} {colours : List ℕ} {weighted : Bool} {weights : List ℕ} {i n : ℕ}
     (fits : PartFits most g t colours weighted weights i n) (bytes : (k : ℕ) → getD colours k 0 < 256)
     (same : (k : ℕ) → k < n → colourAt colours (i + k) ≡ colourAt colours i)

@@ -36,7 +36,7 @@ stopped-not : {n : ℕ} {t : Table} → _≡_ {A = Ended} (Stopped n) (Filled t)
 unfolding isTable
 stopped-not e = true≢false (sym (ap isTable e))
 
--- a table came out where the number is 0
+-- a table came out where the answer is 0
 filled-done : (n : ℕ) (x : Table) {t : Table} → endedOf n x ≡ Filled t → n ≡ 0
 unfolding endedOf
 filled-done zero x e = refl

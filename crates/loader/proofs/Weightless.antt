@@ -171,7 +171,7 @@ module _ (xs ys us ws : List ℕ) (c1 c2 c3 : ℕ) (pairs : length xs ≡ 3 * le
       next : (n : ℕ) → suc n ≡ 1 + n
       next n = omega arith
 
-  -- "Weight 0 adds nothing": the number is the same, and so is the table
+  -- "Weight 0 adds nothing": the answer is the same, and so is the table
   pub weightless : (b1 b2 b3 : ℕ) (t : Table)
       → (loadNumber b1 b2 b3 t more true (us ++ (0 ∷ ws)) ≡ loadNumber b1 b2 b3 t fewer true (us ++ ws))
       × (loadLater b1 b2 b3 t more true (us ++ (0 ∷ ws)) ≡ loadLater b1 b2 b3 t fewer true (us ++ ws))

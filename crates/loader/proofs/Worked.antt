@@ -1,4 +1,4 @@
--- Loads and merges beside document 01's cases, computed on the definitions.
+-- Loads and merges beside those of the page (Rules, Cases), computed on the definitions.
 -- Assumes nothing.
 use mathlib.Core.Path.{_≡_, refl}
 use mathlib.Core.Bool.{Bool, true, false}
@@ -18,7 +18,7 @@ use Rattle.loader.specs.Load.{share, adds, sumOver, weightOf, loaded, we
 use Rattle.loader.specs.Load.{loadNumber, loadLater}
 use Rattle.loader.specs.Merge.{merged, mergeNumberOn, mergeNumber, mergeLater}
 
--- a number, and the table then
+-- an answer, and the table then
 record Outcome : Type 0 where
   number : ℕ
   later : List ℕ

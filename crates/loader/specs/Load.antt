@@ -1,4 +1,4 @@
--- Loading (document 01, "Load" and "Numbers a caller gets back"). Definitions only.
+-- Loading (Rules, Load; Rules, Answers). Definitions only.
 use mathlib.Core.Path.{_≡_}
 use mathlib.Core.Bool.{Bool, not, _&&_, cond}
 use mathlib.Core.List.{List, [], _∷_, List·Memᴰ}
@@ -20,7 +20,7 @@ pub record Weighted : Type 0 where
   pub colour : Rgb
   pub weight : ℕ
 
--- "Each colour adds its weight .. w to n, w·c to each sum, w·(c1²+c2²+c3²) to the squares"
+-- "Each colour adds w to n, w·c to each sum, w·(c1²+c2²+c3²) to the squares of its bin."
 unfoldable pub share : Weighted → ℕ → ℕ
 share c zero = c .weight
 share c (suc zero) = c .weight * c .colour .c1
@@ -55,7 +55,7 @@ pub record ColourAt (g : Grid) (cs : List Weighted) (p : ℕ) : Type 0 where
   pub weighs : 0 < colour .weight
   pub there : colourPlace g (colour .colour) ≡ p
 
--- colour i of a batch: "its weight (.. 1 when none is given, whatever list is lent)"
+-- colour i of a batch, with its weight: "it is 1 when none is given, whatever list is lent"
 unfoldable pub weightedAt : List ℕ → Bool → List ℕ → ℕ → Weighted
 weightedAt colours weighted weights i =
     record { colour = colourAt colours i; weight = cond weighted (getD weights i 0) 1 }
@@ -64,7 +64,7 @@ weightedAt colours weighted weights i =
 unfoldable pub batchOf : List ℕ → Bool → List ℕ → List Weighted
 batchOf colours weighted weights = listFrom 0 (length colours / 3) (weightedAt colours weighted weights)
 
--- the number of a load on an accepted grid: a limit and the number given beyond it, whether the table's length fits,
+-- the answer to a load on an accepted grid: a limit and the answer given beyond it, whether the table's length fits,
 -- and what it holds
 unfoldable pub loadNumberOn : ℕ → ℕ → Grid → Bool → View → List ℕ → Bool → List ℕ → ℕ
 loadNumberOn most beyond g sized v colours weighted weights =
@@ -80,7 +80,7 @@ loadNumber b1 b2 b3 t colours weighted weights =
     numberOn (gridOf b1 b2 b3)
     (λ g. loadNumberOn limit 7 g (isSized t (binsOf g)) (viewOf t) colours weighted weights)
 
--- the table after a load: "A refusal .. writes nothing"
+-- the table after a load: "A refusal writes nothing."
 unfoldable pub loadLater : ℕ → ℕ → ℕ → Table → List ℕ → Bool → List ℕ → Table
 loadLater b1 b2 b3 t colours weighted weights =
     onGrid (gridOf b1 b2 b3) t

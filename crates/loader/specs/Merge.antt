@@ -1,4 +1,4 @@
--- Merging (document 01, "Merge" and "Numbers a caller gets back"). Definitions only.
+-- Merging (Rules, Merge; Rules, Answers). Definitions only.
 use mathlib.Core.Bool.{Bool, not, _&&_}
 use Prim.Native.Nat.{ℕ, _+_}
 use lib.Dec.{ltb}
@@ -9,11 +9,11 @@ use Rattle.table.specs.Cell.{View}
 use Rattle.table.specs.Table.{Table, isSized, viewOf, written}
 use Rattle.table.specs.Sound.{limit, total, sound, unsoundNumber}
 
--- "Merge adds a second table into a first, number by number"
+-- "A merge adds a second table into a first, number by number."
 unfoldable pub merged : View → View → View
 merged v u p j = v p j + u p j
 
--- the number of a merge on an accepted grid: a limit and the number given beyond it, whether both lengths fit, and what
+-- the answer to a merge on an accepted grid: a limit and the answer given beyond it, whether both lengths fit, and what
 -- the tables hold; "either table unsound is 6"
 unfoldable pub mergeNumberOn : ℕ → ℕ → Grid → Bool → View → View → ℕ
 mergeNumberOn most beyond g sized v u =

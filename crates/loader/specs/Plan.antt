@@ -1,4 +1,5 @@
--- Plans of loads and merges, and how they end by the definitions that the contracts cite (demand 3). Definitions only.
+-- Plans of loads and merges, and how they end by the definitions that the contracts cite (Rules, Demands).
+-- Definitions only.
 use mathlib.Core.Bool.{Bool, not, _&&_}
 use mathlib.Core.List.{List, [], _++_}
 use Prim.Native.Nat.{ℕ, zero, suc, _*_, _/_, _%_, _<_}
@@ -21,7 +22,7 @@ pub data Plan : Type 0 where
   load : Plan → Batch → Plan
   merge : Plan → Plan → Plan
 
--- how a plan ends: stopped by the number of the first refusal, or with a table filled
+-- how a plan ends: stopped by the answer of the first refusal, or with a table filled
 pub data Ended : Type 0 where
   Stopped : ℕ → Ended
   Filled : Table → Ended
@@ -53,7 +54,7 @@ leaves empty = []
 leaves (load p b) = leaves p ++ batchOf (b .colours) (b .weighted) (b .weights)
 leaves (merge p q) = leaves p ++ leaves q
 
--- the number that a batch gets by itself: not in threes, or weights that do not pair
+-- the answer that a batch gets by itself: not in threes, or weights that do not pair
 unfoldable pub malformed : Batch → ℕ
 malformed b =
     refuse (not (eqb (length (b .colours) % 3) 0)) 3
@@ -63,7 +64,7 @@ unfoldable pub firstOf : ℕ → ℕ → ℕ
 firstOf zero m = m
 firstOf (suc n) m = suc n
 
--- the number of the first malformed batch, and 0 where there is none
+-- the answer to the first malformed batch, and 0 where there is none
 unfoldable pub firstMalformed : Plan → ℕ
 firstMalformed empty = 0
 firstMalformed (load p b) = firstOf (firstMalformed p) (malformed b)

@@ -40,7 +40,7 @@ fn add_each(
     }
 }
 
-// Adds a block of 64 colours: at once where they are one, else each by itself. Whether weights are given is asked
+// Adds a block of 64 colours: at once where they are equal, else each by itself. Whether weights are given is asked
 // before each loop, so that the loop without them need not multiply.
 fn add_block(
     g: Grid,

@@ -43,7 +43,7 @@ module _ (b1 b2 b3 : ℕ) (map : List ℕ) (paletteColours : ℕ) (frame : List 
   abbrev size : ℕ
   size = length frame / 3
 
-  -- every band inside the frame has the same number, with any buffer of the same length
+  -- every band inside the frame has the same answer, with any buffer of the same length
   pub number-on-same : (g : Grid) (old new : List ℕ) (first pixels first' pixels' : ℕ) → length old ≡ length new
       → first + pixels ≤ size → first' + pixels' ≤ size → on g old first pixels ≡ on g new first' pixels'
   unfolding mapNumberOn bandNumber

@@ -1,5 +1,5 @@
 -- What a caller of map may use: how it ends, that a refusal leaves all as it was and that lengths stay, and where the
--- number is 0 that the band has its indices, each below the palette's length.
+-- answer is 0 that the band has its indices, each below the palette's length.
 -- Assumes nothing.
 use mathlib.Core.Path.{_≡_, refl, sym, ap, _∙_}
 use mathlib.Core.Bool.{Bool, true, false}
@@ -22,7 +22,7 @@ use Rattle.band.proofs.Below.{entry-below}
 use Rattle.band.proofs.Numbers.{band-passed, band-accepted, band-not-9}
 use Rattle.mapper.specs.Map.{mapNumberOn, mapNumber, mapLater, CanMap}
 
--- ---- on an accepted grid the number is 0 exactly where nothing refuses
+-- ---- on an accepted grid the answer is 0 exactly where nothing refuses
 module _ (g : Grid) (map : List ℕ) (paletteColours : ℕ) (frame indices : List ℕ) (first pixels : ℕ) where
   abbrev fits : Bool
   fits = eqb (length indices) (length frame / 3)
@@ -65,7 +65,7 @@ module _ (b1 b2 b3 : ℕ) (map : List ℕ) (paletteColours : ℕ) (frame indices
   abbrev later : List ℕ
   later = mapLater b1 b2 b3 map paletteColours frame indices first pixels
 
-  -- on an accepted grid: its number, what nothing refuses, and the index buffer with the band written
+  -- on an accepted grid: its answer, what nothing refuses, and the index buffer with the band written
   abbrev on : Grid → ℕ
   on g = mapNumberOn g map paletteColours frame indices first pixels
 
@@ -75,7 +75,7 @@ module _ (b1 b2 b3 : ℕ) (map : List ℕ) (paletteColours : ℕ) (frame indices
   abbrev written : Grid → List ℕ
   written g = writeBand first pixels (indexAt g map frame) indices
 
-  -- how the call ends: which number it gives and what it leaves
+  -- how the call ends: which answer it gives and what it leaves
   abbrev Ends : ℕ → List ℕ → Type 0
   Ends n l = (n ≡ number) × (l ≡ later)
 
@@ -110,12 +110,12 @@ module _ (b1 b2 b3 : ℕ) (map : List ℕ) (paletteColours : ℕ) (frame indices
         writes = c .later;
       }
 
-  -- and the other way round, on a grid that is known: by its number
+  -- and the other way round, on a grid that is known: by its answer
   pub map-done : {g : Grid} → gridOf b1 b2 b3 ≡ chosen.Accepted g → on g ≡ 0 → (number ≡ 0) × (later ≡ written g)
   unfolding whenDone
   map-done e q = let ends = map-ends e q refl in (sym (ends .0), sym (ends .1))
 
-  -- by its tests: "none is given otherwise"
+  -- by its tests: "where none applies, the answer is 0"
   pub map-accepts : {g : Grid} → gridOf b1 b2 b3 ≡ chosen.Accepted g → Can g → (number ≡ 0) × (later ≡ written g)
   map-accepts e c = map-done e (nothing-refuses _ map paletteColours frame indices first pixels c)
 

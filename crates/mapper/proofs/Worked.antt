@@ -12,7 +12,7 @@ use Rattle.pixels.specs.Colour.{colourAt}
 use Rattle.band.specs.Band.{indexAt, among, writeBand, allBelow, bandNumber}
 use Rattle.mapper.specs.Map.{mapNumberOn, mapNumber, mapLater}
 
--- a number, and the lent buffer then
+-- an answer, and the lent buffer then
 record Outcome : Type 0 where
   number : ℕ
   later : List ℕ
@@ -58,7 +58,7 @@ done paletteColours first pixels later =
       expected = record { number = 0; later = later };
     }
 
--- a call that is refused with a number
+-- a call that is refused with an answer
 refused : ℕ → List ℕ → ℕ → List ℕ → ℕ → ℕ → ℕ → Mapping
 refused size lent paletteColours frame first pixels number =
     record {
@@ -80,7 +80,7 @@ mappings =
     ∷ done 8 1 0 nines
     ∷ done 8 3 0 nines
     ∷ refused 2 places 8 pixels3 4 0 5
-    -- past the frame, and "past the largest number"
+    -- past the frame, and past the largest number
     ∷ refused 2 places 8 pixels3 2 2 5
     ∷ refused 2 places 8 pixels3 1 18446744073709551615 5
     -- the last entry is not below 7, and the band of the black pixel has no use for it
@@ -91,7 +91,7 @@ mappings =
     ∷ refused 2 places 257 pixels3 0 3 5
     ∷ refused 4 places 8 pixels3 0 3 5
     ∷ refused 2 places 8 [] 0 0 5
-    -- the lowest number that applies: bytes not in threes, then a size
+    -- the lowest answer that applies: bytes not in threes, then a size
     ∷ refused 2 [] 0 (1 ∷ []) 9 9 3
     ∷ refused 1 [] 0 (1 ∷ []) 9 9 1
     ∷ []

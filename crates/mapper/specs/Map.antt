@@ -1,4 +1,4 @@
--- Mapping a band (document 01, "Map and paint" and "Numbers a caller gets back"). Definitions only.
+-- Mapping a band (Rules, Map; Rules, Answers). Definitions only.
 use mathlib.Core.Path.{_≡_}
 use mathlib.Core.Bool.{true}
 use mathlib.Core.List.{List}
@@ -10,7 +10,7 @@ use Rattle.basics.specs.Answer.{whenDone}
 use Rattle.grid.specs.Grid.{gridOf, onGrid, numberOn, binsOf}
 use Rattle.band.specs.Band.{indexAt, writeBand, allBelow, bandNumber}
 
--- the number of a mapping on an accepted grid: "index buffer exactly one byte per frame pixel"
+-- the answer to a mapping on an accepted grid: "index buffer exactly one byte per frame pixel"
 unfoldable pub mapNumberOn : Grid → List ℕ → ℕ → List ℕ → List ℕ → ℕ → ℕ → ℕ
 mapNumberOn g map paletteColours frame indices first pixels =
     bandNumber g map paletteColours (eqb (length indices) (length frame / 3)) (length frame) first pixels
@@ -20,7 +20,7 @@ mapNumber b1 b2 b3 map paletteColours frame indices first pixels =
     numberOn (gridOf b1 b2 b3) (λ g. mapNumberOn g map paletteColours frame indices first pixels)
 
 -- the index buffer after a mapping: "Mapping a band reads the pixels from a given first pixel onward and writes only
--- that band of the frame's index buffer", and "A refusal .. writes nothing"
+-- that band of the frame's index buffer", and "A refusal writes nothing."
 unfoldable pub mapLater : ℕ → ℕ → ℕ → List ℕ → ℕ → List ℕ → List ℕ → ℕ → ℕ → List ℕ
 mapLater b1 b2 b3 map paletteColours frame indices first pixels =
     onGrid (gridOf b1 b2 b3) indices

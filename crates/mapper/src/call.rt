@@ -1,4 +1,4 @@
-// The call: a band is refused by its number, or mapped.
+// The call: a band is refused by its answer, or mapped.
 use crate::blocks::map_part;
 use band::band_number;
 use grid::place::Chosen;

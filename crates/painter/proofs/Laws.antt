@@ -1,5 +1,5 @@
 -- What a caller of paint may use: how it ends, that a refusal leaves all as it was and that lengths stay, and where the
--- number is 0 that the band has the palette's colours at its indices.
+-- answer is 0 that the band has the palette's colours at its indices.
 -- Assumes nothing.
 use mathlib.Core.Path.{_≡_, refl, sym, ap, _∙_}
 use mathlib.Core.Bool.{Bool, true, false}
@@ -22,7 +22,7 @@ use Rattle.band.proofs.Numbers.{band-passed, band-accepted, band-not-9}
 use Rattle.painter.specs.Paint.{paintAt, paintNumberOn, paintNumber, paintLater, CanPaint}
 use Rattle.painter.proofs.Bytes.{paint-byte}
 
--- ---- on an accepted grid the number is 0 exactly where nothing refuses
+-- ---- on an accepted grid the answer is 0 exactly where nothing refuses
 module _ (g : Grid) (map palette frame : List ℕ) (first pixels : ℕ) where
   abbrev fits : Bool
   fits = eqb (length palette % 3) 0
@@ -64,7 +64,7 @@ module _ (b1 b2 b3 : ℕ) (map palette frame : List ℕ) (first pixels : ℕ) wh
   abbrev later : List ℕ
   later = paintLater b1 b2 b3 map palette frame first pixels
 
-  -- on an accepted grid: its number, what nothing refuses, and the frame with the band painted
+  -- on an accepted grid: its answer, what nothing refuses, and the frame with the band painted
   abbrev on : Grid → ℕ
   on g = paintNumberOn g map palette frame first pixels
 
@@ -74,7 +74,7 @@ module _ (b1 b2 b3 : ℕ) (map palette frame : List ℕ) (first pixels : ℕ) wh
   abbrev written : Grid → List ℕ
   written g = writeBand (3 * first) (3 * pixels) (paintAt g map palette frame) frame
 
-  -- how the call ends: which number it gives and what it leaves
+  -- how the call ends: which answer it gives and what it leaves
   abbrev Ends : ℕ → List ℕ → Type 0
   Ends n l = (n ≡ number) × (l ≡ later)
 
@@ -109,7 +109,7 @@ module _ (b1 b2 b3 : ℕ) (map palette frame : List ℕ) (first pixels : ℕ) wh
         writes = c .later;
       }
 
-  -- and the other way round: "none is given otherwise"
+  -- and the other way round: "where none applies, the answer is 0"
   pub paint-accepts : {g : Grid} → gridOf b1 b2 b3 ≡ chosen.Accepted g → Can g → (number ≡ 0) × (later ≡ written g)
   unfolding whenDone
   paint-accepts e c =
@@ -143,7 +143,7 @@ module _ (b1 b2 b3 : ℕ) (map palette frame : List ℕ) (first pixels : ℕ) wh
       (omega (arith, d .can .inside)) (omega arith) (omega arith)
       ∙ paint-byte (d .g) map palette frame i c h
 
-  -- "for a band": the bytes of every other pixel are as they were
+  -- "in place for a band": the bytes of every other pixel are as they were
   pub paint-kept : (j : ℕ) → among (3 * first) (3 * pixels) j ≡ false → getD later j 0 ≡ getD frame j 0
   paint-kept j out = go number refl
     where

@@ -12,7 +12,7 @@ use Rattle.pixels.specs.Colour.{colourAt}
 use Rattle.band.specs.Band.{indexAt, among, writeBand, allBelow, bandNumber}
 use Rattle.painter.specs.Paint.{paintAt, paintNumberOn, paintNumber, paintLater}
 
--- a number, and the lent buffer then
+-- an answer, and the lent buffer then
 record Outcome : Type 0 where
   number : ℕ
   later : List ℕ
@@ -26,7 +26,7 @@ record Painting : Type 0 where
   pixels : ℕ
   expected : Outcome
 
--- the map of document 01's P1
+-- the map of P1 (Rules, Cases)
 halves : List ℕ
 halves = 0 ∷ 0 ∷ 0 ∷ 0 ∷ 1 ∷ 1 ∷ 1 ∷ 1 ∷ []
 
@@ -53,7 +53,7 @@ done palette first pixels later =
       expected = record { number = 0; later = later };
     }
 
--- a call that is refused with a number
+-- a call that is refused with an answer
 refused : ℕ → List ℕ → List ℕ → ℕ → ℕ → ℕ → Painting
 refused size palette frame first pixels number =
     record {
@@ -80,7 +80,7 @@ paintings =
     ∷ done (replicate 768 8) 0 1 (8 ∷ 8 ∷ 8 ∷ 255 ∷ 255 ∷ 255 ∷ 200 ∷ 9 ∷ 100 ∷ [])
     ∷ refused 2 (replicate 771 8) pixels3 0 1 5
     ∷ refused 2 (replicate 7 8) pixels3 0 1 5
-    -- the lowest number that applies: bytes not in threes, then a size
+    -- the lowest answer that applies: bytes not in threes, then a size
     ∷ refused 2 [] (1 ∷ 2 ∷ []) 9 9 3
     ∷ refused 1 [] (1 ∷ 2 ∷ []) 9 9 1
     ∷ []

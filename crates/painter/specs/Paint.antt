@@ -1,4 +1,4 @@
--- Painting a band (document 01, "Map and paint" and "Numbers a caller gets back"). Definitions only.
+-- Painting a band (Rules, Paint; Rules, Answers). Definitions only.
 use mathlib.Core.Path.{_≡_}
 use mathlib.Core.Bool.{true}
 use mathlib.Core.List.{List}
@@ -14,9 +14,8 @@ use Rattle.band.specs.Band.{indexAt, writeBand, allBelow, bandNumber}
 unfoldable pub paintAt : Grid → List ℕ → List ℕ → List ℕ → ℕ → ℕ
 paintAt g map palette frame j = getD palette (3 * indexAt g map frame (j / 3) + j % 3) 0
 
--- the number of a painting on an accepted grid: "the palette for painting 3..768 bytes, a multiple of three", which is
--- 1
--- to 256 colours and no byte over
+-- the answer to a painting on an accepted grid: "the palette for painting has 3..768 bytes, a multiple of three", which
+-- is 1 to 256 colours and no byte over
 unfoldable pub paintNumberOn : Grid → List ℕ → List ℕ → List ℕ → ℕ → ℕ → ℕ
 paintNumberOn g map palette frame first pixels =
     bandNumber g map (length palette / 3) (eqb (length palette % 3) 0) (length frame) first pixels
@@ -33,7 +32,7 @@ paintLater b1 b2 b3 map palette frame first pixels =
     (writeBand (3 * first) (3 * pixels) (paintAt g map palette frame) frame)
     frame)
 
--- what a painting on an accepted grid is given that nothing refuses, no 3, 5, 9: "the palette for painting 3..768
+-- what a painting on an accepted grid is given that nothing refuses, no 3, 5, 9: "the palette for painting has 3..768
 -- bytes, a multiple of three"
 pub record CanPaint (g : Grid) (map palette frame : List ℕ) (first pixels : ℕ) : Type 0 where
   pub threes : length frame % 3 ≡ 0

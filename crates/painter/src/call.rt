@@ -1,4 +1,4 @@
-// The call: a band is refused by its number, or painted.
+// The call: a band is refused by its answer, or painted.
 use crate::blocks::paint_part;
 use crate::palette::packed_palette;
 use band::band_number;

@@ -125,7 +125,7 @@ module _ (bytes : List ℕ) where
         none : (k : ℕ) → k < 64 → changes (i + k) ≡ 0
         none k h = omega (arith, term-le i 64 changes (i + k) (omega arith) (omega arith))
 
-    -- the 65 colours from i on are one exactly where none of the 192 bytes differs
+    -- the 65 colours from i on are equal exactly where none of the 192 bytes differs
     pub counted : eqb (sumFrom (3 * i) 192 (differs bytes)) 0 ≡ equalColours bytes i
     counted =
         tests-same (eqb (sumFrom (3 * i) 192 (differs bytes)) 0) (equalColours bytes i)

@@ -8,7 +8,7 @@ use Rattle.pixels.specs.declared.colour.Rgb.{Rgb}
 use Rattle.basics.specs.Range.{allFrom}
 use Rattle.pixels.specs.Colour.{colourAt}
 
--- two colours are one
+-- two colours are equal
 unfoldable pub sameColour : Rgb → Rgb → Bool
 sameColour x y = eqb (x .c1) (y .c1) && (eqb (x .c2) (y .c2) && eqb (x .c3) (y .c3))
 

@@ -7,7 +7,7 @@ ghost use lib.ListN.{length};
 ghost use Rattle.basics.specs.Range.{sumFrom};
 ghost use Rattle.pixels.specs.Equal.{sameColour, equalColours, differs};
 
-// Whether two colours are one.
+// Whether two colours are equal.
 fn same_colour(x: Rgb, y: Rgb) -> bool
     ensures { λ r. ⌜ r ≡ sameColour x y ⌝ }
 {

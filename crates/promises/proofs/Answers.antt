@@ -1,6 +1,6 @@
--- "Where an answer is an enum, a definition sets out this paper's number and values for each of its cases. The promises
--- use that
--- definition": what a caller is told of a size, of three sizes, of a table and of the best position of a box.
+-- "Where what is handed back is an enum, a definition sets out the answer and the values for each of its cases. The
+-- promises use that definition.": what a caller is told of a size, of three sizes, of a table and of the best position
+-- of a box.
 -- Assumes nothing.
 use mathlib.Core.Path.{_≡_, refl, ap, _∙_}
 use mathlib.Core.Logic.{_⊎_, inl, inr}
@@ -91,9 +91,8 @@ sound-told g v =
     }
 
 -- ---- the best position of a box: "either a position with its float score, or that no position exists; the second
--- exactly when no
--- position has weight on both sides", and "The smallest score wins; on a tie the lowest dimension, in it the lowest
--- bin"
+-- exactly when no position has weight on both sides", and "The smallest score wins; on a tie the lowest dimension, in
+-- it the lowest bin."
 pub position-told : (g : Grid) (v : View) (x : Bounds) → sound limit g v ≡ true → Within g x
     → Tells (Candidate g v x) (positionAnswer (bestCut g v x))
 position-told g v x e w = best-told (record { holds = e }) w

@@ -1,7 +1,6 @@
 -- The cut that a C or Rust caller makes is the cut: it is done exactly where that is done and there is room for the
--- boxes, and then it tells
--- and leaves behind what that does. So Tiling, Full and Order, which speak of `cutRecord` and `cutLater`, speak of it
--- too.
+-- boxes, and then it tells and leaves behind what that does. So Tiling, Full and Order, which speak of `cutRecord` and
+-- `cutLater`, speak of it too.
 -- Assumes nothing.
 use mathlib.Core.Path.{_≡_, refl, sym, ap, subst, _∙_}
 use mathlib.Core.Logic.{_↔_}
@@ -66,7 +65,7 @@ module _ (r : CutRecord) (many : length (told r) ≡ r .boxes) (i : ℕ) (h : i 
       place : (i : ℕ) → i ≡ 1 * i + 0
       place i = omega arith
 
--- "Places past the filled front .. stay"
+-- "Places past the filled front of palette and counts stay."
 stays : {B : Type 0} (w : ℕ) (f : BoxSpread → List B) → ((x : BoxSpread) → length (f x) ≡ w)
     → (xs : List BoxSpread) {n : ℕ} → w * length xs ≡ n → (old : List B) (j : ℕ) (past : B)
     → getD (filled w f xs old) (n + j) past ≡ getD old (n + j) past
@@ -85,7 +84,7 @@ module _ (b1 b2 b3 k : ℕ) (t : List ℕ) (l : Lent) where
   abbrev room : ℕ
   room = roomNumber b1 b2 b3 k (length (l .boxes)) (length (l .spreads))
 
-  -- the number that is answered
+  -- the answer that is given
   is-number : number ≡ callNumber b1 b2 b3 k t l
   unfolding cutAnswer
   is-number = refl
@@ -119,7 +118,7 @@ module _ (b1 b2 b3 k : ℕ) (t : List ℕ) (l : Lent) where
         ∙ d .0,
   )
 
-  -- "zero boxes", and nothing is written
+  -- "A refusal writes nothing." And it has no boxes
   pub refused-call : {n : ℕ} → cutAnswer b1 b2 b3 k t l .number ≡ suc n
       → (cutAnswer b1 b2 b3 k t l ≡ record { number = suc n; boxes = 0 }) × (callLater b1 b2 b3 k t l ≡ l)
   refused-call e = call-kept b1 b2 b3 k t l (sym is-number ∙ e)

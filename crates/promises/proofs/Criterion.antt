@@ -1,6 +1,5 @@
 -- Wu's criterion, over whole numbers: among the positions of a box, the one with the smallest exact score is the one
--- whose two sides
--- have the smallest exact spreads together, since those are the squares of the box and the score.
+-- whose two sides have the smallest exact spreads together, since those are the squares of the box and the score.
 -- Assumes nothing.
 use mathlib.Core.Path.{_≡_}
 use mathlib.Core.Logic.{_↔_}

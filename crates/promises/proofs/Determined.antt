@@ -1,7 +1,6 @@
 -- For every public function of every crate: any two results, and any two later contents of what it was lent, that its
--- contract allows
--- are equal. `Learnt` is what a contract tells its caller of the arguments a, the result r and the parameters at exit
--- e.
+-- contract allows are equal. `Learnt` is what a contract tells its caller of the arguments a, the result r and the
+-- parameters at exit e.
 -- Assumes nothing.
 use mathlib.Core.Path.{_≡_}
 use mathlib.Core.List.{List}

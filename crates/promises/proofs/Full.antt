@@ -1,4 +1,4 @@
--- Demand 3, the number of boxes: of a table loaded from colours, as many as the smaller of k and the occupied bins.
+-- How many boxes (Rules, Demands): of a table loaded from colours, as many as the smaller of k and the occupied bins.
 -- Assumes nothing.
 use mathlib.Core.Path.{_≡_, sym, ap, _∙_}
 use mathlib.Core.List.{List}

@@ -1,6 +1,5 @@
--- The listing program (document 01, "The listing program"): its example, that a refusal is all that is written, and
--- that the batches
--- in which its input comes are no matter.
+-- The listing program (Rules, Listing): its example, that a refusal is all that is written, and that the batches in
+-- which its input comes are no matter.
 -- Assumes nothing.
 use mathlib.Core.Path.{_≡_, refl, sym, ap, _∙_}
 use mathlib.Core.Bool.{true, false, cond, true≢false}
@@ -257,7 +256,7 @@ four-pixels =
 not-both : {a m : ℕ} → a ≡ 0 → a ≡ suc m → ⊥
 not-both z y = omega arith
 
--- "On a refusal it writes only `refused N`": the lowest number of the loads
+-- "On a refusal it writes only `refused N`": the lowest refusal of the loads
 pub only-refused : (batches : List (List ℕ)) {n : ℕ} → afterAll atFirst batches .number ≡ suc n
     → writtenFor batches ≡ refusedOf (suc n)
 unfolding writtenFor
@@ -277,8 +276,8 @@ no-input =
     is-8 : cutRecord 8 8 8 16 nothing lentZeros .number ≡ 8
     is-8 = record-number 8 8 8 16 nothing lentZeros ∙ none-cut [] refl (lit≤ tt) (λ k. lit< tt) refl
 
--- ---- "in batches"
--- where some bytes were read: the number and, where it is 0, the table are those of one load of them all, and the table
+-- ---- "from standard input in batches"
+-- where some bytes were read: the answer and, where it is 0, the table are those of one load of them all, and the table
 -- is one of colours
 record Reached (s : Progress) (seen : List ℕ) : Type 0 where
   number : s .number ≡ partNumber emptyTable seen
@@ -318,7 +317,7 @@ module _ (s : Progress) (seen : List ℕ) (r : Reached s seen) (whole : length s
     unfolding afterBatch partLater
     leaves e = ap (λ (u : List ℕ). loadLater 8 8 8 u batch false []) is ∙ e
 
-  -- a refusal with its number, whatever colours are then in the table
+  -- a refusal with its answer, whatever colours are then in the table
   refusal : (n : ℕ) → next .number ≡ suc n → partNumber emptyTable (seen ++ batch) ≡ suc n → (cs : List Weighted)
       → AllBytes cs → weightOf cs ≤ limit → next .table ≡ tableOf grid8 cs → Reached next (seen ++ batch)
   refusal n e f cs y h t =
@@ -462,7 +461,7 @@ any-batches batches last w are =
     ap (λ (s : Progress). textOf (s .number) (s .table)) (after-last atFirst batches last)
     ∙ same-text _ _ _ _ (r .number) (r .table)
 
--- and that is the text which the program's loop over its input leads to: "in batches", of which only the last can split
+-- and that is the text which the program's loop over its input leads to: in batches, of which only the last can split
 -- a pixel
 pub came-written : {s : Progress} (c : AllCame atFirst s false)
     → textOf (s .number) (s .table) ≡ writtenFor (c .batches ++ c .last ∷ [])

@@ -18,8 +18,7 @@ use Rattle.loader.proofs.Weightless.{weightless, empty-weight, empty-kept}
 
 module _ (b1 b2 b3 : ℕ) (t : List ℕ) where
   -- a batch that has a colour of weight 0 after the colours xs, of weights us, is loaded as the batch without it: the
-  -- same number, and
-  -- the same table
+  -- same answer, and the same table
   pub weight-0-adds-nothing : (xs ys us ws : List ℕ) (c1 c2 c3 : ℕ) → length xs ≡ 3 * length us
       → (loadNumber b1 b2 b3 t (xs ++ (c1 ∷ c2 ∷ c3 ∷ ys)) true (us ++ (0 ∷ ws))
       ≡ loadNumber b1 b2 b3 t (xs ++ ys) true (us ++ ws))

@@ -1,8 +1,6 @@
 -- Mapping and painting after a cut: a pixel has index i exactly where box i holds its bin, neither call refuses the map
--- with 9 for the
--- palette that came with it, and plans over the same colours give every pixel of every frame the same index. And
--- mapping in bands,
--- and painting, which is looking up the palette at the mapped index.
+-- with 9 for the palette that came with it, and plans over the same colours give every pixel of every frame the same
+-- index. And mapping in bands, and painting, which is looking up the palette at the mapped index.
 -- Assumes nothing.
 use mathlib.Core.Path.{_≡_, refl, sym, ap, _∙_}
 use mathlib.Core.Bool.{true}
@@ -42,8 +40,7 @@ use Rattle.promises.proofs.Tiling.{tiling}
 module _ (b1 b2 b3 k : ℕ) (t : List ℕ) (b : Buffers) {g : Grid} (e : gridOf b1 b2 b3 ≡ chosen.Accepted g)
     (n : cutNumber b1 b2 b3 k t b ≡ 0) where
   -- "every bin of it gets index i in the map" and "A pixel's index is the map's byte at its bin", over the call: a
-  -- pixel of a mapped
-  -- band has index i exactly where box i holds its bin
+  -- pixel of a mapped band has index i exactly where box i holds its bin
   pub pixel-index : (paletteColours : ℕ) (frame indices : List ℕ) (first pixels : ℕ) → ((j : ℕ) → getD frame j 0 < 256)
       → mapNumber b1 b2 b3 (cutMap b1 b2 b3 k t b) paletteColours frame indices first pixels ≡ 0
       → (i p : ℕ) → i < cutRecord b1 b2 b3 k t b .boxes → first ≤ p → p < first + pixels

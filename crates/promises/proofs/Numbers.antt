@@ -1,6 +1,6 @@
--- "The lowest number that applies is given, and none is given otherwise": of every call, and what it is given where
--- none applies. And
--- "A refusal returns its number and, from a cut, zero boxes and box places all zero, and writes nothing".
+-- "The lowest answer from 1 to 9 that applies is given; where none applies, the answer is 0.": of every call, and what
+-- it is given where none applies. And "A refusal writes nothing. A refused cut hands back its answer, zero boxes and
+-- box places all zero."
 -- Assumes nothing.
 use mathlib.Core.Path.{_≡_, refl, sym, ap, _∙_}
 use mathlib.Core.Logic.{_↔_, inl, inr}
@@ -39,12 +39,12 @@ use Rattle.promises.specs.Numbers.{Tests, applies, lowestFrom, lowestOf,
 use Rattle.promises.specs.Numbers.{mergeTests, mergeApplies, cutTests, cutApplies, callApplies, bandTests}
 use Rattle.promises.specs.Numbers.{mapApplies, paintApplies, OnGrid, CanLoad, CanMerge}
 
--- ---- a chain of refusals whose numbers do not descend gives the lowest that applies
+-- ---- a chain of refusals whose answers do not descend gives the lowest that applies
 unfoldable chain : Tests → ℕ
 chain [] = 0
 chain (x ∷ xs) = refuse (x .1) (x .0) (chain xs)
 
--- numbers from n to 9, none lower than the one before
+-- answers from n to 9, none lower than the one before
 unfoldable ascends : ℕ → Tests → Bool
 ascends n [] = true
 ascends n (x ∷ xs) = leb n (x .0) && (leb (x .0) 9 && ascends (x .0) xs)
@@ -101,13 +101,13 @@ lowest (x ∷ xs) n least a = go (x .1) (lowest xs (x .0) (omega (arith, from, l
         (omega (arith, to)))
     go false later = later ∙ (λ i. lowestFrom 1 9 (λ m. not-this (eqb (x .0) m) m i))
 
--- two tests of one number are one
+-- two tests of one answer are one
 both : (a b : Bool) (n rest : ℕ) → refuse (not (a && b)) n rest ≡ refuse (not a) n (refuse (not b) n rest)
 unfolding refuse
 both true b n rest = refl
 both false b n rest = refl
 
--- ---- the lowest number of each call
+-- ---- the lowest answer of each call
 module _ (b1 b2 b3 : ℕ) where
   pub load-lowest : (t colours : List ℕ) (given : Bool) (weights : List ℕ)
       → loadNumber b1 b2 b3 t colours given weights ≡ lowestOf (loadApplies b1 b2 b3 t colours given weights)

@@ -1,6 +1,5 @@
--- Demand 3, the order: the same weighted colours, in any order, in any batches, into one table or several merged in any
--- order, give
--- the same table, and so the same boxes, palette, counts and map, and every pixel the same index.
+-- Any order (Rules, Demands): the same weighted colours, in any order, in any batches, into one table or several merged
+-- in any order, give the same table, and so the same boxes, palette, counts and map, and every pixel the same index.
 -- Assumes nothing.
 use mathlib.Core.Path.{_≡_, refl, sym, _∙_}
 use mathlib.Core.List.{List, Perm}
@@ -55,11 +54,11 @@ module _ (b1 b2 b3 : ℕ) {g : Grid} (e : gridOf b1 b2 b3 ≡ chosen.Accepted g)
 
 module _ (b1 b2 b3 : ℕ) {g : Grid} (e : gridOf b1 b2 b3 ≡ chosen.Accepted g) (p : Plan) (y : BytesIn p)
     (h : weightOf (leaves p) ≤ limit) where
-  -- how a plan whose total fits ends: refused with the number of its first malformed batch, or else with the table of
+  -- how a plan whose total fits ends: refused with the answer to its first malformed batch, or else with the table of
   -- its colours
   pub plan-ends : ends b1 b2 b3 p ≡ endedOf (firstMalformed p) (tableOf g (leaves p))
   plan-ends = ends-is b1 b2 b3 e p y h
 
-  -- a plan with a malformed batch is refused with that batch's number
+  -- a plan with a malformed batch is refused with that batch's answer
   pub malformed-is-refused : {n : ℕ} → firstMalformed p ≡ suc n → ends b1 b2 b3 p ≡ Stopped (suc n)
   malformed-is-refused m = malformed-refused b1 b2 b3 e p y h m

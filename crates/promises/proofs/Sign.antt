@@ -1,6 +1,5 @@
--- "sign shown right from whole numbers at totals up to 200,000": a box of more than one bin has a computed spread
--- above, at or below 0
--- as the exact one, squares − S/n with S = c1² + c2² + c3², is.
+-- "The sign of a computed spread is shown right from whole numbers at totals up to 200,000": a box of more than one bin
+-- has a computed spread above, at or below 0 as the exact one, squares − S/n with S = c1² + c2² + c3², is.
 -- Assumes nothing.
 use mathlib.Core.Path.{_≡_}
 use mathlib.Core.Bool.{true, false}

@@ -1,7 +1,6 @@
--- Demand 3, the boxes: at any total, each bin of the grid lies in exactly one box of the record, no box is empty, the
--- counts add up
--- to the total, and each is the sum of the weights in its box; of a loaded table, of the loaded weights whose bin lies
--- there.
+-- The boxes of a cut (Rules, Demands): at any total, each bin of the grid lies in exactly one box of the record, no box
+-- is empty, the counts add up to the total, and each is the sum of the weights in its box; of a loaded table, of the
+-- loaded weights whose bin lies there.
 -- Assumes nothing.
 use mathlib.Core.Path.{_≡_, sym, ap, subst, _∙_}
 use mathlib.Core.Bool.{Bool, cond}

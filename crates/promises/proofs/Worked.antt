@@ -1,5 +1,5 @@
--- "Cases P1 to P10 are proved as one table under one statement": each comes out as document 01 says, computed on the
--- definitions that the contracts of load and cut cite.
+-- "Cases P1 to P10 are proved as one table under one statement": each comes out as it says there (Rules, Cases),
+-- computed on the definitions that the contracts of load and cut cite.
 -- Assumes nothing.
 use mathlib.Core.Path.{_≡_, refl}
 use mathlib.Core.Bool.{false}

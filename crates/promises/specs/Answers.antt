@@ -1,4 +1,5 @@
--- What a caller is told of each case of an answer that is an enum: "this paper's number and values". Definitions only.
+-- What a caller is told of each case of an enum that is handed back: "the answer and the values for each of its cases".
+-- Definitions only.
 use mathlib.Core.Path.{_≡_}
 use mathlib.Core.Logic.{_⊎_}
 use mathlib.Core.Bool.{Bool, true, false}
@@ -7,7 +8,7 @@ use Prim.Native.Nat.{ℕ}
 use Rattle.basics.specs.Answer.{Answer}
 use Rattle.grid.specs.Size.{choices}
 
--- number 0, "done", with its values; and the number of a refusal, with none
+-- answer 0, done, with its values; and the answer of a refusal, with none
 abbrev pub answered : List ℕ → Answer
 answered values = record { number = 0; values = values }
 

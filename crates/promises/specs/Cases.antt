@@ -1,5 +1,4 @@
--- P1 to P10 (document 01, "Worked boxes") as one table: what is loaded and cut, and what is to come out. Definitions
--- only.
+-- P1 to P10 (Rules, Cases) as one table: what is loaded and cut, and what is to come out. Definitions only.
 use mathlib.Core.Bool.{true, false}
 use mathlib.Core.List.{List, [], _∷_, _++_}
 use Prim.Native.Nat.{ℕ, zero, suc, _-_, _*_}
@@ -17,12 +16,12 @@ use Rattle.boxes.specs.Box.{wholeOf}
 use Rattle.cutter.specs.declared.call.CutRecord.{CutRecord}
 use Rattle.cutter.specs.Cut.{Buffers, buffers, cutRecord, cutLater}
 
--- the number of a load, and the table then
+-- the answer to a load, and the table then
 pub record AfterLoad : Type 0 where
   pub number : ℕ
   pub table : List ℕ
 
--- what comes out: each load's number and table, the best position of the whole grid, the record of the cut, and what
+-- what comes out: each load's answer and table, the best position of the whole grid, the record of the cut, and what
 -- was lent to it
 pub record Outcome : Type 0 where
   pub loads : List AfterLoad
@@ -134,7 +133,7 @@ done loads position d =
           (d .counts ++ replicate (260 - length (d .counts)) 9) (d .map);
     }
 
--- "A refusal returns its number and, from a cut, zero boxes and box places all zero, and writes nothing"
+-- "A refusal writes nothing. A refused cut hands back its answer, zero boxes and box places all zero."
 unfoldable pub refusedWith : ℕ → List AfterLoad → ScoredAnswer → ℕ → Outcome
 refusedWith number loads position bins =
     record { loads = loads; position = position; cut = recordWith number []; later = lentTo bins }

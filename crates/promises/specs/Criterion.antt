@@ -1,6 +1,5 @@
 -- Wu's criterion over whole numbers (ACM Transactions on Graphics 11(4), 1992): the exact spread of a box and the exact
--- score of a
--- position, as fractions. Definitions only.
+-- score of a position, as fractions. Definitions only.
 use mathlib.Core.Path.{_≡_}
 use Prim.Native.Nat.{ℕ, _+_, _*_, _≤_, _<_}
 use Rattle.grid.specs.declared.place.Grid.{Grid}

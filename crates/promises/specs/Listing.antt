@@ -1,6 +1,5 @@
--- The listing program over its whole input (document 01, "The listing program"), by the definitions of the contracts of
--- `lines`: what
--- was read so far, batch by batch, and what is then written. Definitions only.
+-- The listing program over its whole input (Rules, Listing), by the definitions of the contracts of `lines`: what was
+-- read so far, batch by batch, and what is then written. Definitions only.
 use mathlib.Core.Path.{_≡_}
 use mathlib.Core.List.{List, [], _∷_, _++_}
 use Prim.Native.Nat.{ℕ, _%_, _<_}
@@ -17,7 +16,7 @@ atFirst = progress 0 emptyTable
 unfoldable pub writtenFor : List (List ℕ) → List ℕ
 writtenFor batches = let s = afterAll atFirst batches in textOf (s .number) (s .table)
 
--- ---- "in batches"
+-- ---- "from standard input in batches"
 -- batches of bytes that split no pixel
 abbrev pub WholePixels : List (List ℕ) → Type 0
 WholePixels [] = Unit {0}
@@ -28,7 +27,7 @@ unfoldable pub readIn : List (List ℕ) → List ℕ
 readIn [] = []
 readIn (batch ∷ rest) = batch ++ readIn rest
 
--- ---- document 01's example
+-- ---- the example
 -- "four pixels, one black and then three white"
 unfoldable pub fourPixels : List ℕ
 fourPixels = 0 ∷ 0 ∷ 0 ∷ 255 ∷ 255 ∷ 255 ∷ 255 ∷ 255 ∷ 255 ∷ 255 ∷ 255 ∷ 255 ∷ []
@@ -41,7 +40,7 @@ grid8 = record { shift1 = 5; shift2 = 5; shift3 = 5; size1 = 8; size2 = 8; size3
 unfoldable pub fourTable : List ℕ
 fourTable = 1 ∷ (replicate 2554 0 ++ (3 ∷ 765 ∷ 765 ∷ 765 ∷ 585225 ∷ []))
 
--- "boxes 2 total 4", "0 255 255 255 3" and "1 0 0 0 1"
+-- the lines "boxes 2 total 4", "0 255 255 255 3" and "1 0 0 0 1"
 unfoldable pub threeLines : List ℕ
 threeLines =
     (98 ∷ 111 ∷ 120 ∷ 101 ∷ 115 ∷ 32 ∷ 50 ∷ 32 ∷ 116 ∷ 111 ∷ 116 ∷ 97 ∷ 108 ∷ 32 ∷ 52 ∷ 10 ∷ [])

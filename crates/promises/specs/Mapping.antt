@@ -17,7 +17,7 @@ module _ (b1 b2 b3 k : ℕ) (t : List ℕ) (b : Buffers) where
   abbrev pub cutFront : List ℕ
   cutFront = frontOf (cutLater b1 b2 b3 k t b .results .palette) cutBoxes
 
--- over the call itself: the same number, and the same index for every pixel
+-- over the call itself: the same answer, and the same index for every pixel
 pub record SameIndices (b1 b2 b3 : ℕ) (m o : List ℕ) : Type 0 where
   pub number : (paletteColours : ℕ) (frame indices : List ℕ) (first pixels : ℕ)
       → mapNumber b1 b2 b3 m paletteColours frame indices first pixels

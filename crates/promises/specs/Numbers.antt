@@ -1,6 +1,4 @@
--- When each number applies to a call, and what a call is given that nothing refuses (document 01, "Numbers a caller
--- gets back").
--- Definitions only.
+-- When each answer applies to a call, and what a call is given that nothing refuses (Rules, Answers). Definitions only.
 use mathlib.Core.Path.{_≡_}
 use mathlib.Core.Bool.{Bool, true, false, not, _&&_, _||_, cond}
 use mathlib.Core.List.{List, [], _∷_}
@@ -18,22 +16,22 @@ use Rattle.cutter.specs.Cut.{Buffers, lengthsOf, longEnough}
 use Rattle.band.specs.Band.{allBelow}
 use Rattle.seluvava.specs.Cut.{Lent, hasRoom}
 
--- ---- which numbers apply
--- the tests of a call, each with its number
+-- ---- which answers apply
+-- the tests of a call, each with its answer
 abbrev pub Tests : Type 0
 Tests = List (ℕ × Bool)
 
--- a number applies where one of its tests holds; one that the call does not have never does
+-- an answer applies where one of its tests holds; one that the call does not have never does
 unfoldable pub applies : Tests → ℕ → Bool
 applies [] n = false
 applies (x ∷ xs) n = (eqb (x .0) n && x .1) || applies xs n
 
--- the first that applies of so many numbers from n on, or 0
+-- the first that applies of so many answers from n on, or 0
 unfoldable pub lowestFrom : ℕ → ℕ → (ℕ → Bool) → ℕ
 lowestFrom n zero f = 0
 lowestFrom n (suc more) f = cond (f n) n (lowestFrom (suc n) more f)
 
--- "The lowest number that applies is given, and none is given otherwise": the table has 1 to 9
+-- "The lowest answer from 1 to 9 that applies is given; where none applies, the answer is 0."
 unfoldable pub lowestOf : (ℕ → Bool) → ℕ
 lowestOf f = lowestFrom 1 9 f
 
@@ -102,15 +100,15 @@ bandTests c map paletteColours lengths frame first pixels =
     ∷ (9, not (allBelow paletteColours map))
     ∷ []
 
--- "map is told the palette's length in colours, and anything outside 1..256 gives 5"; "index buffer exactly one byte
--- per frame pixel"
+-- "index buffer exactly one byte per frame pixel. It is told the palette's length in colours, and anything outside
+-- 1..256 gives 5."
 unfoldable pub mapApplies : ℕ → ℕ → ℕ → List ℕ → ℕ → List ℕ → List ℕ → ℕ → ℕ → ℕ → Bool
 mapApplies b1 b2 b3 map paletteColours frame indices first pixels =
     applies
     (bandTests (gridOf b1 b2 b3) map paletteColours
     ((leb 1 paletteColours && leb paletteColours 256) && eqb (length indices) (length frame / 3)) frame first pixels)
 
--- "the palette for painting 3..768 bytes, a multiple of three"
+-- "the palette for painting has 3..768 bytes, a multiple of three"
 unfoldable pub paintApplies : ℕ → ℕ → ℕ → List ℕ → List ℕ → List ℕ → ℕ → ℕ → ℕ → Bool
 paintApplies b1 b2 b3 map palette frame first pixels =
     applies (bandTests (gridOf b1 b2 b3) map (length palette / 3)
@@ -118,7 +116,7 @@ paintApplies b1 b2 b3 map palette frame first pixels =
 
 -- ---- what a call is given that nothing refuses; of a cut, a mapping and a painting it is `CanCut`, `CanMap`,
 -- `CanPaint`
--- no 1: each size is among the seven; and on their grid, none of the call's other numbers
+-- no 1: each size is among the seven; and on their grid, none of the call's other answers
 pub record OnGrid (b1 b2 b3 : ℕ) (Can : Grid → Type 0) : Type 0 where
   pub g : Grid
   pub chosen : gridOf b1 b2 b3 ≡ chosen.Accepted g

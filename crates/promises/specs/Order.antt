@@ -1,4 +1,4 @@
--- Two plans whose tables are cut alike (demand 3). Definitions only.
+-- Two plans whose tables are cut alike (Rules, Demands). Definitions only.
 use mathlib.Core.Path.{_≡_}
 use mathlib.Core.List.{List}
 use Prim.Native.Nat.{ℕ}
@@ -10,8 +10,7 @@ use Rattle.loader.specs.Plan.{Plan, Filled, ends}
 use Rattle.cutter.specs.Cut.{Buffers, cutRecord, cutLater}
 
 -- two tables that a cut tells nothing apart by: the same boxes with their spreads, palette, counts, map and work table,
--- and the same
--- index for every pixel, which "is the map's byte at its bin"
+-- and the same index for every pixel, which "is the map's byte at its bin"
 pub record SameCut (g : Grid) (b1 b2 b3 k : ℕ) (b : Buffers) (t s : List ℕ) : Type 0 where
   pub boxes : cutRecord b1 b2 b3 k t b ≡ cutRecord b1 b2 b3 k s b
   pub palette : cutLater b1 b2 b3 k t b .results .palette ≡ cutLater b1 b2 b3 k s b .results .palette

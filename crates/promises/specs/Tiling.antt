@@ -1,5 +1,5 @@
--- What the record of a cut is to be, with the palette, counts and map that it leaves behind (demand 3). Definitions
--- only.
+-- What the record of a cut is to be, with the palette, counts and map that it leaves behind (Rules, Demands).
+-- Definitions only.
 use mathlib.Core.Path.{_≡_}
 use mathlib.Core.Bool.{cond}
 use mathlib.Core.List.{List}
@@ -50,8 +50,7 @@ pub record Tiling (g : Grid) (t : List ℕ) (r : CutRecord) (later : Buffers) : 
   pub front : frontOf (later .results .palette) (r .boxes) ≡ coloursOf g (viewOf t) (boxesIn r)
 
 -- of a table loaded from colours, "each count is the sum of loaded weights in its box": of the colours whose bin lies
--- there, which are
--- those that the map gives its index
+-- there, which are those that the map gives its index
 pub record LoadedCounts (g : Grid) (cs : List Weighted) (r : CutRecord) (later : Buffers) : Type 0 where
   pub count : (i : ℕ) → i < r .boxes
       → getD (later .results .counts) i 0

@@ -55,7 +55,7 @@ module _ {g : Grid} {v : View} (s : Sound limit g v) where
             );
       }
 
--- ---- a spread that goes on is one above 0, where it is a number
+-- ---- a spread that goes on is one above 0, where it is not NaN
 cold-of : (s : Float) → lt zeroOf s ≡ false → aboveZero s ≡ false
 unfolding aboveZero
 cold-of s e = rw e refl

@@ -1,4 +1,4 @@
--- The loop of a cut (document 01, "The loop"). Definitions only.
+-- The loop of a cut (Rules, Loop). Definitions only.
 use mathlib.Core.Bool.{Bool, false, cond}
 use mathlib.Core.List.{List}
 use Prim.Native.Nat.{ℕ, zero, suc, _+_, _-_, _*_}
@@ -49,7 +49,7 @@ unfoldable pub start : Grid → Heap
 start g = record { room = startRoom g; boxes = 1; rounds = 0 }
 
 -- the room and its boxes, once x has left a room with n boxes after it:
--- "If it can be cut, put in the low box, then the high box, with their spreads. .. Otherwise put it back with 0.0"
+-- "If it can be cut, put in the low box, then the high box, with their spreads. Otherwise put it back with 0.0"
 unfoldable pub roomAfter : Grid → View → List BoxSpread → ℕ → Bounds → Position → List BoxSpread
 roomAfter g v h n x (At d bin score) =
     putIn bySpread noItem (putIn bySpread noItem h n (withSpread g v (lowSide x d bin))) (n + 1)
@@ -60,11 +60,11 @@ unfoldable pub boxesAfter : ℕ → Position → ℕ
 boxesAfter n (At d bin score) = n + 2
 boxesAfter n Nowhere = n + 1
 
--- whether a spread is above 0, and is a number: then the box is to be cut
+-- whether a spread is above 0, and is not NaN: then the box is to be cut
 unfoldable pub aboveZero : Float → Bool
 aboveZero s = cond (lt zeroOf s) (eq s s) false
 
--- one round: "take out the top. If its spread is not above 0, or is no number, put it back and stop"
+-- one round: "take out the top. If its spread is not above 0, or is NaN, put it back and stop"
 unfoldable pub roundRoom : Grid → View → List BoxSpread → ℕ → List BoxSpread
 roundRoom g v h n =
     let top = item noItem h 0 in

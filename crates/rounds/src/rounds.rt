@@ -56,7 +56,7 @@ fn cut_top(
     left + 2
 }
 
-// Whether a spread is above 0, and is a number: then its box is to be cut.
+// Whether a spread is above 0, and is not NaN: then its box is to be cut.
 fn is_above_zero(s: f64) -> bool
     ensures { λ r. ⌜ r ≡ aboveZero s ⌝ }
 {

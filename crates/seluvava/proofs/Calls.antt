@@ -138,7 +138,7 @@ module _ (b1 b2 b3 k : ℕ) (t : List ℕ) (l : Lent) where
   abbrev room : ℕ
   room = roomNumber b1 b2 b3 k (length (l .boxes)) (length (l .spreads))
 
-  -- the number of the call is that of the room, and where that is 0 the number of the cut
+  -- the answer of the call is that of the room, and where that is 0 the answer of the cut
   pub in-stages : callNumber b1 b2 b3 k t l ≡ whenDone room (cutNumber b1 b2 b3 k t (l .buffers)) room
   unfolding callNumber callNumberOn allLong cutNumber cutNumberOn roomNumber roomOn numberOn onGrid gridAnswer whenDone
   in-stages = go (gridOf b1 b2 b3)
@@ -165,7 +165,7 @@ module _ (b1 b2 b3 k : ℕ) (t : List ℕ) (l : Lent) where
   abbrev cut : Lent
   cut = written (cutRecord b1 b2 b3 k t (l .buffers)) (cutLater b1 b2 b3 k t (l .buffers))
 
-  -- "A refusal .. writes nothing", and tells of no box
+  -- "A refusal writes nothing", and tells of no box
   pub call-kept : {n : ℕ} → callNumber b1 b2 b3 k t l ≡ suc n
       → (cutAnswer b1 b2 b3 k t l ≡ told-of (suc n) 0) × (callLater b1 b2 b3 k t l ≡ l)
   unfolding cutAnswer callLater whenDone
@@ -190,7 +190,7 @@ module _ (b1 b2 b3 k : ℕ) (t : List ℕ) (l : Lent) where
             let kept = call-kept {n = m} (in-stages ∙ rw (← e, z) refl) in
             (ap (λ (i : ℕ). told-of i 0) z ∙ sym (kept .0), sym (kept .1))
 
-    -- where there is room: the cut's number, and its boxes written out
+    -- where there is room: the cut's answer, and its boxes written out
     cut-ends : n ≡ 0
         → Ends (told-of (cutRecord b1 b2 b3 k t (l .buffers) .number) (cutRecord b1 b2 b3 k t (l .buffers) .boxes)) cut
     unfolding whenDone told refusedRecord

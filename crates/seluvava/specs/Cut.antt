@@ -30,19 +30,19 @@ lent b boxes spreads = record { buffers = b; boxes = boxes; spreads = spreads }
 unfoldable pub hasRoom : ℕ → ℕ → ℕ → Bool
 hasRoom k boxes spreads = leb (6 * k) boxes && leb k spreads
 
--- no "lent length is wrong": those that every cut is lent are right, and there is room for the boxes
+-- no lent length is wrong: those that every cut is lent are right, and there is room for the boxes
 unfoldable pub allLong : Grid → ℕ → ℕ → Lent → Bool
 allLong g k table l =
     longEnough g k table (lengthsOf (l .buffers)) && hasRoom k (length (l .boxes)) (length (l .spreads))
 
--- the number of the call on an accepted grid: that of a cut, where 5 is any of its lengths
+-- the answer of the call on an accepted grid: that of a cut, where 5 is any of its lengths
 unfoldable pub callNumberOn : Grid → ℕ → Table → Lent → ℕ
 callNumberOn g k t l = cutNumberOn limit g k (allLong g k (length t) l) (viewOf t)
 
 unfoldable pub callNumber : ℕ → ℕ → ℕ → ℕ → Table → Lent → ℕ
 callNumber b1 b2 b3 k t l = numberOn (gridOf b1 b2 b3) (λ g. callNumberOn g k t l)
 
--- "A refusal returns its number and, from a cut, zero boxes"
+-- "A refused cut hands back its answer, zero boxes"
 unfoldable pub cutAnswer : ℕ → ℕ → ℕ → ℕ → Table → Lent → CutAnswer
 cutAnswer b1 b2 b3 k t l =
     let n = callNumber b1 b2 b3 k t l in
@@ -60,7 +60,7 @@ spreadOf x = x .spread ∷ []
 unfoldable pub told : CutRecord → List BoxSpread
 told r = take (r .boxes) (r .places)
 
--- "A refusal .. writes nothing"
+-- "A refusal writes nothing."
 unfoldable pub callLater : ℕ → ℕ → ℕ → ℕ → Table → Lent → Lent
 callLater b1 b2 b3 k t l =
     let r = cutRecord b1 b2 b3 k t (l .buffers) in

@@ -1,4 +1,4 @@
--- The sizes that a caller has to lend (document 01, "Lengths"). Definitions only.
+-- The sizes that a caller has to lend (Rules, Lengths). Definitions only.
 use Prim.Native.Nat.{ℕ}
 use Rattle.grid.specs.Grid.{gridOf, onGrid, binsOf}
 use Rattle.table.specs.Table.{tableLen}

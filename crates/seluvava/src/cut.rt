@@ -19,7 +19,7 @@ pub struct CutAnswer {
     pub boxes: usize,
 }
 
-// The number that the lengths of the arrays for boxes and spreads call for.
+// The answer that the lengths of the arrays for boxes and spreads call for.
 fn room_number(b1: usize, b2: usize, b3: usize, k: usize, boxes: usize, spreads: usize) -> u8
     ensures { λ r. ⌜ r ≡ roomNumber b1 b2 b3 k boxes spreads ⌝ }
 {

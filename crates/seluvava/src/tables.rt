@@ -7,7 +7,7 @@ ghost use Rattle.loader.specs.Load.{loadNumber, loadLater};
 ghost use Rattle.loader.specs.Merge.{mergeNumber, mergeLater};
 ghost use Rattle.seluvava.specs.Sizes.{tableLenFor};
 
-// The numbers of a table, or 0 where the grid is refused.
+// How many numbers a table has, or 0 where the grid is refused.
 #[no_mangle]
 pub extern "C" fn seluvava_table_len(b1: usize, b2: usize, b3: usize) -> usize
     ensures { λ r. ⌜ r ≡ tableLenFor b1 b2 b3 ⌝ }

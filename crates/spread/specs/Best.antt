@@ -1,4 +1,4 @@
--- What the best position of a box is to be (document 01, "Cutting one box"). Definitions only.
+-- What the best position of a box is to be (Rules, Cutting). Definitions only.
 use mathlib.Core.Path.{_≡_}
 use mathlib.Core.Logic.{_⊎_}
 use mathlib.Core.Bool.{true, false}

@@ -1,4 +1,4 @@
--- The best position to cut one box (document 01, "Cutting one box"). Definitions only.
+-- The best position to cut one box (Rules, Cutting). Definitions only.
 use mathlib.Core.Bool.{Bool, true, false, cond}
 use mathlib.Core.List.{List, [], _∷_}
 use Prim.Native.Nat.{ℕ, zero, suc, _+_, _-_}
@@ -14,7 +14,7 @@ use Rattle.spread.specs.declared.position.Position.{Position}
 use Rattle.spread.specs.declared.position.Position.the-variants.{At, Nowhere}
 use Rattle.spread.specs.Spread.{scoreOf}
 
--- the number, the values and the scores of each case: "either a position with its float score, or that no position
+-- the answer, the values and the scores of each case: "either a position with its float score, or that no position
 -- exists"; neither is a refusal
 pub record ScoredAnswer : Type 0 where
   pub number : ℕ

@@ -1,4 +1,4 @@
--- Spread and score in f64 (document 01, "Spread" and "Cutting one box"). Definitions only.
+-- Spread and score in f64 (Rules, Spread; Rules, Cutting). Definitions only.
 use mathlib.Core.Path.{_≡_}
 use mathlib.Core.Bool.{true, false, cond}
 use mathlib.Core.Logic.{_↔_}
@@ -34,11 +34,11 @@ quotientOf s = div binary64 (qOf (s .sum1) (s .sum2) (s .sum3)) (whole (s .weigh
 abbrev pub zeroOf : Float
 zeroOf = fin false 0 (pos 0)
 
--- "A box of one bin has spread exactly 0.0. Any other box .. has squares − Q/n"
+-- "A box of one bin has spread exactly 0.0. Any other box has squares − Q/n"
 unfoldable pub spreadOf : Bounds → Stats → Float
 spreadOf x s = cond (oneBin x) zeroOf (sub binary64 (s .squares) (quotientOf s))
 
--- "Its score is −(Qlow/nlow + Qhigh/nhigh)"
+-- "The score of a position is −(Qlow/nlow + Qhigh/nhigh)"
 unfoldable pub scoreOf : Stats → Stats → Float
 scoreOf low high = neg (add binary64 (quotientOf low) (quotientOf high))
 

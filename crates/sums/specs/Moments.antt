@@ -1,4 +1,4 @@
--- Moments (document 01, "Moments"). Definitions only.
+-- Moments (Rules, Moments). Definitions only.
 use mathlib.Core.Path.{_≡_}
 use mathlib.Core.Bool.{true}
 use Prim.Native.Nat.{ℕ, _+_, _<_}

@@ -1,4 +1,4 @@
--- The five numbers of a bin (document 01, "Grid and table"). Definitions only.
+-- The five numbers of a bin (Rules, Table). Definitions only.
 use Prim.Native.Nat.{ℕ, zero, suc, _+_, _-_, _^_, _≤_, _<_}
 use Rattle.table.specs.declared.cell.Cell.{Cell}
 

@@ -1,4 +1,4 @@
--- Sound tables (document 01, "Grid and table"), over a view and for any limit of the total. Definitions only.
+-- Sound tables (Rules, Sound), over a view and for any limit of the total. Definitions only.
 use mathlib.Core.Bool.{Bool, _&&_, cond}
 use mathlib.Core.List.{[], _∷_}
 use Prim.Native.Nat.{ℕ, _+_, _*_}
@@ -21,7 +21,8 @@ limit = 4294967295
 unfoldable pub between : Span → ℕ → ℕ → Bool
 between s n sum = leb (n * s .low) sum && leb sum (n * s .high)
 
--- a bin's own bounds: "every component sum lies between n·low and n·high .. the squares are at most 195,075·n"
+-- "A bin keeps its bounds if every component sum lies between n·low and n·high" by its spans, "and the squares are at
+-- most 195,075·n"
 unfoldable pub inBounds : (ℕ → Span) → (ℕ → ℕ) → Bool
 inBounds span numbers =
     allFrom 0 3 (λ d. between (span d) (numbers 0) (numbers (d + 1))) && leb (numbers 4) (195075 * numbers 0)
@@ -36,7 +37,7 @@ binSound g v p = inBounds (spanAt g p) (v p)
 unfoldable pub total : Grid → View → ℕ
 total g v = sumFrom 0 (binsOf g) (λ p. v p 0)
 
--- "A table is sound if, in each bin, .. and all weights total at most" the limit
+-- "A table is sound if each bin keeps its bounds and all weights total at most" the limit
 unfoldable pub sound : ℕ → Grid → View → Bool
 sound most g v = allFrom 0 (binsOf g) (binSound g v) && leb (total g v) most
 
@@ -44,11 +45,11 @@ sound most g v = allFrom 0 (binsOf g) (binSound g v) && leb (total g v) most
 unfoldable pub soundTotal : ℕ → Grid → View → SoundTotal
 soundTotal most g v = cond (sound most g v) (Total (total g v)) Unsound
 
--- the number and the values of each case; open, so that a call's chain of numbers reads through it
+-- the answer and the values of each case; open, so that a call's chain of answers reads through it
 abbrev pub soundAnswer : SoundTotal → Answer
 soundAnswer (Total n) = record { number = 0; values = n ∷ [] }
 soundAnswer Unsound = record { number = 6; values = [] }
 
--- the number that every call gives for a table that is not sound
+-- the answer that every call gives for a table that is not sound
 abbrev pub unsoundNumber : ℕ
 unsoundNumber = soundAnswer Unsound .number

@@ -1,5 +1,4 @@
--- A lent table: its length, its view, a view written out, and a cell of it (document 01, "Grid and table"). Definitions
--- only.
+-- A lent table: its length, its view, a view written out, and a cell of it (Rules, Table). Definitions only.
 use mathlib.Core.Path.{_≡_}
 use mathlib.Core.Bool.{Bool}
 use mathlib.Core.List.{List}
@@ -16,7 +15,7 @@ use Rattle.table.specs.Cell.{View, numberOf}
 abbrev pub Table : Type 0
 Table = List ℕ
 
--- how many numbers a table of so many bins has: "exactly 5·bins"
+-- how many numbers a table of so many bins has: "table and work table exactly 5·bins"
 unfoldable pub tableLen : ℕ → ℕ
 tableLen bins = 5 * bins
 

@@ -1,4 +1,4 @@
-//! Writes the lines that the listing program has to write for the RGB triples on standard input: document 01's form, with
+//! Writes the lines that the listing program has to write for the RGB triples on standard input (Rules, Listing), with
 //! the original's answer at grid 8,8,8 and k=16.
 use oracle::{
     answer::{Input, original},

@@ -1,4 +1,4 @@
-//! What has to come of a case: the original's answer and, where a call is refused, document 01's.
+//! What has to come of a case: the original's answer and, where a call is refused, that of the rules (Rules, Answers).
 use crate::{
     cases::Case,
     lists::{self, Boxes, Call, Lists, front, write_cut},
@@ -73,7 +73,7 @@ struct Told {
 }
 
 /// Puts the original's answer to the input that was loaded there. Where the judge is built without the grid, the model
-/// of document 01 answers, which the judge's tests hold to the original.
+/// of the rules answers, which the judge's tests hold to the original.
 fn told(case: &Case, input: &Input, l: &mut Lists) -> Told {
     let Some(judge) = original(case.grid) else {
         let (_, boxes) = lists::cut(case.grid, case.k, l);

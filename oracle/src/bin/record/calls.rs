@@ -1,4 +1,4 @@
-//! Calls written from document 01's sentences, each with the number that its table of numbers gives: every number of
+//! Calls written from the sentences of the rules, each with the answer that Rules, Answers gives: every answer of
 //! every call, each also where others apply that are not the lowest, and calls that are done.
 use crate::{
     lists::{Call, Lists, front},
@@ -12,8 +12,14 @@ use oracle::{
 const CUBE: Grid = [2, 2, 2];
 const LIMIT: u32 = u32::MAX;
 
-/// A table of zeros with some numbers, five to a bin.
-fn table(grid: Grid, cells: &[(usize, [u64; 5])]) -> Vec<u64> {
+/// A bin's place and its five numbers.
+type Bin = (usize, [u64; 5]);
+
+/// What is changed of lists that fit.
+type Change = fn(&mut Lists);
+
+/// A table of zeros with the numbers of some bins.
+fn table(grid: Grid, cells: &[Bin]) -> Vec<u64> {
     let mut table = vec![0; 5 * bins(grid)];
     for (place, cell) in cells {
         table[5 * place..5 * place + 5].copy_from_slice(cell);
@@ -45,7 +51,7 @@ const ONE: [u8; 3] = [10, 20, 30];
 const TWO: [u8; 6] = [10, 20, 30, 200, 100, 50];
 const NONE: [u8; 0] = [];
 
-/// Sizes that are not among the seven: "the port refuses 1", and others in each dimension.
+/// Sizes that are not among the seven: "here 1 is refused", and others in each dimension.
 const REFUSED: [Grid; 8] = [
     [1, 2, 2],
     [2, 1, 2],
@@ -78,7 +84,7 @@ fn load(
     Call::Load { weighted }.case(s, &format!("load: {of}"), CUBE, &lists, number);
 }
 
-/// "Weight 0 adds nothing", "1 when none is given, whatever list is lent", "an empty batch changes nothing".
+/// "Weight 0 adds nothing", "1 when none is given, whatever list is lent", "An empty batch changes nothing".
 fn loads_done(s: &mut Script) {
     load(s, "weight 0", (0, ONCE), &[255; 3], Some(&[0]), 0);
     load(
@@ -252,7 +258,7 @@ fn loads_lent(s: &mut Script) {
 /// Bin 5 has components from 128, 0 and 128 on, bin 2 from 0, 128 and 0.
 fn soundness(s: &mut Script) {
     let most = u64::MAX;
-    let bins: [(&str, (usize, [u64; 5]), u8); 17] = [
+    let bins: [(&str, Bin, u8); 17] = [
         ("sums at their lowest", (5, [2, 256, 0, 256, 0]), 0),
         ("sums at their highest", (5, [2, 510, 254, 510, 0]), 0),
         ("6, sum 1 too low", (5, [2, 255, 0, 256, 0]), 6),
@@ -439,7 +445,7 @@ fn cuts(s: &mut Script) {
             2,
         );
     }
-    let wrong: [(&str, fn(&mut Lists)); 9] = [
+    let wrong: [(&str, Change); 9] = [
         ("table one too short", |l| l.table.truncate(39)),
         ("table one too long", |l| l.table.push(0)),
         ("work table one too short", |l| l.second.truncate(39)),
@@ -470,7 +476,7 @@ fn cuts(s: &mut Script) {
     cut(s, "5 before 8", CUBE, 2, &short, 5);
 }
 
-/// "If the palette is too short for that number, the part is empty."
+/// "if the palette is too short for that number, the part is empty"
 fn fronts(s: &mut Script) {
     for boxes in [0, 1, 3, 4, 256, usize::MAX / 3 + 1, usize::MAX] {
         let mut palette: Vec<u8> = (1..=11).collect();

@@ -1,4 +1,4 @@
-//! The cases: those that document 01 works out, one for each mutant, each size in each dimension, and a sample of the
+//! The cases: those of Rules, Cases, one for each mutant, each size in each dimension, and a sample of the
 //! runner's classes.
 use oracle::{
     case,
@@ -128,7 +128,12 @@ fn mutants() -> Vec<Case> {
         ),
         whole("mutant: a falsely positive spread", CUBE, 3, &positive),
         whole("mutant: sums of 32 bits", CUBE, 2, &wide),
-        whole("mutant: a box of one bin with two colours", CUBE, 4, &one_bin),
+        whole(
+            "mutant: a box of one bin with two colours",
+            CUBE,
+            4,
+            &one_bin,
+        ),
         whole("mutant: half a batch", CUBE, 4, &late).in_loads(&[1, 3], false),
         whole("mutant: half a merge", CUBE, 4, &late).in_loads(&[1, 3], true),
     ]
@@ -212,7 +217,7 @@ impl Sample {
         let grids = Grids::all();
         let mut maker = Maker {
             grids: &grids,
-            r: Random(seed ^ Random(class.name.bytes().map(u64::from).sum()).next()),
+            r: Random(seed ^ Random(class.name.bytes().map(u64::from).sum()).draw()),
         };
         let fits =
             |c: &case::Case| bins(c.grid) <= MOST_BINS && c.input.colors.len() <= self.most_colours;

@@ -1,4 +1,4 @@
-//! A call over lists, made by the model of document 01, and its lines.
+//! A call over lists, made by the model of the rules, and its lines.
 use crate::script::{Kind, Script, numbers};
 use oracle::{
     model::Model,

@@ -1,4 +1,4 @@
-//! Writes the script that the proved program `replay` replays: calls with document 01's answers, and cases that are made
+//! Writes the script that the proved program `replay` replays: calls with the rules' answers, and cases that are made
 //! from a seed, with the original's. docs/REPLAY.md says what the lines mean. Standard error gets what `replay` has to
 //! write.
 mod answers;
@@ -19,7 +19,7 @@ fn main() {
         .map_or(1, |n| n.parse().expect("a number as seed"));
     let mut script = Script::default();
     script.case(&format!(
-        "of document 01, and of quantette 0.6.0 with the seed {seed}"
+        "of the rules, and of quantette 0.6.0 with the seed {seed}"
     ));
     script.set("calls", &[0_u64; 6]);
     calls::write(&mut script);

@@ -26,7 +26,11 @@ impl<const B1: usize, const B2: usize, const B3: usize> Narrow<B1, B2, B3> {
 
     /// The loop of `merge_partial`, which the original has only with its feature `threads`.
     pub fn merge(&mut self, second: &Self) {
-        for (a, &b) in self.as_flattened_mut().iter_mut().zip(second.as_flattened()) {
+        for (a, &b) in self
+            .as_flattened_mut()
+            .iter_mut()
+            .zip(second.as_flattened())
+        {
             *a += b;
         }
     }

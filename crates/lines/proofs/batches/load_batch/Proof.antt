@@ -1,4 +1,4 @@
--- `lines::batches::load_batch` meets its contract: the load of the filled front, and the lower of the two numbers.
+-- `lines::batches::load_batch` meets its contract: the load of the filled front, and the lower of the two answers.
 -- Assumes nothing.
 use mathlib.Core.Path.{ap, _∙_}
 use mathlib.Core.List.{List}

@@ -1,4 +1,4 @@
--- `loader::blocks::add_block` meets its contract: 64 colours that are one are added at once, others by `add_each`.
+-- `loader::blocks::add_block` meets its contract: 64 equal colours are added at once, others by `add_each`.
 -- Assumes nothing.
 use mathlib.Core.Path.{_≡_, sym, subst, _∙_}
 use mathlib.Core.Bool.{Bool}

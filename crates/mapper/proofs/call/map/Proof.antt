@@ -1,4 +1,4 @@
--- `mapper::call::map` meets its contract: the number of the band, and where it is 0 the band is written.
+-- `mapper::call::map` meets its contract: the answer to the band, and where it is 0 the band is written.
 -- Assumes nothing.
 use mathlib.Core.Path.{_≡_, sym, _∙_}
 use native.Mathlib.Omega.{arith}
@@ -29,7 +29,7 @@ on-grid k = sym (k .before .before .before .grid-of .ensures) ∙ k .before .g .
 accepted : (k : tie.After-known-told) → Accepted (grid k)
 accepted k = chose _ _ _ (grid k) (on-grid k) .accepted
 
--- what the band is given, once its number is 0
+-- what the band is given, once its answer is 0
 abbrev band-start : tie.Else1 → tie.Start
 band-start k = start (k .before .before)
 

@@ -1,16 +1,10 @@
 //! The port: the exported calls of the static library.
-#[path = "../../../../rust/src/calls.rs"]
-mod calls;
-
-use calls::{
-    seluvava_bins, seluvava_cut, seluvava_load, seluvava_map, seluvava_merge, seluvava_table_len,
-    seluvava_paint,
-};
 use oracle::port::{Band, Grid, Lent, Port};
+use seluvava_sys::{
+    seluvava_bins, seluvava_cut, seluvava_load, seluvava_map, seluvava_merge, seluvava_paint,
+    seluvava_table_len,
+};
 use std::ptr;
-
-// Named here so that a new archive is linked anew.
-const _: &[u8] = include_bytes!(env!("SELUVAVA_ARCHIVE"));
 
 /// Where a list starts. An empty one is handed on as a caller in C may have it: as NULL.
 fn start<T>(list: &[T]) -> *const T {

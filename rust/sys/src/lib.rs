@@ -1,5 +1,16 @@
-//! The calls that `include/seluvava.h` declares, for Rust, and nothing of the crate: the judge in `oracle/` and the
-//! benchmark in `bench/` take this file too.
+//! The calls that `include/seluvava.h` declares, for Rust. What each needs, changes and answers is said there. The
+//! crate `seluvava` is the safe way to them.
+
+// Clippy links nothing, so it may look at the code anywhere.
+#[cfg(not(any(
+    clippy,
+    all(
+        target_arch = "x86_64",
+        target_os = "linux",
+        target_pointer_width = "64"
+    )
+)))]
+compile_error!("seluvava links an archive of proved code that exists for Linux on x86-64 alone");
 
 /// What a cut answers.
 #[repr(C)]

@@ -18,7 +18,7 @@ fn main() {
     let directory = match env::var_os(VARIABLE) {
         Some(directory) => given(Path::new(&directory)),
         // The script is run in the crate's directory.
-        None => of_project(Path::new("..")),
+        None => of_project(Path::new("../..")),
     };
     match directory {
         Ok(directory) => {
@@ -28,7 +28,7 @@ fn main() {
         Err(reason) => println!(
             "cargo::error={reason}. Run ./build in the project's root, with the Rattle kit's `rt` on the path, \
              or let {VARIABLE} name the directory of a {ARCHIVE} that was built elsewhere; a relative one is taken \
-             from the crate's directory"
+             from rust/sys"
         ),
     }
 }
@@ -42,9 +42,9 @@ fn given(directory: &Path) -> Result<PathBuf, String> {
     Ok(found.parent().expect("a file has a directory").into())
 }
 
-/// A directory with a copy of the project's own archive, as its code now is. `rt` knows what has changed and proves that;
-/// from nothing it takes some minutes. It writes the archive anew each time, so it is the code whose changes cargo is told
-/// to look for. Where there is no `rt`, an archive that is there already has to do.
+/// A directory with a copy of the project's own archive, as its code now is. `rt` knows what has changed and proves
+/// that; from nothing it takes some minutes. It writes the archive anew each time, so it is the code whose changes cargo
+/// is told to look for. Where there is no `rt`, an archive that is there already has to do.
 fn of_project(root: &Path) -> Result<PathBuf, String> {
     for source in ["crates", "crates.txt"] {
         println!("cargo::rerun-if-changed={}", root.join(source).display());

@@ -1,0 +1,92 @@
+//! Makes the damages of a case.
+use crate::{
+    case::{Case, Kind},
+    damage::{DAMAGES, Damage},
+    numbers::{added, place},
+    random::Random,
+};
+
+/// Numbers that are too large for anything, among them some that are small in their lower half.
+const HUGE: [i64; 6] = [1 << 32, (1 << 32) + 2, -1, -2, i64::MIN, i64::MAX];
+
+/// One damage to a case.
+pub fn one(case: &Case, r: &mut Random) -> Damage {
+    let what = r.one_of(&DAMAGES);
+    let at = match what {
+        "number" | "second-number" => number_place(case, r),
+        "entry" => r.from(0, case.bins() - 1),
+        "size" => r.from(0, 2),
+        _ => 0,
+    };
+    let (k, huge) = (case.k as i64, r.one_of(&HUGE));
+    let pixels = case.frame.iter().map(|f| f.1).sum::<usize>() as i64;
+    let value = match what {
+        "number" => change(case, true, at, r),
+        "second-number" => change(case, false, at, r),
+        "entry" => r.one_of(&[k - 1, k, k + 1, 255, 0]).clamp(0, 255),
+        "size" if r.once_in(2) => r.one_of(&[1, 2, 4, 8, 16, 32, 64, 128]),
+        "size" => r.one_of(&[0, 3, 5, 6, 7, 12, 127, 129, 255, 256, 258, huge]),
+        "k" => r.one_of(&[0, 1, 2, 256, 257, 258, 512, 65_537, huge]),
+        "colours" => r.one_of(&[0, 1, k - 1, k + 1, 256, 257, 258, huge]),
+        "paint-palette" => {
+            let to = r.one_of(&[0, 1, 2, 3, 4, 766, 767, 768, 769, 770, 771, 774]);
+            r.one_of(&[-3, -2, -1, 1, 2, 3, to - 3 * k])
+        }
+        // The last two add up past the largest number with what the other of the two may be.
+        "first" | "pixels" => r.one_of(&[0, 1, pixels - 1, pixels, pixels + 1, huge, -pixels, -1]),
+        _ => r.one_of(&[-1, 1, -2, 2, -3, 3, -4, 4, -5, 5, -1_000_000_000]),
+    };
+    Damage {
+        what,
+        place: at,
+        value,
+    }
+}
+
+/// A place of the table: mostly one of a bin that a colour of the input falls in.
+fn number_place(case: &Case, r: &mut Random) -> usize {
+    let bin = if case.input.colors.is_empty() || r.once_in(3) {
+        r.from(0, case.bins() - 1)
+    } else {
+        place(case.grid, r.one_of(&case.input.colors))
+    };
+    5 * bin + r.from(0, 4)
+}
+
+/// The five numbers of a bin in the first table or in the second.
+fn numbers_of(case: &Case, first: bool, bin: usize) -> [i64; 5] {
+    let Kind::Calls { split, .. } = case.kind else {
+        return [0; 5];
+    };
+    let mut numbers = [0; 5];
+    for (i, &color) in case.input.colors.iter().enumerate() {
+        if (i < split) == first && place(case.grid, color) == bin {
+            let more = added(color, case.input.weights[i]);
+            (0..5).for_each(|j| numbers[j] += more[j] as i64);
+        }
+    }
+    numbers
+}
+
+/// By how much a number of a table is changed: a little, much, or to a bound of its bin or one past it.
+fn change(case: &Case, first: bool, at: usize, r: &mut Random) -> i64 {
+    let [_, b2, b3] = case.grid;
+    let (bin, which) = (at / 5, at % 5);
+    let numbers = numbers_of(case, first, bin);
+    let (n, old) = (numbers[0], numbers[which]);
+    if r.once_in(2) {
+        let huge = r.one_of(&HUGE);
+        return r.one_of(&[1, -1, 2, -2, 1 << 40, -1 - old, huge]);
+    }
+    let new = match which {
+        0 => r.one_of(&[0, 4_294_967_295, 4_294_967_296]),
+        4 => r.one_of(&[0, 195_075 * n, 195_075 * n + 1]),
+        d => {
+            let values = 256 / case.grid[d - 1];
+            let low = [bin / (b2 * b3), bin / b3 % b2, bin % b3][d - 1] * values;
+            let (low, high) = (n * low as i64, n * (low + values - 1) as i64);
+            r.one_of(&[low - 1, low, high, high + 1])
+        }
+    };
+    new - old
+}
