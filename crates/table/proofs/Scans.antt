@@ -3,7 +3,7 @@
 use mathlib.Core.Path.{_≡_, refl, sym, ap, _∙_}
 use mathlib.Core.Bool.{Bool, true, false, true≢false, _&&_}
 use Prim.Native.Nat.{ℕ, zero, suc, _+_, _-_, _*_, _≤_, _<_}
-use native.Mathlib.Nat.{add-assoc, add-zero, zero-add, add-mul, one-mul}
+use native.Mathlib.Nat.{add-assoc, add-zero, zero-add, add-mul, one-mul, mul-le-mul}
 use native.Mathlib.Omega.{arith}
 use borrow.Author.Tests.{le-leb, lt-leb, leb-true, leb-false}
 use lib.Dec.{leb}
@@ -21,8 +21,9 @@ use Rattle.table.specs.declared.sound.SoundTotal.{SoundTotal}
 use Rattle.table.specs.declared.sound.SoundTotal.the-variants.{Total, Unsound}
 use Rattle.table.specs.Cell.{View, cellOf, numberOf}
 use Rattle.table.specs.Table.{Table, HasCell}
-use Rattle.table.specs.Sound.{limit, inBounds, spanAt, binSound, total, sound, soundTotal}
-use Rattle.table.specs.Inner.{scanned, Row, ByteSpan}
+use Rattle.table.specs.Sound.{limit, squaredSpan, plusSpan, inBounds, spanAt, binSound}
+use Rattle.table.specs.Sound.{total, sound, soundTotal}
+use Rattle.table.specs.Inner.{scanned, Row, SpanBelow, ByteSpan, RowSpans}
 use Rattle.table.proofs.Cells.{number-cell}
 use Rattle.table.proofs.Soundness.{bounds-same}
 use Rattle.table.proofs.Tables.{has-cell}
@@ -139,9 +140,35 @@ chosen-span g r gr b zero = refl
 chosen-span g r gr b (suc zero) = refl
 chosen-span g r gr b (suc (suc d)) = refl
 
-pub byte-span : (shift bin : ℕ) → InSize shift bin → ByteSpan (spanOf shift bin)
+pub byte-span : {shift bin : ℕ} → InSize shift bin → {s : Span} → s ≡ spanOf shift bin → ByteSpan shift s
 unfolding spanOf
-byte-span shift bin i = let h = span-byte shift bin i in record { low = omega arith; high = h }
+byte-span {shift} {bin} i e =
+    let h = span-byte shift bin i in
+    rw e (record { few = i .shift-below; below = record { low = omega arith; high = h }; wide = refl })
+
+pub square-byte : (n : ℕ) → n ≤ 255 → n * n ≤ 65025
+square-byte n h = mul-le-mul {n₂ = 255} {m₂ = 255} h h
+
+-- the squares of two spans of bytes
+pub row-below : {g : Grid} {s1 s2 row : Span} → RowSpans g s1 s2 row → SpanBelow 130050 row
+unfolding plusSpan squaredSpan
+row-below {g} {s1} {s2} {row} r =
+    let one = r .one .below in
+    let two = r .two .below in
+    rw (r .squares) (record {
+      low = omega (arith, square-byte (s1 .low) (one .low), square-byte (s2 .low) (two .low));
+      high = omega (arith, square-byte (s1 .high) (one .high), square-byte (s2 .high) (two .high));
+    })
+
+-- and with a third
+pub all-below : {row s3 : Span} → SpanBelow 130050 row → SpanBelow 255 s3 → {s : Span} → s ≡ plusSpan row (squaredSpan s3)
+    → SpanBelow 195075 s
+unfolding plusSpan squaredSpan
+all-below {row} {s3} r t e =
+    rw e (record {
+      low = omega (arith, r .low, square-byte (s3 .low) (t .low));
+      high = omega (arith, r .high, square-byte (s3 .high) (t .high));
+    })
 
 module _ {most : ℕ} {g : Grid} {t : Table} {r gr had : ℕ} (row : Row most g t r gr had) where
   sizes : Accepted g

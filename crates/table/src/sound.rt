@@ -13,8 +13,8 @@ ghost use Rattle.basics.specs.Dimension.{choose};
 ghost use Rattle.grid.specs.Grid.{placeOf};
 ghost use Rattle.table.specs.Cell.{numberOf};
 ghost use Rattle.table.specs.Table.{viewOf, TableOf};
-ghost use Rattle.table.specs.Sound.{limit, between, inBounds, soundTotal};
-ghost use Rattle.table.specs.Inner.{scanned, Row, ByteSpan};
+ghost use Rattle.table.specs.Sound.{limit, between, squaredSpan, plusSpan, inBounds, soundTotal};
+ghost use Rattle.table.specs.Inner.{scanned, Row, SpanBelow, ByteSpan, RowSpans};
 
 // The largest total of a table.
 pub const LIMIT: u64 = 4294967295;
@@ -25,15 +25,49 @@ pub enum SoundTotal {
     Unsound,
 }
 
-// Whether the sum of n components of one bin lies in its bounds.
-fn lies_between(s: Span, n: u64, sum: u64) -> bool
-    requires { ⌜ ByteSpan s × (n ≤ limit) ⌝ }
+// Whether the sum of n components of one bin lies in its bounds: n·high is n·low with n shifted, and n taken off.
+fn lies_between(shift: u8, s: Span, n: u64, sum: u64) -> bool
+    requires { ⌜ ByteSpan shift s × (n ≤ limit) ⌝ }
     ensures { λ r. ⌜ r ≡ between s n sum ⌝ }
 {
-    if sum < n * s.low {
+    let least = n * s.low;
+    if sum < least {
         return false;
     }
-    sum <= n * s.high
+    sum <= least + ((n << shift) - n)
+}
+
+// The squares of the first two spans, which a row has in common.
+fn row_squares(s1: Span, s2: Span) -> Span
+    requires { ⌜ SpanBelow 255 s1 × SpanBelow 255 s2 ⌝ }
+    ensures { λ r. ⌜ r ≡ plusSpan (squaredSpan s1) (squaredSpan s2) ⌝ }
+{
+    Span {
+        low: s1.low * s1.low + s2.low * s2.low,
+        high: s1.high * s1.high + s2.high * s2.high,
+    }
+}
+
+// And those of the third added.
+fn with_squares(row: Span, s3: Span) -> Span
+    requires { ⌜ SpanBelow 130050 row × SpanBelow 255 s3 ⌝ }
+    ensures { λ r. ⌜ r ≡ plusSpan row (squaredSpan s3) ⌝ }
+{
+    Span {
+        low: row.low + s3.low * s3.low,
+        high: row.high + s3.high * s3.high,
+    }
+}
+
+// Whether the squares of n colours of one bin lie in their bounds.
+fn squares_lie_between(s: Span, n: u64, squares: u64) -> bool
+    requires { ⌜ SpanBelow 195075 s × (n ≤ limit) ⌝ }
+    ensures { λ r. ⌜ r ≡ between s n squares ⌝ }
+{
+    if squares < n * s.low {
+        return false;
+    }
+    squares <= n * s.high
 }
 
 // Whether all but the weight are zeros.
@@ -52,9 +86,10 @@ fn is_bare(c: Cell) -> bool
     c.squares <= 0
 }
 
-// Whether a bin keeps its own bounds, with a weight that is not past the limit by itself.
-fn keeps_bounds(s1: Span, s2: Span, s3: Span, c: Cell) -> bool
-    requires { ⌜ ByteSpan s1 × ByteSpan s2 × ByteSpan s3 ⌝ }
+// Whether a bin keeps its own bounds, with a weight that is not past the limit by itself. The squares of the first two
+// spans are those of its row.
+fn keeps_bounds(g: Grid, s1: Span, s2: Span, row: Span, s3: Span, c: Cell) -> bool
+    requires { ⌜ RowSpans g s1 s2 row × ByteSpan (g .shift3) s3 ⌝ }
     ensures { λ r. ⌜ r ≡ (leb (c .weight) limit && inBounds (λ d. choose d s1 s2 s3) (numberOf c)) ⌝ }
 {
     let n = c.weight;
@@ -64,16 +99,16 @@ fn keeps_bounds(s1: Span, s2: Span, s3: Span, c: Cell) -> bool
     if LIMIT < n {
         return false;
     }
-    if !lies_between(s1, n, c.sum1) {
+    if !lies_between(g.shift1, s1, n, c.sum1) {
         return false;
     }
-    if !lies_between(s2, n, c.sum2) {
+    if !lies_between(g.shift2, s2, n, c.sum2) {
         return false;
     }
-    if !lies_between(s3, n, c.sum3) {
+    if !lies_between(g.shift3, s3, n, c.sum3) {
         return false;
     }
-    c.squares <= 195075 * n
+    squares_lie_between(with_squares(row, s3), n, c.squares)
 }
 
 // The total with one row of bins.
@@ -83,12 +118,13 @@ fn row_total(table: &[u64], g: Grid, r: usize, gr: usize, had: u64) -> SoundTota
 {
     let s1 = span_of(g.shift1, r);
     let s2 = span_of(g.shift2, gr);
+    let row = row_squares(s1, s2);
     let start = place(g, r, gr, 0);
     let mut total = had;
     let mut b = 0;
     while b < g.size3 {
         let c = cell_at(table, start + b);
-        if !keeps_bounds(s1, s2, span_of(g.shift3, b), c) {
+        if !keeps_bounds(g, s1, s2, row, span_of(g.shift3, b), c) {
             return SoundTotal::Unsound;
         }
         total = total + c.weight;
