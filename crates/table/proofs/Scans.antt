@@ -23,7 +23,7 @@ use Rattle.table.specs.Cell.{View, cellOf, numberOf}
 use Rattle.table.specs.Table.{Table, HasCell}
 use Rattle.table.specs.Sound.{limit, squaredSpan, plusSpan, inBounds, spanAt, binSound}
 use Rattle.table.specs.Sound.{total, sound, soundTotal}
-use Rattle.table.specs.Inner.{scanned, Row, SpanBelow, ByteSpan, RowSpans}
+use Rattle.table.specs.Inner.{scanned, Row, SpanBelow, RowSpans}
 use Rattle.table.proofs.Cells.{number-cell}
 use Rattle.table.proofs.Soundness.{bounds-same}
 use Rattle.table.proofs.Tables.{has-cell}
@@ -140,35 +140,37 @@ chosen-span g r gr b zero = refl
 chosen-span g r gr b (suc zero) = refl
 chosen-span g r gr b (suc (suc d)) = refl
 
-pub byte-span : {shift bin : ℕ} → InSize shift bin → {s : Span} → s ≡ spanOf shift bin → ByteSpan shift s
+pub byte-span : {shift bin : ℕ} → InSize shift bin → {s : Span} → s ≡ spanOf shift bin → SpanBelow 255 s
 unfolding spanOf
-byte-span {shift} {bin} i e =
-    let h = span-byte shift bin i in
-    rw e (record { few = i .shift-below; below = record { low = omega arith; high = h }; wide = refl })
+byte-span {shift} {bin} i e = rw e (record { low = omega arith; high = span-byte shift bin i })
 
 pub square-byte : (n : ℕ) → n ≤ 255 → n * n ≤ 65025
 square-byte n h = mul-le-mul {n₂ = 255} {m₂ = 255} h h
 
--- the squares of two spans of bytes
-pub row-below : {g : Grid} {s1 s2 row : Span} → RowSpans g s1 s2 row → SpanBelow 130050 row
+pub low-byte : {s : Span} → SpanBelow 255 s → s .low ≤ 255
+low-byte b = omega (arith, b .low, b .high)
+
+pub wider : {few most : ℕ} {s : Span} → few ≤ most → SpanBelow few s → SpanBelow most s
+wider h b = record { low = b .low; high = omega (arith, h, b .high) }
+
+-- the squares of a span of bytes, added to others
+pub with-below : {few : ℕ} {row s : Span} → SpanBelow few row → SpanBelow 255 s
+    → {all : Span} → all ≡ plusSpan row (squaredSpan s) → SpanBelow (few + 65025) all
 unfolding plusSpan squaredSpan
-row-below {g} {s1} {s2} {row} r =
-    let one = r .one .below in
-    let two = r .two .below in
-    rw (r .squares) (record {
-      low = omega (arith, square-byte (s1 .low) (one .low), square-byte (s2 .low) (two .low));
-      high = omega (arith, square-byte (s1 .high) (one .high), square-byte (s2 .high) (two .high));
+with-below {few} {row} {s} r b e =
+    rw e (record {
+      low = omega (arith, r .low, mul-le-mul (b .low) (b .low));
+      high = omega (arith, r .high, square-byte (s .high) (b .high));
     })
 
--- and with a third
-pub all-below : {row s3 : Span} → SpanBelow 130050 row → SpanBelow 255 s3 → {s : Span} → s ≡ plusSpan row (squaredSpan s3)
-    → SpanBelow 195075 s
-unfolding plusSpan squaredSpan
-all-below {row} {s3} r t e =
-    rw e (record {
-      low = omega (arith, r .low, square-byte (s3 .low) (t .low));
-      high = omega (arith, r .high, square-byte (s3 .high) (t .high));
-    })
+-- the squares of a row
+pub row-below : {s1 s2 row : Span} → RowSpans s1 s2 row → SpanBelow 130050 row
+unfolding squaredSpan
+row-below {s1} r =
+    with-below {few = 65025} (record {
+      low = mul-le-mul (r .one .low) (r .one .low);
+      high = square-byte (s1 .high) (r .one .high);
+    }) (r .two) (r .squares)
 
 module _ {most : ℕ} {g : Grid} {t : Table} {r gr had : ℕ} (row : Row most g t r gr had) where
   sizes : Accepted g

@@ -1,7 +1,7 @@
 -- The steps of the sound total, as the crate's own functions are told. Definitions only.
 use mathlib.Core.Bool.{_&&_, cond}
 use mathlib.Core.Path.{_≡_}
-use Prim.Native.Nat.{ℕ, _+_, _-_, _^_, _≤_, _<_}
+use Prim.Native.Nat.{ℕ, _+_, _≤_}
 use lib.Dec.{leb}
 use Rattle.grid.specs.declared.place.Grid.{Grid}
 use Rattle.grid.specs.declared.dimension.Span.{Span}
@@ -26,19 +26,13 @@ pub record Row (most : ℕ) (g : Grid) (t : Table) (r gr had : ℕ) : Type 0 whe
   pub inside : Inside g r gr 0
   pub under : had ≤ most
 
--- no value of a span is above the most
+-- a span whose values are not above the most
 pub record SpanBelow (most : ℕ) (s : Span) : Type 0 where
-  pub low : s .low ≤ most
+  pub low : s .low ≤ s .high
   pub high : s .high ≤ most
 
--- the span of bytes under a shift
-pub record ByteSpan (shift : ℕ) (s : Span) : Type 0 where
-  pub few : shift < 8
-  pub below : SpanBelow 255 s
-  pub wide : s .high ≡ s .low + (2 ^ shift - 1)
-
 -- the spans of a row's bins in the first two dimensions, and their squares added
-pub record RowSpans (g : Grid) (s1 s2 row : Span) : Type 0 where
-  pub one : ByteSpan (g .shift1) s1
-  pub two : ByteSpan (g .shift2) s2
+pub record RowSpans (s1 s2 row : Span) : Type 0 where
+  pub one : SpanBelow 255 s1
+  pub two : SpanBelow 255 s2
   pub squares : row ≡ plusSpan (squaredSpan s1) (squaredSpan s2)

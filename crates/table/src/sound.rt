@@ -5,6 +5,7 @@ use grid::dimension::Span;
 use grid::dimension::span_of;
 use grid::place::Grid;
 use grid::place::place;
+use std::num::wrapping_sub_u64;
 ghost use mathlib.Core.Path.{_≡_};
 ghost use mathlib.Core.Bool.{_&&_};
 ghost use Prim.Native.Nat.{_*_, _≤_};
@@ -14,7 +15,7 @@ ghost use Rattle.grid.specs.Grid.{placeOf};
 ghost use Rattle.table.specs.Cell.{numberOf};
 ghost use Rattle.table.specs.Table.{viewOf, TableOf};
 ghost use Rattle.table.specs.Sound.{limit, between, squaredSpan, plusSpan, inBounds, soundTotal};
-ghost use Rattle.table.specs.Inner.{scanned, Row, SpanBelow, ByteSpan, RowSpans};
+ghost use Rattle.table.specs.Inner.{scanned, Row, SpanBelow, RowSpans};
 
 // The largest total of a table.
 pub const LIMIT: u64 = 4294967295;
@@ -25,16 +26,13 @@ pub enum SoundTotal {
     Unsound,
 }
 
-// Whether the sum of n components of one bin lies in its bounds: n·high is n·low with n shifted, and n taken off.
-fn lies_between(shift: u8, s: Span, n: u64, sum: u64) -> bool
-    requires { ⌜ ByteSpan shift s × (n ≤ limit) ⌝ }
+// Whether the sum of n values lies in its bounds. A sum below n·low wraps to more than any difference of the bounds, so
+// that one comparison does for both.
+fn lies_between(s: Span, n: u64, sum: u64) -> bool
+    requires { ⌜ SpanBelow 195075 s × (n ≤ limit) ⌝ }
     ensures { λ r. ⌜ r ≡ between s n sum ⌝ }
 {
-    let least = n * s.low;
-    if sum < least {
-        return false;
-    }
-    sum <= least + ((n << shift) - n)
+    wrapping_sub_u64(sum, n * s.low) <= n * (s.high - s.low)
 }
 
 // The squares of the first two spans, which a row has in common.
@@ -59,17 +57,6 @@ fn with_squares(row: Span, s3: Span) -> Span
     }
 }
 
-// Whether the squares of n colours of one bin lie in their bounds.
-fn squares_lie_between(s: Span, n: u64, squares: u64) -> bool
-    requires { ⌜ SpanBelow 195075 s × (n ≤ limit) ⌝ }
-    ensures { λ r. ⌜ r ≡ between s n squares ⌝ }
-{
-    if squares < n * s.low {
-        return false;
-    }
-    squares <= n * s.high
-}
-
 // Whether all but the weight are zeros.
 fn is_bare(c: Cell) -> bool
     ensures { λ r. ⌜ r ≡ (leb (c .sum1) 0 && (leb (c .sum2) 0 && (leb (c .sum3) 0 && leb (c .squares) 0))) ⌝ }
@@ -88,8 +75,8 @@ fn is_bare(c: Cell) -> bool
 
 // Whether a bin keeps its own bounds, with a weight that is not past the limit by itself. The squares of the first two
 // spans are those of its row.
-fn keeps_bounds(g: Grid, s1: Span, s2: Span, row: Span, s3: Span, c: Cell) -> bool
-    requires { ⌜ RowSpans g s1 s2 row × ByteSpan (g .shift3) s3 ⌝ }
+fn keeps_bounds(s1: Span, s2: Span, row: Span, s3: Span, c: Cell) -> bool
+    requires { ⌜ RowSpans s1 s2 row × SpanBelow 255 s3 ⌝ }
     ensures { λ r. ⌜ r ≡ (leb (c .weight) limit && inBounds (λ d. choose d s1 s2 s3) (numberOf c)) ⌝ }
 {
     let n = c.weight;
@@ -99,16 +86,16 @@ fn keeps_bounds(g: Grid, s1: Span, s2: Span, row: Span, s3: Span, c: Cell) -> bo
     if LIMIT < n {
         return false;
     }
-    if !lies_between(g.shift1, s1, n, c.sum1) {
+    if !lies_between(s1, n, c.sum1) {
         return false;
     }
-    if !lies_between(g.shift2, s2, n, c.sum2) {
+    if !lies_between(s2, n, c.sum2) {
         return false;
     }
-    if !lies_between(g.shift3, s3, n, c.sum3) {
+    if !lies_between(s3, n, c.sum3) {
         return false;
     }
-    squares_lie_between(with_squares(row, s3), n, c.squares)
+    lies_between(with_squares(row, s3), n, c.squares)
 }
 
 // The total with one row of bins.
@@ -124,7 +111,7 @@ fn row_total(table: &[u64], g: Grid, r: usize, gr: usize, had: u64) -> SoundTota
     let mut b = 0;
     while b < g.size3 {
         let c = cell_at(table, start + b);
-        if !keeps_bounds(g, s1, s2, row, span_of(g.shift3, b), c) {
+        if !keeps_bounds(s1, s2, row, span_of(g.shift3, b), c) {
             return SoundTotal::Unsound;
         }
         total = total + c.weight;

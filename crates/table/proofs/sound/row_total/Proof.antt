@@ -44,8 +44,8 @@ span-of-requires-2 c κs = row-two (c .before .before .pre)
 row-squares-requires : tie.Need-row-squares-requires Inv-loop μ-loop
 row-squares-requires c κs =
     let s = c .before .before .before in (
-      byte-span (row-one (s .pre)) (c .before .span-of .ensures) .below,
-      byte-span (row-two (s .pre)) (c .span-of2 .ensures) .below,
+      byte-span (row-one (s .pre)) (c .before .span-of .ensures),
+      byte-span (row-two (s .pre)) (c .span-of2 .ensures),
     )
 
 place-requires : tie.Need-place-requires Inv-loop μ-loop
