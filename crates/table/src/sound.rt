@@ -46,14 +46,17 @@ fn row_squares(s1: Span, s2: Span) -> Span
     }
 }
 
-// And those of the third added.
+// And those of the third added. The high end is told by what it has more than the low one, which grows by the same from
+// bin to bin, so that the compiler needs no multiplication for it.
 fn with_squares(row: Span, s3: Span) -> Span
     requires { ⌜ SpanBelow 130050 row × SpanBelow 255 s3 ⌝ }
     ensures { λ r. ⌜ r ≡ plusSpan row (squaredSpan s3) ⌝ }
 {
+    let low = row.low + s3.low * s3.low;
+    let more = (s3.high - s3.low) * (s3.high + s3.low);
     Span {
-        low: row.low + s3.low * s3.low,
-        high: row.high + s3.high * s3.high,
+        low,
+        high: low + ((row.high - row.low) + more),
     }
 }
 
