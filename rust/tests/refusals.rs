@@ -31,7 +31,9 @@ fn unsound() -> Table {
 /// smallest sums and these squares.
 fn squares(high: [bool; 3], squares: u64) -> Table {
     let low = high.map(|high| if high { 128 } else { 0 });
-    let place = high.iter().fold(0, |place, &high| 2 * place + usize::from(high));
+    let place = high
+        .iter()
+        .fold(0, |place, &high| 2 * place + usize::from(high));
     let mut numbers = vec![0; grid().numbers()];
     numbers[5 * place..][..5].copy_from_slice(&[2, 2 * low[0], 2 * low[1], 2 * low[2], squares]);
     Table::from_numbers(grid(), numbers).unwrap()

@@ -87,7 +87,8 @@ fn change(case: &Case, first: bool, at: usize, r: &mut Random) -> i64 {
     let new = match which {
         0 => r.one_of(&[0, 4_294_967_295, 4_294_967_296]),
         4 => {
-            let squares = |end: fn((i64, i64)) -> i64| (0..3).map(|d| end(span(d)).pow(2)).sum::<i64>();
+            let squares =
+                |end: fn((i64, i64)) -> i64| (0..3).map(|d| end(span(d)).pow(2)).sum::<i64>();
             let (low, high) = (n * squares(|s| s.0), n * squares(|s| s.1));
             r.one_of(&[0, low - 1, low, high, high + 1])
         }
