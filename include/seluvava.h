@@ -19,8 +19,8 @@
  * TABLE. Five numbers per bin, from 5 * place on: weight n, three component sums, the sum of squared components.
  * An empty table is all zeros. A table is sound if, in each bin, every component sum lies between n * low and
  * n * high, where low and high are the smallest and largest value of that component that fall in the bin, the
- * squares are at most 195,075 * n, and all weights total at most 4,294,967,295. What load and merge make of sound
- * tables is sound.
+ * squares lie between n times the sum of the three squared lows and n times that of the three squared highs, and all
+ * weights total at most 4,294,967,295. What load and merge make of sound tables is sound.
  *
  * LENT BUFFERS. A buffer is a pointer and, right after it, its length in elements (not in bytes). A caller sees to
  * three things, and no call can test them: a pointer is aligned for its type and has that many elements behind it;

@@ -381,8 +381,8 @@ static struct asked good(void)
 /* Who looks at 32 bits alone takes it for n. */
 #define MORE_THAN(n) ((UINT64_C(1) << 32) + (n))
 
-/* One number of what is good, changed, and what each of these calls then answers. Place 16, from table[80] on, is a bin
- * of reds 64..127; it holds (100, 5, 9) with weight 2. */
+/* One number of what is good, changed, and what each of these calls then answers. Place 16, from table[80] on, is the
+ * bin of 64..127, 0..127, 0..31; it holds (100, 5, 9) with weight 2. */
 static const struct change {
     unsigned calls, number;
     const char *what;
@@ -445,12 +445,15 @@ static const struct change {
     {TABLES, 6, "sum above n * high", PUT(table[81], 255)},
     {TABLES, 6, "second sum above n * high", PUT(table[82], 255)},
     {TABLES, 6, "third sum above n * high", PUT(table[83], 63)},
-    {TABLES, 6, "squares above 195,075 * n", PUT(table[84], 390151)},
+    {TABLES, 6, "squares above n * the squared highs", PUT(table[84], 66439)},
+    {TABLES, 6, "squares below n * the squared lows", PUT(table[84], 8191)},
+    {TABLES, 6, "squares 0 beside a weight", PUT(table[84], 0)},
     {TABLES, 6, "squares far too large", PUT(table[84], UINT64_MAX)},
     {TABLES, 6, "empty bin with a sum", PUT(table[6], 1)},
     {TABLES, 6, "weights past the limit", PUT(table[0], LIMIT - 9)},
     {TABLES, 6, "weight far too large", PUT(table[0], UINT64_MAX)},
     {BIT(MERGE), 6, "sum of the second table above n * high", PUT(second[81], 255)},
+    {BIT(MERGE), 6, "squares of the second table 0 beside a weight", PUT(second[84], 0)},
     {BIT(MERGE), 6, "weights of the second table past the limit", PUT(second[0], LIMIT - 9)},
     {BIT(LOAD), 7, "total one past the limit", PUT(weights[2], LIMIT - 18)},
     {BIT(LOAD), 7, "weight that is the limit", PUT(weights[4], LIMIT)},
@@ -462,7 +465,8 @@ static const struct change {
     {BIT(MAPPING), 9, "1 colour", PUT(told, 1)},
     {TABLES, 0, "sum at n * low", PUT(table[81], 128)},
     {TABLES, 0, "sum at n * high", PUT(table[81], 254)},
-    {TABLES, 0, "squares at 195,075 * n", PUT(table[84], 390150)},
+    {TABLES, 0, "squares at n * the squared lows", PUT(table[84], 8192)},
+    {TABLES, 0, "squares at n * the squared highs", PUT(table[84], 66438)},
     {BIT(CUT), 0, "full table", PUT(table[0], LIMIT - 10)},
     {BIT(LOAD), 0, "total at the limit", PUT(weights[2], LIMIT - 19)},
     {BIT(MERGE), 0, "total at the limit", PUT(second[0], LIMIT - 23)},
@@ -510,6 +514,49 @@ static void ask_empty(void)
     ask(CUT, &q, 6, "empty table", "a sum in it");
     q.length[SPREADS] = 2;
     ask(CUT, &q, 5, "empty table", "spreads one short");
+}
+
+/* The squares at each bound of the smallest and the largest bin of each dimension, and one past it. */
+static void ask_squares(void)
+{
+    for (unsigned corner = 0; corner < 8; corner++) {
+        const size_t sizes[] = {4, 2, 8};
+        uint64_t cell[5] = {2, 0, 0, 0, 0}, lows = 0, highs = 0;
+        size_t at = 0;
+        for (size_t d = 0; d < 3; d++) {
+            const size_t values = 256 / sizes[d], bin = corner & BIT(d) ? sizes[d] - 1 : 0;
+            const uint64_t low = bin * values, high = low + values - 1;
+            at = at * sizes[d] + bin;
+            cell[1 + d] = cell[0] * low;
+            lows += cell[0] * low * low;
+            highs += cell[0] * high * high;
+        }
+        const struct {
+            uint64_t squares;
+            unsigned number;
+            const char *what;
+        } tried[] = {
+            {lows, 0, "at n * the squared lows"},
+            {highs, 0, "at n * the squared highs"},
+            {highs + 1, 6, "one above"},
+            {lows - 1, 6, "one below, or far too large"},
+            {0, lows ? 6 : 0, "0"},
+        };
+        for (size_t i = 0; i < COUNT(tried); i++) {
+            struct asked q;
+            cell[4] = tried[i].squares;
+            for (enum call call = LOAD; call <= CUT; call++) {
+                q = good();
+                memset(q.table, 0, sizeof q.table);
+                memcpy(q.table + 5 * at, cell, sizeof cell);
+                ask(call, &q, tried[i].number, "squares of a bin alone", tried[i].what);
+            }
+            q = good();
+            memset(q.second, 0, sizeof q.second);
+            memcpy(q.second + 5 * at, cell, sizeof cell);
+            ask(MERGE, &q, tried[i].number, "squares of the second table's bin", tried[i].what);
+        }
+    }
 }
 
 /* ---- Batches, bands and frames of every length */
@@ -614,6 +661,7 @@ static void ask_all(void)
     for (size_t i = 0; i < COUNT(worked); i++) ask_worked(&worked[i]);
     for (enum call call = LOAD; call < CALLS; call++) ask_changed(call);
     ask_empty();
+    ask_squares();
     ask_plain();
     for (size_t i = 0; i < COUNT(bands); i++)
         ask_band(bands[i].frame, bands[i].first, bands[i].pixels, bands[i].number);

@@ -50,14 +50,17 @@ fn sound(grid: Grid, table: &[u64]) -> Option<u128> {
     for (place, numbers) in table.chunks_exact(5).enumerate() {
         let [n, sums @ .., squares] = [0, 1, 2, 3, 4].map(|j| u128::from(numbers[j]));
         let bins = [place / (b2 * b3), place / b3 % b2, place % b3];
+        let (mut squared_lows, mut squared_highs) = (0, 0);
         for ((size, bin), sum) in grid.into_iter().zip(bins).zip(sums) {
             let values = 256 / size;
-            let (low, high) = (bin * values, bin * values + values - 1);
-            if sum < n * low as u128 || sum > n * high as u128 {
+            let (low, high) = ((bin * values) as u128, (bin * values + values - 1) as u128);
+            if sum < n * low || sum > n * high {
                 return None;
             }
+            squared_lows += low * low;
+            squared_highs += high * high;
         }
-        if squares > 195_075 * n {
+        if squares < n * squared_lows || squares > n * squared_highs {
             return None;
         }
         total += n;

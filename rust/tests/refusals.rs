@@ -27,6 +27,18 @@ fn unsound() -> Table {
     Table::from_numbers(grid(), numbers).unwrap()
 }
 
+/// A table of weight 2 in one bin of 2,2,2, each component of which lies in the low half or in the high one, with the
+/// smallest sums and these squares.
+fn squares(high: [bool; 3], squares: u64) -> Table {
+    let low = high.map(|high| if high { 128 } else { 0 });
+    let place = high
+        .iter()
+        .fold(0, |place, &high| 2 * place + usize::from(high));
+    let mut numbers = vec![0; grid().numbers()];
+    numbers[5 * place..][..5].copy_from_slice(&[2, 2 * low[0], 2 * low[1], 2 * low[2], squares]);
+    Table::from_numbers(grid(), numbers).unwrap()
+}
+
 /// Holds a call on a table to its number, and the table to what it was.
 fn refuses(number: u8, table: &Table, call: impl Fn(&mut Table) -> Result<(), Refused>) {
     let mut later = table.clone();
@@ -53,6 +65,33 @@ fn lengths_of_parts() {
     }
     assert!(Table::from_numbers(grid(), vec![0; 40]).is_ok());
     assert!(ColourMap::from_parts(grid(), vec![255; 8], vec![[0; 3]; 256]).is_ok());
+}
+
+/// The squares lie between n times the sum of the three squared lows and n times that of the three squared highs.
+#[test]
+fn squares_of_a_bin() {
+    for corner in 0..8 {
+        let high = [4, 2, 1].map(|bit| corner & bit != 0);
+        let halves = high.iter().filter(|&&high| high).count() as u64;
+        let lows = 2 * halves * 128 * 128;
+        let highs = 2 * (halves * 255 * 255 + (3 - halves) * 127 * 127);
+        for sound in [lows, highs] {
+            let mut table = squares(high, sound);
+            table.merge(&squares(high, sound)).unwrap();
+            table.load(&[]).unwrap();
+            assert_eq!(table.cut(2).unwrap().counts(), [4]);
+        }
+        for unsound in [lows.wrapping_sub(1), highs + 1] {
+            let unsound = squares(high, unsound);
+            refuses(6, &unsound, |t| t.load(&[]));
+            refuses(6, &unsound, |t| t.merge(&table()));
+            refuses(6, &table(), |t| t.merge(&unsound));
+            refuses(6, &unsound, |t| t.cut(2).map(|_| ()));
+        }
+        if halves > 0 {
+            refuses(6, &squares(high, 0), |t| t.cut(2).map(|_| ()));
+        }
+    }
 }
 
 #[test]

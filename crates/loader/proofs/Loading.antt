@@ -12,6 +12,7 @@ use native.Mathlib.Omega.{arith}
 use borrow.Author.Tests.{eq-eqb, ne-eqb, le-leb, lt-leb}
 use lib.Dec.{eqb, leb}
 use Rattle.grid.specs.declared.place.Grid.{Grid}
+use Rattle.grid.specs.declared.dimension.Span.{Span}
 use Rattle.basics.specs.Range.{listFrom, sumFrom}
 use Rattle.grid.specs.Size.{spanOf, binOf}
 use Rattle.grid.specs.Grid.{Accepted, binsOf, shiftAt, colourPlace}
@@ -24,7 +25,8 @@ use Rattle.table.specs.Cell.{View}
 use Rattle.table.specs.Table.{Table, viewOf}
 use Rattle.table.specs.Sound.{spanAt, total}
 use Rattle.loader.specs.Load.{Weighted, share, adds, sumOver, weightOf, loaded}
-use Rattle.table.proofs.Soundness.{Keeps, keeps-zero, keeps-plus, Sound, sound-by, sound-keeps, sound-same, total-is}
+use Rattle.table.proofs.Soundness.{Keeps, keeps-zero, keeps-plus, squares-above, squares-below}
+use Rattle.table.proofs.Soundness.{Sound, sound-by, sound-keeps, sound-same, total-is}
 use Rattle.table.proofs.Soundness.{total-same, span-is}
 use Rattle.table.proofs.Tables.{Holds}
 
@@ -93,24 +95,23 @@ module _ {g : Grid} (a : Accepted g) (c : Weighted) (b : Bytes (c .colour)) wher
       ≡ spanOf (shiftAt g d) (binOf (shiftAt g d) (componentAt (c .colour) d))
   own d = span-is g (colourPlace g (c .colour)) d ∙ ap (spanOf (shiftAt g d)) (colour-bin a b d)
 
-  share-keeps : Keeps (spanAt g (colourPlace g (c .colour))) (share c)
-  unfolding share
+  abbrev spans : ℕ → Span
+  spans = spanAt g (colourPlace g (c .colour))
+
+  low : (d : ℕ) → spans d .low ≤ componentAt (c .colour) d
+  low d = rw (own d) (span-low (shiftAt g d) (componentAt (c .colour) d))
+
+  high : (d : ℕ) → componentAt (c .colour) d ≤ spans d .high
+  high d = rw (own d) (span-high (shiftAt g d) (componentAt (c .colour) d))
+
+  share-keeps : Keeps spans (share c)
+  unfolding share componentAt choose
   share-keeps =
       record {
-        low =
-            λ d h. rw (share-sum c d h, own d)
-            (mul-le-mul-left (c .weight) (span-low (shiftAt g d) (componentAt (c .colour) d)));
-        high =
-            λ d h. rw (share-sum c d h, own d)
-            (mul-le-mul-left (c .weight) (span-high (shiftAt g d) (componentAt (c .colour) d)));
-        squares = rw (mul-comm 195075 (c .weight))
-            (mul-le-mul-left (c .weight)
-            (omega (
-              arith,
-              square-byte (c .colour .c1) (b .one),
-              square-byte (c .colour .c2) (b .two),
-              square-byte (c .colour .c3) (b .three),
-            )));
+        low = λ d h. rw (share-sum c d h) (mul-le-mul-left (c .weight) (low d));
+        high = λ d h. rw (share-sum c d h) (mul-le-mul-left (c .weight) (high d));
+        squares-low = mul-le-mul-left (c .weight) (squares-above spans (componentAt (c .colour)) (λ d h. low d));
+        squares-high = mul-le-mul-left (c .weight) (squares-below spans (componentAt (c .colour)) (λ d h. high d));
       }
 
   adds-keeps : (p : ℕ) → Keeps (spanAt g p) (adds g c p)

@@ -13,7 +13,7 @@ use Rattle.grid.specs.Grid.{shiftAt, gridWith, gridOf, gridAnswer, onGrid, numb
 use Rattle.grid.specs.Grid.{colourPlace}
 use Rattle.pixels.specs.Colour.{colourAt}
 use Rattle.table.specs.Table.{tableLen, isSized, viewOf, written}
-use Rattle.table.specs.Sound.{between, inBounds, spanAt, binSound, total, sound}
+use Rattle.table.specs.Sound.{between, squaredSpan, plusSpan, squaresSpan, inBounds, spanAt, binSound, total, sound}
 use Rattle.loader.specs.Load.{share, adds, sumOver, weightOf, loaded, weightedAt, batchOf, loadNumberOn}
 use Rattle.loader.specs.Load.{loadNumber, loadLater}
 use Rattle.loader.specs.Merge.{merged, mergeNumberOn, mergeNumber, mergeLater}
@@ -84,7 +84,7 @@ cases =
 worked : map loads cases ≡ map (λ c. c .expected) cases
 unfolding loads one cases refuse whenDone listFrom sumFrom allFrom choices shiftIn shiftOf binOf spanOf choose shiftAt
     gridWith gridOf gridAnswer onGrid numberOn binsOf placeOf binAt colourPlace colourAt
-    tableLen isSized viewOf written between inBounds spanAt binSound total sound
+    tableLen isSized viewOf written between squaredSpan plusSpan squaresSpan inBounds spanAt binSound total sound
     share adds sumOver weightOf loaded weightedAt batchOf loadNumberOn loadNumber loadLater
 worked = refl
 
@@ -95,6 +95,6 @@ worked-merge :
     × (mergeNumber 2 2 2 one full ≡ 7)
 unfolding full one refuse whenDone listFrom sumFrom allFrom choices shiftIn shiftOf spanOf choose shiftAt
     gridWith gridOf gridAnswer onGrid numberOn binsOf binAt
-    tableLen isSized viewOf written between inBounds spanAt binSound total sound
+    tableLen isSized viewOf written between squaredSpan plusSpan squaresSpan inBounds spanAt binSound total sound
     merged mergeNumberOn mergeNumber mergeLater
 worked-merge = (refl, refl, refl)

@@ -12,7 +12,7 @@ use Rattle.grid.specs.Grid.{shiftAt, gridWith, gridOf, gridAnswer, onGrid, numb
 use Rattle.grid.specs.Grid.{colourPlace}
 use Rattle.pixels.specs.Colour.{colourAt}
 use Rattle.table.specs.Table.{tableLen, isSized, viewOf, written}
-use Rattle.table.specs.Sound.{between, inBounds, spanAt, binSound, total, sound}
+use Rattle.table.specs.Sound.{between, squaredSpan, plusSpan, squaresSpan, inBounds, spanAt, binSound, total, sound}
 use Rattle.loader.specs.Load.{share, adds, sumOver, weightOf, loaded, tableOf, weightedAt, batchOf, loadNumberOn}
 use Rattle.loader.specs.Load.{loadNumber, loadLater}
 use Rattle.boxes.specs.Box.{minAt, maxAt, lowSide, highSide}
@@ -45,7 +45,7 @@ unfolding loadsOf tableAfter positionIn lentTo outcome times empties plain weigh
     done refusedWith blackWhite blackWhiteTable blackWhiteMoments reds redsTable redsMoments fullCell sizeOne cases
     refuse whenDone listFrom sumFrom allFrom choices shiftIn shiftOf binOf spanOf choose shiftAt gridWith gridOf
     gridAnswer onGrid numberOn binsOf placeOf binAt colourPlace colourAt
-    tableLen isSized viewOf written between inBounds spanAt binSound total sound
+    tableLen isSized viewOf written between squaredSpan plusSpan squaresSpan inBounds spanAt binSound total sound
     share adds sumOver weightOf loaded weightedAt batchOf loadNumberOn loadNumber loadLater
     minAt maxAt sum3 binSum boxSum statsOf lowSide highSide belowSum momentsOf
     quotientOf oneBin spreadOf scoreOf positionAnswer positionOf positionAt laterWins better bestRun bestIn bestCut

@@ -3,7 +3,7 @@
 use mathlib.Core.Path.{_≡_, refl, ap, _∙_}
 use mathlib.Core.Bool.{Bool, true, false, _&&_}
 use Prim.Native.Nat.{ℕ, zero, suc, _+_, _*_, _^_, _≤_, _<_}
-use native.Mathlib.Nat.{add-mul, zero-mul, mul-le-mul-left, mul-comm, lt-trans}
+use native.Mathlib.Nat.{add-mul, zero-mul, mul-le-mul, mul-le-mul-left, mul-comm, lt-trans}
 use native.Mathlib.Omega.{arith}
 use borrow.Author.Tests.{le-leb, lt-leb, leb-true}
 use lib.Dec.{leb, leb·zero, lit<}
@@ -20,44 +20,57 @@ use Rattle.grid.proofs.Places.{sized-at, bin-at-below}
 use Rattle.table.specs.declared.cell.Cell.{Cell}
 use Rattle.table.specs.Cell.{View, zeros, numberOf}
 use Rattle.table.specs.Table.{Held}
-use Rattle.table.specs.Sound.{limit, between, inBounds, spanAt, binSound, total, sound}
+use Rattle.table.specs.Sound.{limit, between, squaredSpan, plusSpan, squaresSpan}
+use Rattle.table.specs.Sound.{inBounds, spanAt, binSound, total, sound}
 
 -- ---- the bounds of one bin, as facts
 pub record Keeps (span : ℕ → Span) (f : ℕ → ℕ) : Type 0 where
   pub low : (d : ℕ) → d < 3 → f 0 * span d .low ≤ f (d + 1)
   pub high : (d : ℕ) → d < 3 → f (d + 1) ≤ f 0 * span d .high
-  pub squares : f 4 ≤ 195075 * f 0
+  pub squares-low : f 0 * squaresSpan span .low ≤ f 4
+  pub squares-high : f 4 ≤ f 0 * squaresSpan span .high
+
+-- what a test of bounds says, and what it takes
+between-low : (s : Span) (n sum : ℕ) → between s n sum ≡ true → n * s .low ≤ sum
+unfolding between
+between-low s n sum e = leb-true (n * s .low) sum (and-left (leb (n * s .low) sum) (leb sum (n * s .high)) e)
+
+between-high : (s : Span) (n sum : ℕ) → between s n sum ≡ true → sum ≤ n * s .high
+unfolding between
+between-high s n sum e = leb-true sum (n * s .high) (and-right (leb (n * s .low) sum) (leb sum (n * s .high)) e)
+
+between-both : (s : Span) (n sum : ℕ) → n * s .low ≤ sum → sum ≤ n * s .high → between s n sum ≡ true
+unfolding between
+between-both s n sum l h = simp (le-leb _ _ l, le-leb _ _ h)
 
 pub keeps : (span : ℕ → Span) (f : ℕ → ℕ) → inBounds span f ≡ true → Keeps span f
-unfolding inBounds between
+unfolding inBounds
 keeps span f e =
-    let sums = and-left (allFrom 0 3 (λ d. between (span d) (f 0) (f (d + 1)))) (leb (f 4) (195075 * f 0)) e in
+    let each : Bool = allFrom 0 3 (λ d. between (span d) (f 0) (f (d + 1))) in
+    let all : Bool = between (squaresSpan span) (f 0) (f 4) in
+    let sum : (d : ℕ) → d < 3 → between (span d) (f 0) (f (d + 1)) ≡ true =
+    λ d h. all-at 0 3 (λ k. between (span k) (f 0) (f (k + 1))) (and-left each all e) d (omega arith) (omega arith) in
     record {
-      low = λ d h.
-          leb-true (f 0 * span d .low) (f (d + 1))
-          (and-left (leb (f 0 * span d .low) (f (d + 1))) (leb (f (d + 1)) (f 0 * span d .high))
-          (all-at 0 3 (λ k. between (span k) (f 0) (f (k + 1))) sums d (omega arith) (omega arith)));
-      high = λ d h.
-          leb-true (f (d + 1)) (f 0 * span d .high)
-          (and-right (leb (f 0 * span d .low) (f (d + 1))) (leb (f (d + 1)) (f 0 * span d .high))
-          (all-at 0 3 (λ k. between (span k) (f 0) (f (k + 1))) sums d (omega arith) (omega arith)));
-      squares = leb-true (f 4) (195075 * f 0)
-          (and-right (allFrom 0 3 (λ d. between (span d) (f 0) (f (d + 1)))) (leb (f 4) (195075 * f 0)) e);
+      low = λ d h. between-low (span d) (f 0) (f (d + 1)) (sum d h);
+      high = λ d h. between-high (span d) (f 0) (f (d + 1)) (sum d h);
+      squares-low = between-low (squaresSpan span) (f 0) (f 4) (and-right each all e);
+      squares-high = between-high (squaresSpan span) (f 0) (f 4) (and-right each all e);
     }
 
 pub kept : {span : ℕ → Span} {f : ℕ → ℕ} → Keeps span f → inBounds span f ≡ true
-unfolding inBounds between
+unfolding inBounds
 kept {span} {f} k =
     rw (all-true 0 3 (λ d. between (span d) (f 0) (f (d + 1)))
-    (λ d a b. simp (le-leb _ _ (k .low d (omega arith)), le-leb _ _ (k .high d (omega arith)))))
-    (le-leb (f 4) (195075 * f 0) (k .squares))
+    (λ d a b. between-both (span d) (f 0) (f (d + 1)) (k .low d (omega arith)) (k .high d (omega arith))))
+    (between-both (squaresSpan span) (f 0) (f 4) (k .squares-low) (k .squares-high))
 
 pub keeps-zero : (span : ℕ → Span) → Keeps span (λ j. 0)
 keeps-zero span =
     record {
       low = λ d h. omega (arith, zero-mul (span d .low));
       high = λ d h. omega arith;
-      squares = omega arith;
+      squares-low = omega (arith, zero-mul (squaresSpan span .low));
+      squares-high = omega arith;
     }
 
 pub keeps-plus : {span : ℕ → Span} {f h : ℕ → ℕ} → Keeps span f → Keeps span h → Keeps span (λ j. f j + h j)
@@ -65,8 +78,25 @@ keeps-plus {span} {f} {h} a b =
     record {
       low = λ d l. omega (arith, a .low d l, b .low d l, add-mul (f 0) (h 0) (span d .low));
       high = λ d l. omega (arith, a .high d l, b .high d l, add-mul (f 0) (h 0) (span d .high));
-      squares = omega (arith, a .squares, b .squares);
+      squares-low = omega (arith, a .squares-low, b .squares-low, add-mul (f 0) (h 0) (squaresSpan span .low));
+      squares-high = omega (arith, a .squares-high, b .squares-high, add-mul (f 0) (h 0) (squaresSpan span .high));
     }
+
+-- where each component of a colour lies between low and high, its squares lie between theirs
+module _ (span : ℕ → Span) (c : ℕ → ℕ) where
+  pub squares-above : ((d : ℕ) → d < 3 → span d .low ≤ c d)
+      → squaresSpan span .low ≤ c 0 * c 0 + c 1 * c 1 + c 2 * c 2
+  unfolding squaresSpan plusSpan squaredSpan
+  squares-above h =
+      let each : (d : ℕ) → d < 3 → span d .low * span d .low ≤ c d * c d = λ d l. mul-le-mul (h d l) (h d l) in
+      omega (arith, each 0 (lit< tt), each 1 (lit< tt), each 2 (lit< tt))
+
+  pub squares-below : ((d : ℕ) → d < 3 → c d ≤ span d .high)
+      → c 0 * c 0 + c 1 * c 1 + c 2 * c 2 ≤ squaresSpan span .high
+  unfolding squaresSpan plusSpan squaredSpan
+  squares-below h =
+      let each : (d : ℕ) → d < 3 → c d * c d ≤ span d .high * span d .high = λ d l. mul-le-mul (h d l) (h d l) in
+      omega (arith, each 0 (lit< tt), each 1 (lit< tt), each 2 (lit< tt))
 
 -- ---- the bounds of a cell, as the code tests them one after the other
 regrouped : (a b c d : Bool) → ((a && (b && (c && true))) && d) ≡ (a && (b && (c && d)))
@@ -75,16 +105,20 @@ regrouped true true false d = refl
 regrouped true false c d = refl
 regrouped false b c d = refl
 
+-- the squares of three spans, added as the code adds them
+abbrev squares3 : Span → Span → Span → Span
+squares3 s1 s2 s3 = plusSpan (plusSpan (squaredSpan s1) (squaredSpan s2)) (squaredSpan s3)
+
 -- the tests before one that held, and it or the rest
 cell-bounds : (s1 s2 s3 : Span) (c : Cell)
     → inBounds (λ d. choose d s1 s2 s3) (numberOf c)
     ≡ (between s1 (c .weight) (c .sum1)
     && (between s2 (c .weight) (c .sum2)
-    && (between s3 (c .weight) (c .sum3) && leb (c .squares) (195075 * c .weight))))
-unfolding inBounds allFrom choose numberOf
+    && (between s3 (c .weight) (c .sum3) && between (squares3 s1 s2 s3) (c .weight) (c .squares))))
+unfolding inBounds allFrom choose numberOf squaresSpan
 cell-bounds s1 s2 s3 c =
     regrouped (between s1 (c .weight) (c .sum1)) (between s2 (c .weight) (c .sum2)) (between s3 (c .weight) (c .sum3))
-    (leb (c .squares) (195075 * c .weight))
+    (between (squares3 s1 s2 s3) (c .weight) (c .squares))
 
 between-none : (s : Span) (sum : ℕ) → between s 0 sum ≡ leb sum 0
 unfolding between
@@ -97,9 +131,11 @@ empty-bounds : (s1 s2 s3 : Span) (c : Cell) → c .weight ≡ 0
 empty-bounds s1 s2 s3 c e =
     cell-bounds s1 s2 s3 c
     ∙ (λ i. between s1 (e i) (c .sum1)
-    && (between s2 (e i) (c .sum2) && (between s3 (e i) (c .sum3) && leb (c .squares) (195075 * e i))))
+    && (between s2 (e i) (c .sum2)
+    && (between s3 (e i) (c .sum3) && between (squares3 s1 s2 s3) (e i) (c .squares))))
     ∙ (λ i. between-none s1 (c .sum1) i
-    && (between-none s2 (c .sum2) i && (between-none s3 (c .sum3) i && leb (c .squares) 0)))
+    && (between-none s2 (c .sum2) i
+    && (between-none s3 (c .sum3) i && between-none (squares3 s1 s2 s3) (c .squares) i)))
 
 module _ (s1 s2 s3 : Span) (c : Cell) where
   abbrev within : Bool
@@ -118,7 +154,7 @@ module _ (s1 s2 s3 : Span) (c : Cell) where
       → within
       ≡ (between s1 (c .weight) (c .sum1)
       && (between s2 (c .weight) (c .sum2)
-      && (between s3 (c .weight) (c .sum3) && leb (c .squares) (195075 * c .weight))))
+      && (between s3 (c .weight) (c .sum3) && between (squares3 s1 s2 s3) (c .weight) (c .squares))))
   light-cell h =
       ap (λ (b : Bool). b && inBounds (λ d. choose d s1 s2 s3) (numberOf c)) (le-leb (c .weight) limit h)
       ∙ cell-bounds s1 s2 s3 c
@@ -133,7 +169,7 @@ bounds-same span f h e =
     λ i. (between (span 0) (e 0 (lit< tt) i) (e 1 (lit< tt) i)
     && (between (span 1) (e 0 (lit< tt) i) (e 2 (lit< tt) i)
     && (between (span 2) (e 0 (lit< tt) i) (e 3 (lit< tt) i) && true)))
-    && leb (e 4 (lit< tt) i) (195075 * e 0 (lit< tt) i)
+    && between (squaresSpan span) (e 0 (lit< tt) i) (e 4 (lit< tt) i)
 
 module _ (g : Grid) (v u : View) (e : Agree (binsOf g) v u) where
   pub total-same : total g v ≡ total g u
@@ -182,10 +218,6 @@ module _ {most : ℕ} {g : Grid} {v : View} (s : Sound most g v) where
   total-high =
       leb-true (total g v) most (and-right (allFrom 0 (binsOf g) (binSound g v)) (leb (total g v) most) (s .holds))
 
-  -- "the squares are at most 195,075·n"
-  pub squares-high : (p : ℕ) → p < binsOf g → v p 4 ≤ 195075 * v p 0
-  squares-high p h = sound-keeps p h .squares
-
 -- a table that is sound for a limit is sound for a larger one
 pub sound-wider : {few most : ℕ} {g : Grid} {v : View} → few ≤ most → Sound few g v → Sound most g v
 sound-wider {few} {most} {g} {v} l s =
@@ -216,12 +248,21 @@ module _ {most : ℕ} {g : Grid} {v : View} (a : Accepted g) (s : Sound most g v
   sums-high d l =
       omega (arith, sound-keeps s p h .high d l, mul-le-mul-left (v p 0) (span-at-byte a p d h), mul-comm (v p 0) 255)
 
+  -- no sum of three squares of bytes is above 195,075
+  pub squares-high : v p 4 ≤ 195075 * v p 0
+  unfolding squaresSpan plusSpan squaredSpan
+  squares-high =
+      let byte : (d : ℕ) → spanAt g p d .high * spanAt g p d .high ≤ 65025 =
+      λ d. mul-le-mul {n₂ = 255} {m₂ = 255} (span-at-byte a p d h) (span-at-byte a p d h) in
+      let all : squaresSpan (spanAt g p) .high ≤ 195075 = omega (arith, byte 0, byte 1, byte 2) in
+      omega (arith, sound-keeps s p h .squares-high, mul-le-mul-left (v p 0) all, mul-comm (v p 0) 195075)
+
   pub number-high : (j : ℕ) → j < 5 → v p j ≤ 195075 * v p 0
   number-high zero l = omega arith
   number-high (suc zero) l = omega (arith, sums-high 0 (omega arith))
   number-high (suc (suc zero)) l = omega (arith, sums-high 1 (omega arith))
   number-high (suc (suc (suc zero))) l = omega (arith, sums-high 2 (omega arith))
-  number-high (suc (suc (suc (suc zero)))) l = squares-high s p h
+  number-high (suc (suc (suc (suc zero)))) l = squares-high
   number-high (suc (suc (suc (suc (suc j))))) l = absurd (omega arith)
 
   -- "every total stays below 195,075 · 2^32 < 2^50"

@@ -17,15 +17,28 @@ use Rattle.table.specs.Cell.{View}
 abbrev pub limit : ℕ
 limit = 4294967295
 
--- the sum of n components of one bin "lies between n·low and n·high"
+-- the sum of n values of one bin "lies between n·low and n·high"
 unfoldable pub between : Span → ℕ → ℕ → Bool
 between s n sum = leb (n * s .low) sum && leb sum (n * s .high)
 
--- "A bin keeps its bounds if every component sum lies between n·low and n·high" by its spans, "and the squares are at
--- most 195,075·n"
+-- a low and a high, squared
+unfoldable pub squaredSpan : Span → Span
+squaredSpan s = record { low = s .low * s .low; high = s .high * s .high }
+
+-- two lows and two highs, added
+unfoldable pub plusSpan : Span → Span → Span
+plusSpan s t = record { low = s .low + t .low; high = s .high + t .high }
+
+-- "the sum of the three squared lows" and "the sum of the three squared highs"
+unfoldable pub squaresSpan : (ℕ → Span) → Span
+squaresSpan span = plusSpan (plusSpan (squaredSpan (span 0)) (squaredSpan (span 1))) (squaredSpan (span 2))
+
+-- "A bin keeps its bounds if every component sum lies between n·low and n·high" by its spans, "and the squares lie
+-- between n times the sum of the three squared lows and n times the sum of the three squared highs"
 unfoldable pub inBounds : (ℕ → Span) → (ℕ → ℕ) → Bool
 inBounds span numbers =
-    allFrom 0 3 (λ d. between (span d) (numbers 0) (numbers (d + 1))) && leb (numbers 4) (195075 * numbers 0)
+    allFrom 0 3 (λ d. between (span d) (numbers 0) (numbers (d + 1)))
+    && between (squaresSpan span) (numbers 0) (numbers 4)
 
 -- the span of the bin at a place, in dimension d
 unfoldable pub spanAt : Grid → ℕ → ℕ → Span

@@ -5,6 +5,7 @@ use grid::dimension::Span;
 use grid::dimension::span_of;
 use grid::place::Grid;
 use grid::place::place;
+use std::num::wrapping_sub_u64;
 ghost use mathlib.Core.Path.{_≡_};
 ghost use mathlib.Core.Bool.{_&&_};
 ghost use Prim.Native.Nat.{_*_, _≤_};
@@ -13,8 +14,8 @@ ghost use Rattle.basics.specs.Dimension.{choose};
 ghost use Rattle.grid.specs.Grid.{placeOf};
 ghost use Rattle.table.specs.Cell.{numberOf};
 ghost use Rattle.table.specs.Table.{viewOf, TableOf};
-ghost use Rattle.table.specs.Sound.{limit, between, inBounds, soundTotal};
-ghost use Rattle.table.specs.Inner.{scanned, Row, ByteSpan};
+ghost use Rattle.table.specs.Sound.{limit, between, squaredSpan, plusSpan, inBounds, soundTotal};
+ghost use Rattle.table.specs.Inner.{scanned, Row, SpanBelow, RowSpans};
 
 // The largest total of a table.
 pub const LIMIT: u64 = 4294967295;
@@ -25,15 +26,38 @@ pub enum SoundTotal {
     Unsound,
 }
 
-// Whether the sum of n components of one bin lies in its bounds.
+// Whether the sum of n values lies in its bounds. A sum below n·low wraps to more than any difference of the bounds, so
+// that one comparison does for both.
 fn lies_between(s: Span, n: u64, sum: u64) -> bool
-    requires { ⌜ ByteSpan s × (n ≤ limit) ⌝ }
+    requires { ⌜ SpanBelow 195075 s × (n ≤ limit) ⌝ }
     ensures { λ r. ⌜ r ≡ between s n sum ⌝ }
 {
-    if sum < n * s.low {
-        return false;
+    wrapping_sub_u64(sum, n * s.low) <= n * (s.high - s.low)
+}
+
+// The squares of the first two spans, which a row has in common.
+fn row_squares(s1: Span, s2: Span) -> Span
+    requires { ⌜ SpanBelow 255 s1 × SpanBelow 255 s2 ⌝ }
+    ensures { λ r. ⌜ r ≡ plusSpan (squaredSpan s1) (squaredSpan s2) ⌝ }
+{
+    Span {
+        low: s1.low * s1.low + s2.low * s2.low,
+        high: s1.high * s1.high + s2.high * s2.high,
     }
-    sum <= n * s.high
+}
+
+// And those of the third added. The high end is told by what it has more than the low one, which grows by the same from
+// bin to bin, so that the compiler needs no multiplication for it.
+fn with_squares(row: Span, s3: Span) -> Span
+    requires { ⌜ SpanBelow 130050 row × SpanBelow 255 s3 ⌝ }
+    ensures { λ r. ⌜ r ≡ plusSpan row (squaredSpan s3) ⌝ }
+{
+    let low = row.low + s3.low * s3.low;
+    let more = (s3.high - s3.low) * (s3.high + s3.low);
+    Span {
+        low,
+        high: low + ((row.high - row.low) + more),
+    }
 }
 
 // Whether all but the weight are zeros.
@@ -52,9 +76,10 @@ fn is_bare(c: Cell) -> bool
     c.squares <= 0
 }
 
-// Whether a bin keeps its own bounds, with a weight that is not past the limit by itself.
-fn keeps_bounds(s1: Span, s2: Span, s3: Span, c: Cell) -> bool
-    requires { ⌜ ByteSpan s1 × ByteSpan s2 × ByteSpan s3 ⌝ }
+// Whether a bin keeps its own bounds, with a weight that is not past the limit by itself. The squares of the first two
+// spans are those of its row.
+fn keeps_bounds(s1: Span, s2: Span, row: Span, s3: Span, c: Cell) -> bool
+    requires { ⌜ RowSpans s1 s2 row × SpanBelow 255 s3 ⌝ }
     ensures { λ r. ⌜ r ≡ (leb (c .weight) limit && inBounds (λ d. choose d s1 s2 s3) (numberOf c)) ⌝ }
 {
     let n = c.weight;
@@ -73,7 +98,7 @@ fn keeps_bounds(s1: Span, s2: Span, s3: Span, c: Cell) -> bool
     if !lies_between(s3, n, c.sum3) {
         return false;
     }
-    c.squares <= 195075 * n
+    lies_between(with_squares(row, s3), n, c.squares)
 }
 
 // The total with one row of bins.
@@ -83,12 +108,13 @@ fn row_total(table: &[u64], g: Grid, r: usize, gr: usize, had: u64) -> SoundTota
 {
     let s1 = span_of(g.shift1, r);
     let s2 = span_of(g.shift2, gr);
+    let row = row_squares(s1, s2);
     let start = place(g, r, gr, 0);
     let mut total = had;
     let mut b = 0;
     while b < g.size3 {
         let c = cell_at(table, start + b);
-        if !keeps_bounds(s1, s2, span_of(g.shift3, b), c) {
+        if !keeps_bounds(s1, s2, row, span_of(g.shift3, b), c) {
             return SoundTotal::Unsound;
         }
         total = total + c.weight;

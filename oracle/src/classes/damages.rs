@@ -78,14 +78,23 @@ fn change(case: &Case, first: bool, at: usize, r: &mut Random) -> i64 {
         let huge = r.one_of(&HUGE);
         return r.one_of(&[1, -1, 2, -2, 1 << 40, -1 - old, huge]);
     }
+    let bins = [bin / (b2 * b3), bin / b3 % b2, bin % b3];
+    let span = |d: usize| {
+        let values = (256 / case.grid[d]) as i64;
+        let low = bins[d] as i64 * values;
+        (low, low + values - 1)
+    };
     let new = match which {
         0 => r.one_of(&[0, 4_294_967_295, 4_294_967_296]),
-        4 => r.one_of(&[0, 195_075 * n, 195_075 * n + 1]),
+        4 => {
+            let squares =
+                |end: fn((i64, i64)) -> i64| (0..3).map(|d| end(span(d)).pow(2)).sum::<i64>();
+            let (low, high) = (n * squares(|s| s.0), n * squares(|s| s.1));
+            r.one_of(&[0, low - 1, low, high, high + 1])
+        }
         d => {
-            let values = 256 / case.grid[d - 1];
-            let low = [bin / (b2 * b3), bin / b3 % b2, bin % b3][d - 1] * values;
-            let (low, high) = (n * low as i64, n * (low + values - 1) as i64);
-            r.one_of(&[low - 1, low, high, high + 1])
+            let (low, high) = span(d - 1);
+            r.one_of(&[n * low - 1, n * low, n * high, n * high + 1])
         }
     };
     new - old

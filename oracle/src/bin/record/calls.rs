@@ -255,24 +255,56 @@ fn loads_lent(s: &mut Script) {
 }
 
 /// Bins at the bounds of soundness and one past each, loaded with an empty batch so that nothing else can be refused.
-/// Bin 5 has components from 128, 0 and 128 on, bin 2 from 0, 128 and 0.
+/// Bin 5 has components from 128, 0 and 128 on, bin 2 from 0, 128 and 0, bin 0 from 0 and bin 7 from 128.
 fn soundness(s: &mut Script) {
     let most = u64::MAX;
-    let bins: [(&str, Bin, u8); 17] = [
-        ("sums at their lowest", (5, [2, 256, 0, 256, 0]), 0),
-        ("sums at their highest", (5, [2, 510, 254, 510, 0]), 0),
-        ("6, sum 1 too low", (5, [2, 255, 0, 256, 0]), 6),
-        ("6, sum 1 too high", (5, [2, 511, 254, 510, 0]), 6),
-        ("6, sum 2 too low", (2, [2, 0, 255, 0, 0]), 6),
-        ("6, sum 2 too high", (5, [2, 510, 255, 510, 0]), 6),
-        ("6, sum 3 too low", (5, [2, 256, 0, 255, 0]), 6),
-        ("6, sum 3 too high", (5, [2, 510, 254, 511, 0]), 6),
+    let bins: [(&str, Bin, u8); 25] = [
+        ("sums at their lowest", (5, [2, 256, 0, 256, 65_536]), 0),
+        ("sums at their highest", (5, [2, 510, 254, 510, 65_536]), 0),
+        ("6, sum 1 too low", (5, [2, 255, 0, 256, 65_536]), 6),
+        ("6, sum 1 too high", (5, [2, 511, 254, 510, 65_536]), 6),
+        ("6, sum 2 too low", (2, [2, 0, 255, 0, 32_768]), 6),
+        ("6, sum 2 too high", (5, [2, 510, 255, 510, 65_536]), 6),
+        ("6, sum 3 too low", (5, [2, 256, 0, 255, 65_536]), 6),
+        ("6, sum 3 too high", (5, [2, 510, 254, 511, 65_536]), 6),
         (
             "squares at their highest",
-            (5, [2, 256, 0, 256, 390_150]),
+            (5, [2, 256, 0, 256, 292_358]),
             0,
         ),
-        ("6, squares too large", (5, [2, 256, 0, 256, 390_151]), 6),
+        ("6, squares too large", (5, [2, 256, 0, 256, 292_359]), 6),
+        ("6, squares too small", (5, [2, 256, 0, 256, 65_535]), 6),
+        ("6, squares 0 beside a weight", (5, [2, 256, 0, 256, 0]), 6),
+        (
+            "first bin, squares at their highest",
+            (0, [1, 0, 0, 0, 48_387]),
+            0,
+        ),
+        (
+            "6, first bin, squares too large",
+            (0, [1, 0, 0, 0, 48_388]),
+            6,
+        ),
+        (
+            "last bin, squares at their lowest",
+            (7, [1, 255, 255, 255, 49_152]),
+            0,
+        ),
+        (
+            "6, last bin, squares too small",
+            (7, [1, 255, 255, 255, 49_151]),
+            6,
+        ),
+        (
+            "last bin, squares at their highest",
+            (7, [1, 128, 128, 128, 195_075]),
+            0,
+        ),
+        (
+            "6, last bin, squares too large",
+            (7, [1, 128, 128, 128, 195_076]),
+            6,
+        ),
         ("6, weight 0 with sum 1", (0, [0, 1, 0, 0, 0]), 6),
         ("6, weight 0 with sum 2", (0, [0, 0, 1, 0, 0]), 6),
         ("6, weight 0 with sum 3", (0, [0, 0, 0, 1, 0]), 6),
@@ -344,9 +376,10 @@ fn merges(s: &mut Script) {
     let full = one(0, black(4_294_967_295));
     both_orders(s, "7, twice the limit", &full, &full, 7);
     let unsound = [
-        ("a sum too low", one(5, [2, 255, 0, 256, 0])),
-        ("a sum too high", one(5, [2, 510, 255, 510, 0])),
-        ("squares too large", one(5, [2, 256, 0, 256, 390_151])),
+        ("a sum too low", one(5, [2, 255, 0, 256, 65_536])),
+        ("a sum too high", one(5, [2, 510, 255, 510, 65_536])),
+        ("squares too small", one(5, [2, 256, 0, 256, 65_535])),
+        ("squares too large", one(5, [2, 256, 0, 256, 292_359])),
         ("weight past the limit", one(0, black(4_294_967_296))),
         ("weight 0 with sum 3", one(0, [0, 0, 0, 1, 0])),
     ];

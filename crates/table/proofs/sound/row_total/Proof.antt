@@ -26,14 +26,14 @@ use Rattle.table.proofs.sound.row_total.Statement.{statement}
 use Rattle.table.proofs.sound.row_total.Tie as tie
 
 abbrev Inv-loop : tie.InvT-loop
-Inv-loop table g r gr had s1 s2 start total₀ b₀ total b =
+Inv-loop table g r gr had s1 s2 row start total₀ b₀ total b =
     (b ≤ g .size3)
     × (total ≡ had + sumFrom start b (λ q. viewOf table q 0))
     × (allFrom start b (binSound g (viewOf table)) ≡ true)
     × (total ≤ limit + b * limit)
 
 abbrev μ-loop : tie.MeasureT-loop
-μ-loop table g r gr had s1 s2 start total₀ b₀ total b = g .size3 - b
+μ-loop table g r gr had s1 s2 row start total₀ b₀ total b = g .size3 - b
 
 span-of-requires : tie.Need-span-of-requires Inv-loop μ-loop
 span-of-requires c κs = row-one (c .before .pre)
@@ -41,16 +41,23 @@ span-of-requires c κs = row-one (c .before .pre)
 span-of-requires-2 : tie.Need-span-of-requires-2 Inv-loop μ-loop
 span-of-requires-2 c κs = row-two (c .before .before .pre)
 
+row-squares-requires : tie.Need-row-squares-requires Inv-loop μ-loop
+row-squares-requires c κs =
+    let s = c .before .before .before in (
+      byte-span (row-one (s .pre)) (c .before .span-of .ensures),
+      byte-span (row-two (s .pre)) (c .span-of2 .ensures),
+    )
+
 place-requires : tie.Need-place-requires Inv-loop μ-loop
-place-requires c κs = c .before .before .before .pre .inside
+place-requires c κs = c .before .before .before .before .pre .inside
 
 loop-holds : tie.Need-loop-holds Inv-loop μ-loop
 unfolding sumFrom allFrom
-loop-holds c = (omega arith, sym (add-zero _), refl, c .before .before .before .before .pre .under)
+loop-holds c = (omega arith, sym (add-zero _), refl, c .before .before .before .before .before .pre .under)
 
 add-cell-at : tie.Need-add-cell-at Inv-loop μ-loop
 add-cell-at c =
-    let s = c .before .before .before .before .before .before .before in
+    let s = c .before .before .before .before .before .before .before .before in
     omega (
       arith,
       row-place (s .pre) (c .before .before .loop .b) (c .if1 .taken)
@@ -60,27 +67,30 @@ add-cell-at c =
 
 cell-at-requires : tie.Need-cell-at-requires Inv-loop μ-loop
 cell-at-requires c κs =
-    row-cell (c .before .before .before .before .before .before .before .pre) (c .before .before .loop .b)
+    row-cell (c .before .before .before .before .before .before .before .before .pre) (c .before .before .loop .b)
     (c .if1 .taken) (c .before .before .before .place .ensures)
 
 span-of-requires-3 : tie.Need-span-of-requires-3 Inv-loop μ-loop
 span-of-requires-3 c κs =
-    row-three (c .before .before .before .before .before .before .before .before .pre)
+    row-three (c .before .before .before .before .before .before .before .before .before .pre)
     (c .before .before .before .loop .b) (c .before .if1 .taken)
 
 keeps-bounds-requires : tie.Need-keeps-bounds-requires Inv-loop μ-loop
 keeps-bounds-requires c κs =
-    let s = c .before .before .before .before .before .before .before .before .before in
+    let f = c .before .before .before .before .before .before in
+    let s = f .before .before .before .before in
     let l = c .before .before .before .before .loop in (
-      rw (c .before .before .before .before .before .before .before .span-of .ensures)
-          (byte-span _ _ (row-one (s .pre))),
-      rw (c .before .before .before .before .before .before .span-of2 .ensures) (byte-span _ _ (row-two (s .pre))),
-      rw (c .span-of3 .ensures) (byte-span _ _ (row-three (s .pre) (l .b) (c .before .before .if1 .taken))),
+      record {
+        one = byte-span (row-one (s .pre)) (f .before .before .span-of .ensures);
+        two = byte-span (row-two (s .pre)) (f .before .span-of2 .ensures);
+        squares = f .row-squares .ensures;
+      },
+      byte-span (row-three (s .pre) (l .b) (c .before .before .if1 .taken)) (c .span-of3 .ensures),
     )
 
 -- on entry
 abbrev entry : tie.After-keeps-bounds Inv-loop μ-loop → tie.Start Inv-loop μ-loop
-entry k = k .before .before .before .before .before .before .before .before .before .before
+entry k = k .before .before .before .before .before .before .before .before .before .before .before
 
 -- the bin at hand
 abbrev grid : tie.After-keeps-bounds Inv-loop μ-loop → Grid
@@ -99,8 +109,8 @@ tested : (k : tie.After-keeps-bounds Inv-loop μ-loop)
 tested k =
     row-bin (entry k .pre) (view k) (k .before .before .before .before .before .loop .b)
     (k .before .before .before .if1 .taken) (k .before .before .before .before .before .before .place .ensures)
-    (k .before .before .before .before .before .before .before .before .span-of .ensures)
-    (k .before .before .before .before .before .before .before .span-of2 .ensures) (k .before .span-of3 .ensures)
+    (k .before .before .before .before .before .before .before .before .before .span-of .ensures)
+    (k .before .before .before .before .before .before .before .before .span-of2 .ensures) (k .before .span-of3 .ensures)
     (k .before .before .cell-at .ensures) (k .keeps-bounds .ensures)
 
 weighs : (k : tie.After-keeps-bounds Inv-loop μ-loop) → k .before .before .cell-at .result .weight ≡ view k (here k) 0
@@ -160,7 +170,7 @@ loop-again c =
 
 returns-2 : tie.Need-returns-2 Inv-loop μ-loop
 returns-2 c =
-    let s = c .before .before .before .before .before .before .before .before in
+    let s = c .before .before .before .before .before .before .before .before .before in
     let l = c .before .before .before .loop in
     let v = viewOf (now (s .args .table)) in
     let from = c .before .before .before .before .place .result in
@@ -171,7 +181,7 @@ returns-2 c =
 
 returns-3 : tie.Need-returns-3 Inv-loop μ-loop
 returns-3 c =
-    let s = c .before .before .before .before .before .before .before .before in
+    let s = c .before .before .before .before .before .before .before .before .before in
     let l = c .before .before .before .loop in
     let v = viewOf (now (s .args .table)) in
     let from = c .before .before .before .before .place .result in
@@ -189,6 +199,7 @@ row-total-spec =
     μ-loop
     span-of-requires
     span-of-requires-2
+    row-squares-requires
     place-requires
     loop-holds
     add-cell-at
