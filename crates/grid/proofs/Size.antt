@@ -3,9 +3,10 @@
 use mathlib.Core.Path.{_≡_, refl, sym, ap, _∙_}
 use mathlib.Core.Bool.{Bool, true, false, cond, _&&_}
 use mathlib.Core.List.{List, [], _∷_}
-use Prim.Native.Nat.{ℕ, suc, _+_, _-_, _*_, _%_, _^_, _≤_, _<_}
+use Prim.Native.Nat.{ℕ, suc, _+_, _-_, _*_, _/_, _%_, _^_, _≤_, _<_}
 use native.Mathlib.Nat.{mul-le-mul-left, mul-le-mul-right, div-lt-iff-lt-mul, div-mul-le-self, lt-div-mul-add}
 use native.Mathlib.Nat.{div-eq-of-lt-le, suc-mul, add-mul, one-mul, mod-eq-of-lt, lt-of-mul-lt-mul-right}
+use native.Mathlib.Nat.{mul-div-cancel}
 use native.Mathlib.Omega.{arith}
 use borrow.Author.Tests.{eqb-true, leb-true}
 use lib.Dec.{eqb, leb}
@@ -57,12 +58,27 @@ pub sized : (size shift : ℕ) → shiftOf size ≡ By shift → Sized size shif
 unfolding shiftOf choices right fair
 sized size shift e = sized-in choices refl size shift e
 
+eight : (s : ℕ) → s < 8 → (8 - s) + s ≡ 8
+eight s l = omega arith
+
 module _ {size shift : ℕ} (s : Sized size shift) where
   pub width-low : 2 ≤ 2 ^ shift
   width-low = pow-mono {i = 1} {j = shift} (s .some)
 
   pub width-high : 2 ^ shift ≤ 128
   width-high = pow-mono {i = shift} {j = 7} (s .few)
+
+  -- so a number times the size is the number shifted left by what the shift lacks to 8
+  pub size-power : size ≡ 2 ^ (8 - shift)
+  size-power =
+      let split : 2 ^ (8 - shift) * 2 ^ shift ≡ 256 =
+      sym (pow-add 2 (8 - shift) shift) ∙ ap (λ (k : ℕ). 2 ^ k) (eight shift (omega (arith, s .few))) in
+      sym (mul-div-cancel size (pow-pos shift))
+      ∙ ap (λ (k : ℕ). k / 2 ^ shift) (s .whole ∙ sym split)
+      ∙ mul-div-cancel (2 ^ (8 - shift)) (pow-pos shift)
+
+  pub shifted-left : (n : ℕ) → n * size < 2 ^ 64 → n * 2 ^ (8 - shift) % 2 ^ 64 ≡ n * size
+  shifted-left n h = rw (← size-power) (mod-eq-of-lt h)
 
   pub size-low : 2 ≤ size
   size-low = low size (omega (arith, mul-le-mul-left size width-high, s .whole))
@@ -106,9 +122,6 @@ span-byte shift bin h =
       suc-mul bin (2 ^ shift),
       pow-pos shift,
     )
-  where
-    eight : (s : ℕ) → s < 8 → (8 - s) + s ≡ 8
-    eight s l = omega arith
 
 -- a component lies in the span of its bin
 pub span-low : (shift c : ℕ) → spanOf shift (binOf shift c) .low ≤ c

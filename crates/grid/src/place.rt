@@ -72,5 +72,6 @@ pub fn place(g: Grid, r: usize, gr: usize, b: usize) -> usize
     requires { ⌜ Inside g r gr b ⌝ }
     ensures { λ p. ⌜ p ≡ placeOf g r gr b ⌝ }
 {
-    (r * g.size2 + gr) * g.size3 + b
+    let row = (r << (8 - g.shift2)) + gr;
+    (row << (8 - g.shift3)) + b
 }
