@@ -103,7 +103,7 @@ impl Cutting<'_> {
         }];
         while heap.len() < k {
             let top = take_out(&mut heap);
-            if top.spread.is_nan() || top.spread <= 0.0 {
+            if top.spread <= 0.0 {
                 put_in(&mut heap, top);
                 break;
             }

@@ -12,3 +12,4 @@ pub mod Criterion
 pub mod Sign
 pub mod Listing
 pub mod Determined
+pub mod Finite

@@ -38,7 +38,7 @@ use Rattle.spread.specs.Cut.{positionOf, positionAt, laterWins, better, bestRun
 use Rattle.heap.specs.Heap.{climb, putIn, sink, enter, takeOut}
 use Rattle.rounds.specs.declared.gather.BoxSpread.{BoxSpread}
 use Rattle.rounds.specs.declared.gather.Boxes.{Boxes}
-use Rattle.rounds.specs.Loop.{withSpread, startRoom, start, roomAfter, boxesAfter, aboveZero, roundRoom, roundBoxes}
+use Rattle.rounds.specs.Loop.{withSpread, startRoom, start, roomAfter, boxesAfter, roundRoom, roundBoxes}
 use Rattle.rounds.specs.Loop.{round}
 use Rattle.rounds.specs.Loop.{rounds, heapOf, placesOf, boxesOf}
 use Rattle.boxes.specs.Box.{wholeOf}
@@ -208,7 +208,7 @@ unfolding number view
     minAt maxAt sum3 binSum boxSum statsOf lowSide highSide
     quotientOf oneBin spreadOf scoreOf positionOf positionAt laterWins better bestRun bestIn bestCut
     climb putIn sink enter takeOut
-    withSpread wholeOf startRoom start roomAfter boxesAfter aboveZero roundRoom roundBoxes round rounds heapOf placesOf
+    withSpread wholeOf startRoom start roomAfter boxesAfter roundRoom roundBoxes round rounds heapOf placesOf
     boxesOf
     lib.Ieee.ofInt lib.Ieee.mul lib.Ieee.add lib.Ieee.sub lib.Ieee.div lib.Ieee.neg lib.Ieee.lt lib.Ieee.le
     lib.Ieee.round lib.Ieee.size lib.Ieee.span lib.Ieee.climb lib.Ieee.units lib.Ieee.odd lib.Ieee.sum lib.Ieee.eq

@@ -22,7 +22,7 @@ use Rattle.spread.specs.Spread.{quotientOf, spreadOf, scoreOf}
 use Rattle.boxes.specs.Box.{oneBin}
 use Rattle.spread.specs.Cut.{positionAnswer, positionOf, positionAt, laterWins, better, bestRun, bestIn, bestCut}
 use Rattle.heap.specs.Heap.{climb, putIn, sink, enter, takeOut}
-use Rattle.rounds.specs.Loop.{withSpread, startRoom, start, roomAfter, boxesAfter, aboveZero, roundRoom, roundBoxes}
+use Rattle.rounds.specs.Loop.{withSpread, startRoom, start, roomAfter, boxesAfter, roundRoom, roundBoxes}
 use Rattle.rounds.specs.Loop.{round}
 use Rattle.rounds.specs.Loop.{rounds, heapOf, placesOf, boxesOf}
 use Rattle.boxes.specs.Box.{wholeOf}
@@ -50,7 +50,7 @@ unfolding loadsOf tableAfter positionIn lentTo outcome times empties plain weigh
     minAt maxAt sum3 binSum boxSum statsOf lowSide highSide belowSum momentsOf
     quotientOf oneBin spreadOf scoreOf positionAnswer positionOf positionAt laterWins better bestRun bestIn bestCut
     climb putIn sink enter takeOut
-    withSpread wholeOf startRoom start roomAfter boxesAfter aboveZero roundRoom roundBoxes round rounds heapOf placesOf
+    withSpread wholeOf startRoom start roomAfter boxesAfter roundRoom roundBoxes round rounds heapOf placesOf
     boxesOf
     meanOf colourOf countOf bytesOf itsColour itsCount joinAll filled paletteLater countsLater lies holdsAt holds
     indexFrom

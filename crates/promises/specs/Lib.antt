@@ -8,3 +8,4 @@ pub mod Order
 pub mod Mapping
 pub mod Criterion
 pub mod Listing
+pub mod Finite

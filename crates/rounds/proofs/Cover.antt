@@ -2,13 +2,10 @@
 -- and each bin lies in exactly one of them.
 -- Assumes nothing.
 use mathlib.Core.Path.{_≡_, refl, ap, subst, _∙_}
-use mathlib.Core.Bool.{Bool, true, false, cond}
 use mathlib.Core.List.{List}
-use Prim.Native.Nat.{ℕ, zero, suc, _+_, _-_, _*_, _≤_, _<_}
+use Prim.Native.Nat.{ℕ, suc, _+_, _-_, _*_, _≤_, _<_}
 use native.Mathlib.Nat.{add-zero, le-of-lt}
 use native.Mathlib.Omega.{arith}
-use borrow.Author.Tests.{ltb-true}
-use lib.Dec.{ltb}
 use lib.ListN.{length, take}
 use Rattle.grid.specs.declared.place.Grid.{Grid}
 use Rattle.table.specs.Cell.{View}
@@ -18,10 +15,10 @@ use Rattle.spread.proofs.Best.{answered}
 use Rattle.heap.specs.Heap.{item, putIn, takeOut, sumItems}
 use Rattle.heap.proofs.Keeps.{put-in-long, put-in-sum, take-out-sum}
 use Rattle.rounds.specs.declared.gather.BoxSpread.{BoxSpread}
-use Rattle.rounds.specs.Loop.{bySpread, Heap, noItem, withSpread, withZero, startRoom, start, aboveZero}
-use Rattle.rounds.specs.Loop.{roundRoom, roundBoxes, round, rounds, heapOf}
+use Rattle.rounds.specs.Loop.{bySpread, noItem, withSpread, withZero, startRoom, start, roundRoom, roundBoxes}
+use Rattle.rounds.specs.Loop.{round, heapOf}
 use Rattle.boxes.specs.Box.{wholeOf}
-use Rattle.rounds.proofs.OneRound.{round-cases}
+use Rattle.rounds.proofs.OneRound.{round-cases, rounds-keep}
 use Rattle.rounds.proofs.Filled.{InUse, left-long, put-back, two-more, in-use-round, start-in-use}
 
 -- a number of a box that adds up over the two sides of every cut
@@ -84,30 +81,11 @@ module _ {f : Bounds → ℕ} (a : Additive f) (g : Grid) (v : View) where
       cut : (x y : ℕ) {z : ℕ} → z ≡ x + over f rest (n - 1) → f (top .bounds) ≡ x + y → y + z ≡ over f h n
       cut x y p q = omega (arith, before)
 
-  pub over-rounds : (k : ℕ) → k ≤ 256 → (n : ℕ) (h : Heap) → InUse (h .room) (h .boxes)
-      → over f (rounds n g v k h .room) (rounds n g v k h .boxes) ≡ over f (h .room) (h .boxes)
-  unfolding rounds round
-  over-rounds k most zero h u = refl
-  over-rounds k most (suc n) h u =
-      go (ltb (h .boxes) k) refl (aboveZero (item noItem (h .room) 0 .spread))
-      (λ l. over-rounds k most n (round g v h) (in-use-round g v u (omega arith)) ∙ next l)
-    where
-      next : h .boxes < k
-          → over f (roundRoom g v (h .room) (h .boxes)) (roundBoxes g v (h .room) (h .boxes))
-          ≡ over f (h .room) (h .boxes)
-      next l = over-round u (omega arith)
-
-      go : (b : Bool) → ltb (h .boxes) k ≡ b → (c : Bool)
-          → (h .boxes < k
-          → over f (rounds n g v k (round g v h) .room) (rounds n g v k (round g v h) .boxes)
-          ≡ over f (h .room) (h .boxes))
-          → over f (cond b (cond c (rounds n g v k (round g v h)) (round g v h)) h .room)
-          (cond b (cond c (rounds n g v k (round g v h)) (round g v h)) h .boxes) ≡ over f (h .room) (h .boxes)
-      go false q c after = refl
-      go true q false after = next (ltb-true (h .boxes) k q)
-      go true q true after = after (ltb-true (h .boxes) k q)
-
   -- the boxes of a loop make the whole grid
   pub over-heap : (k : ℕ) → k ≤ 256 → over f (heapOf g v k .room) (heapOf g v k .boxes) ≡ f (wholeOf g)
-  unfolding heapOf start startRoom over sumItems
-  over-heap k most = over-rounds k most (2 * k) (start g) (start-in-use g) ∙ add-zero (f (wholeOf g))
+  unfolding heapOf start startRoom round over sumItems
+  over-heap k most =
+      rounds-keep g v k (λ h. InUse (h .room) (h .boxes) × (over f (h .room) (h .boxes) ≡ over f (startRoom g) 1))
+      (λ h l e. (in-use-round g v (e .0) (omega arith), over-round (e .0) (omega arith) ∙ e .1))
+      (2 * k) (start g) (start-in-use g, refl) .1
+      ∙ add-zero (f (wholeOf g))

@@ -1,17 +1,16 @@
 -- How the loop ends: with k boxes, or with none that is to be cut. Until then the heap is in order, and no spread is a
 -- NaN.
 -- Assumes nothing.
-use mathlib.Core.Path.{_≡_, refl, sym, ap, subst, _∙_}
+use mathlib.Core.Path.{_≡_, refl, ap, subst}
 use mathlib.Core.Logic.{_≢_}
-use mathlib.Core.Bool.{Bool, true, false, cond, true≢false}
+use mathlib.Core.Bool.{Bool, true, false, true≢false}
 use mathlib.Core.List.{List}
 use Prim.Native.Nat.{ℕ, zero, suc, _+_, _-_, _*_, _≤_, _<_}
 use native.Mathlib.Nat.{lt-of-not-le}
 use native.Mathlib.Decide.{decLe}
 use native.Mathlib.Omega.{arith}
-use borrow.Author.Tests.{eq-eqb}
 use lib.ListN.{length}
-use lib.Ieee.{Float, nan, inf, fin, up, down, lt, eq}
+use lib.Ieee.{Float, nan, inf, fin, lt}
 use Rattle.grid.specs.declared.place.Grid.{Grid}
 use Rattle.grid.specs.Grid.{Accepted}
 use Rattle.table.specs.Cell.{View}
@@ -26,8 +25,8 @@ use Rattle.heap.specs.Heap.{item, putIn, takeOut, InOrder, NoNaN}
 use Rattle.basics.proofs.Compare.{not-less-trans, finite-number}
 use Rattle.heap.proofs.Order.{put-in-order, take-out-order, top-greatest}
 use Rattle.rounds.specs.declared.gather.BoxSpread.{BoxSpread}
-use Rattle.rounds.specs.Loop.{bySpread, Heap, noItem, withSpread, withZero, startRoom, start, aboveZero}
-use Rattle.rounds.specs.Loop.{roundRoom, roundBoxes, round, rounds, heapOf}
+use Rattle.rounds.specs.Loop.{bySpread, Heap, noItem, withSpread, withZero, startRoom, start, roundRoom}
+use Rattle.rounds.specs.Loop.{roundBoxes, round, rounds, heapOf}
 use Rattle.rounds.proofs.OneRound.{room-stops, boxes-stops, round-cases}
 use Rattle.rounds.proofs.Filled.{InUse, Each, Kept, Fit, fit-kept, left-long, put-back, two-more, each-put}
 use Rattle.rounds.proofs.Filled.{others, atStart, start-each, start-fit}
@@ -54,27 +53,6 @@ module _ {g : Grid} {v : View} (s : Sound limit g v) where
               record { fit = both .1; number = spread-number (both .1 .within) (both .1 .some) },
             );
       }
-
--- ---- a spread that goes on is one above 0, where it is not NaN
-cold-of : (s : Float) → lt zeroOf s ≡ false → aboveZero s ≡ false
-unfolding aboveZero
-cold-of s e = rw e refl
-
-itself-equal : (s : Float) → s ≢ nan → eq s s ≡ true
-unfolding eq
-itself-equal nan n = absurd (n refl)
-itself-equal (inf true) n = refl
-itself-equal (inf false) n = refl
-itself-equal (fin true m e) n = rw (eq-eqb (m * up e * down e) (m * up e * down e) refl) refl
-itself-equal (fin false m e) n = rw (eq-eqb (m * up e * down e) (m * up e * down e) refl) refl
-
-pub of-cold : (s : Float) → s ≢ nan → aboveZero s ≡ false → lt zeroOf s ≡ false
-unfolding aboveZero
-of-cold s n e = go (lt zeroOf s) e
-  where
-    go : (b : Bool) → cond b (eq s s) false ≡ false → b ≡ false
-    go true e = sym (itself-equal s n) ∙ e
-    go false e = refl
 
 -- ---- a heap in order, whose boxes are sane
 pub record Ordered (g : Grid) (v : View) (h : List BoxSpread) (n : ℕ) : Type 0 where
@@ -138,17 +116,15 @@ module _ {g : Grid} {v : View} (s : Sound limit g v) where
 
 -- ---- boxes that are not to be cut
 abbrev pub Cold : BoxSpread → Type 0
-Cold x = aboveZero (x .spread) ≡ false
+Cold x = lt zeroOf (x .spread) ≡ false
 
 -- where the top is not, none is
 all-cold : {g : Grid} {v : View} {h : List BoxSpread} {n : ℕ} → Ordered g v h n → Cold (item noItem h 0) → (p : ℕ)
     → p < n → Cold (item noItem h p)
 all-cold {g} {v} {h} {n} o cold p l =
-    cold-of (item noItem h p .spread)
-    (not-less-trans zeroOf (item noItem h 0 .spread) (item noItem h p .spread)
-    (o .sane .each 0 (o .sane .in-use .some) .number)
-    (of-cold (item noItem h 0 .spread) (o .sane .each 0 (o .sane .in-use .some) .number) cold)
-    (top-greatest bySpread noItem h n (o .order) (numbers (o .sane .each)) p l))
+    not-less-trans zeroOf (item noItem h 0 .spread) (item noItem h p .spread)
+    (o .sane .each 0 (o .sane .in-use .some) .number) cold
+    (top-greatest bySpread noItem h n (o .order) (numbers (o .sane .each)) p l)
 
 -- ---- the end
 -- a heap with k boxes, or with none that is to be cut
@@ -173,12 +149,12 @@ module _ {g : Grid} {v : View} (s : Sound limit g v) (k : ℕ) (most : k ≤ 256
   unfolding round
   rounds-end zero h o p = let l = need-none k (h .room) (h .boxes) p in rw (rounds-full g v k h zero l) (full l)
   rounds-end (suc f) h o p =
-      go (decLe k (h .boxes)) (aboveZero (item noItem (h .room) 0 .spread)) refl
+      go (decLe k (h .boxes)) (lt zeroOf (item noItem (h .room) 0 .spread)) refl
       (λ l on. rounds-end f (round g v h) (ordered-round s o (omega arith))
       (omega (arith, need-less g v k most (h .room) (h .boxes) (o .sane .in-use) l on)))
     where
-      go : Dec (k ≤ h .boxes) → (b : Bool) → aboveZero (item noItem (h .room) 0 .spread) ≡ b
-          → (h .boxes < k → aboveZero (item noItem (h .room) 0 .spread) ≡ true
+      go : Dec (k ≤ h .boxes) → (b : Bool) → lt zeroOf (item noItem (h .room) 0 .spread) ≡ b
+          → (h .boxes < k → lt zeroOf (item noItem (h .room) 0 .spread) ≡ true
           → Ended k (rounds f g v k (round g v h) .room) (rounds f g v k (round g v h) .boxes))
           → Ended k (rounds (suc f) g v k h .room) (rounds (suc f) g v k h .boxes)
       go (yes l) b t after = rw (rounds-full g v k h (suc f) l) (full l)

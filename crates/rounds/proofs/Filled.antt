@@ -1,14 +1,12 @@
 -- Every box in use is a box of the grid that has some weight, from the start to the end of the loop.
 -- Assumes nothing.
-use mathlib.Core.Path.{_≡_, refl, subst, _∙_}
-use mathlib.Core.Bool.{Bool, true, false, cond}
+use mathlib.Core.Path.{_≡_, subst, _∙_}
+use mathlib.Core.Bool.{false}
 use mathlib.Core.List.{List}
-use Prim.Native.Nat.{ℕ, zero, suc, _+_, _-_, _*_, _≤_, _<_}
+use Prim.Native.Nat.{ℕ, _+_, _-_, _*_, _≤_, _<_}
 use native.Mathlib.Omega.{arith}
-use lib.Dec.{ltb}
 use lib.ListN.{length, replicate, length-set, length-replicate}
 use lib.Ieee.{Float, inf}
-use borrow.Author.Tests.{ltb-true}
 use Rattle.grid.specs.declared.place.Grid.{Grid}
 use Rattle.grid.specs.Grid.{Accepted}
 use Rattle.table.specs.Cell.{View}
@@ -22,12 +20,12 @@ use Rattle.spread.proofs.Best.{answered}
 use Rattle.heap.specs.Heap.{item, putIn, takeOut}
 use Rattle.heap.proofs.Keeps.{put-in-long, put-in-all, take-out-long, take-out-all}
 use Rattle.rounds.specs.declared.gather.BoxSpread.{BoxSpread}
-use Rattle.rounds.specs.Loop.{bySpread, Heap, noItem, withSpread, withZero, startRoom, aboveZero, roundRoom}
+use Rattle.rounds.specs.Loop.{bySpread, Heap, noItem, withSpread, withZero, startRoom, roundRoom}
 use Rattle.rounds.specs.Loop.{roundBoxes, round, rounds, start, heapOf}
 use Rattle.boxes.specs.Box.{noBox, wholeOf}
 use Rattle.boxes.proofs.Whole.{whole-within}
 use Rattle.rounds.proofs.Grids.{whole-sum}
-use Rattle.rounds.proofs.OneRound.{low-box, high-box, round-cases}
+use Rattle.rounds.proofs.OneRound.{low-box, high-box, round-cases, rounds-keep}
 
 -- a room with n places in use
 pub record InUse (h : List BoxSpread) (n : ℕ) : Type 0 where
@@ -104,23 +102,9 @@ in-use-round g v {h} {n} u l =
 -- all rounds
 pub each-rounds : {g : Grid} {v : View} {P : BoxSpread → Type 0} → Kept g v P → (k f : ℕ) → k ≤ 256 → (h : Heap)
     → Each P (h .room) (h .boxes) → Each P (rounds f g v k h .room) (rounds f g v k h .boxes)
-unfolding rounds round
-each-rounds kept k zero most h e = e
-each-rounds {g} {v} {P} kept k (suc f) most h e =
-    go (ltb (h .boxes) k) refl (aboveZero (item noItem (h .room) 0 .spread))
-    (λ r. each-rounds kept k f most (round g v h) r)
-  where
-    next : h .boxes < k → Each P (roundRoom g v (h .room) (h .boxes)) (roundBoxes g v (h .room) (h .boxes))
-    next l = each-round kept e (omega arith)
-
-    go : (a : Bool) → ltb (h .boxes) k ≡ a → (b : Bool)
-        → (Each P (round g v h .room) (round g v h .boxes)
-        → Each P (rounds f g v k (round g v h) .room) (rounds f g v k (round g v h) .boxes))
-        → Each P (cond a (cond b (rounds f g v k (round g v h)) (round g v h)) h .room)
-        (cond a (cond b (rounds f g v k (round g v h)) (round g v h)) h .boxes)
-    go false q b after = e
-    go true q false after = next (ltb-true (h .boxes) k q)
-    go true q true after = after (next (ltb-true (h .boxes) k q))
+unfolding round
+each-rounds {g} {v} {P} kept k f most =
+    rounds-keep g v k (λ h. Each P (h .room) (h .boxes)) (λ h l e. each-round kept e (omega arith)) f
 
 -- ---- every box in use is one of the grid
 abbrev pub OfGrid : Grid → BoxSpread → Type 0
@@ -188,23 +172,11 @@ round-most : (g : Grid) (v : View) (h : List BoxSpread) (n : ℕ) → 0 < n → 
 round-most g v h n l =
     round-cases g v h n (λ r m. m ≤ n + 1) (λ off. omega arith) (λ on none. omega arith) (λ d i s on q. omega arith)
 
-pub rounds-most : (g : Grid) (v : View) (k : ℕ) → k ≤ 256 → (f : ℕ) (h : Heap) → InUse (h .room) (h .boxes)
-    → h .boxes ≤ k → rounds f g v k h .boxes ≤ k
-unfolding rounds round
-rounds-most g v k most zero h u l = l
-rounds-most g v k most (suc f) h u l =
-    go (ltb (h .boxes) k) refl (aboveZero (item noItem (h .room) 0 .spread))
-    (λ m. rounds-most g v k most f (round g v h) (in-use-round g v u (omega arith)) (next m))
-  where
-    next : h .boxes < k → roundBoxes g v (h .room) (h .boxes) ≤ k
-    next m = omega (arith, round-most g v (h .room) (h .boxes) (u .some))
-
-    go : (a : Bool) → ltb (h .boxes) k ≡ a → (b : Bool) → (h .boxes < k → rounds f g v k (round g v h) .boxes ≤ k)
-        → cond a (cond b (rounds f g v k (round g v h)) (round g v h)) h .boxes ≤ k
-    go false q b after = l
-    go true q false after = next (ltb-true (h .boxes) k q)
-    go true q true after = after (ltb-true (h .boxes) k q)
-
 pub heap-most : (g : Grid) (v : View) (k : ℕ) → 1 ≤ k → k ≤ 256 → heapOf g v k .boxes ≤ k
-unfolding heapOf start
-heap-most g v k least most = rounds-most g v k most (2 * k) (start g) (start-in-use g) least
+unfolding heapOf start round
+heap-most g v k least most =
+    rounds-keep g v k (λ h. InUse (h .room) (h .boxes) × (h .boxes ≤ k))
+    (λ h l e.
+    let most-then = round-most g v (h .room) (h .boxes) (e .0 .some) in
+    (in-use-round g v (e .0) (omega arith), omega arith))
+    (2 * k) (start g) (start-in-use g, least) .1

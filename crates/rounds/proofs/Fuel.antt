@@ -10,16 +10,17 @@ use native.Mathlib.Omega.{arith}
 use borrow.Author.Tests.{ltb-true, le-ltb, lt-ltb}
 use lib.Dec.{ltb}
 use lib.ListN.{length, take}
-use lib.Ieee.{lt, eq}
+use lib.Ieee.{lt}
 use Rattle.grid.specs.declared.place.Grid.{Grid}
 use Rattle.table.specs.Cell.{View}
 use Rattle.boxes.specs.declared.sides.Bounds.{Bounds}
 use Rattle.boxes.specs.Box.{lowSide, highSide}
+use Rattle.spread.specs.Spread.{zeroOf}
 use Rattle.heap.specs.Heap.{item, putIn, takeOut, sumItems}
 use Rattle.heap.proofs.Keeps.{put-in-long, put-in-sum, take-out-sum}
 use Rattle.rounds.specs.declared.gather.BoxSpread.{BoxSpread}
-use Rattle.rounds.specs.Loop.{bySpread, Heap, noItem, withSpread, withZero, startRoom, start, aboveZero}
-use Rattle.rounds.specs.Loop.{roundRoom, roundBoxes, round, rounds, heapOf}
+use Rattle.rounds.specs.Loop.{bySpread, Heap, noItem, withSpread, withZero, startRoom, start, roundRoom}
+use Rattle.rounds.specs.Loop.{roundBoxes, round, rounds, heapOf}
 use Rattle.rounds.proofs.OneRound.{round-cases}
 use Rattle.rounds.proofs.Filled.{InUse, left-long, two-more, start-in-use, in-use-round}
 
@@ -31,29 +32,29 @@ module _ (g : Grid) (v : View) (k : ℕ) (h : Heap) where
   rounds-full (suc f) l = rw (le-ltb (h .boxes) k l) refl
 
   module _ (f : ℕ) (l : h .boxes < k) where
-    pub rounds-on : aboveZero (item noItem (h .room) 0 .spread) ≡ true
+    pub rounds-on : lt zeroOf (item noItem (h .room) 0 .spread) ≡ true
         → rounds (suc f) g v k h ≡ rounds f g v k (round g v h)
     unfolding rounds
     rounds-on e = rw (lt-ltb (h .boxes) k l, e) refl
 
-    pub rounds-stop : aboveZero (item noItem (h .room) 0 .spread) ≡ false → rounds (suc f) g v k h ≡ round g v h
+    pub rounds-stop : lt zeroOf (item noItem (h .room) 0 .spread) ≡ false → rounds (suc f) g v k h ≡ round g v h
     unfolding rounds
     rounds-stop e = rw (lt-ltb (h .boxes) k l, e) refl
 
 -- ---- 1 for a box that is to be cut
 unfoldable pub hot : BoxSpread → ℕ
-hot x = cond (aboveZero (x .spread)) 1 0
+hot x = cond (lt zeroOf (x .spread)) 1 0
 
 hot-high : (x : BoxSpread) → hot x ≤ 1
 unfolding hot
-hot-high x = go (aboveZero (x .spread))
+hot-high x = go (lt zeroOf (x .spread))
   where
     go : (b : Bool) → cond b 1 0 ≤ 1
     go true = omega arith
     go false = omega arith
 
 hot-zero : (x : Bounds) → hot (withZero x) ≡ 0
-unfolding hot aboveZero lt
+unfolding hot lt
 hot-zero x = refl
 
 -- how many rounds there are still to come at most: none where there are k boxes
@@ -90,7 +91,7 @@ hot-put h n x long l =
 
 -- one round less is needed after a round of a box that is to be cut
 pub need-less : (g : Grid) (v : View) (k : ℕ) → k ≤ 256 → (h : List BoxSpread) (n : ℕ) → InUse h n → n < k
-    → aboveZero (item noItem h 0 .spread) ≡ true → suc (need k (roundRoom g v h n) (roundBoxes g v h n)) ≤ need k h n
+    → lt zeroOf (item noItem h 0 .spread) ≡ true → suc (need k (roundRoom g v h n) (roundBoxes g v h n)) ≤ need k h n
 unfolding hot
 need-less g v k most h n u l on =
     round-cases g v h n (λ r m. suc (need k r m) ≤ need k h n)
@@ -151,13 +152,13 @@ module _ (g : Grid) (v : View) (k : ℕ) (most : k ≤ 256) where
       rounds-full g v k h (suc f) (need-none k (h .room) (h .boxes) q)
       ∙ sym (rounds-full g v k h zero (need-none k (h .room) (h .boxes) q))
   stable (suc f) (suc e) h u p q =
-      go (decLe k (h .boxes)) (aboveZero (item noItem (h .room) 0 .spread)) refl
+      go (decLe k (h .boxes)) (lt zeroOf (item noItem (h .room) 0 .spread)) refl
       (λ l on. stable f e (round g v h) (in-use-round g v u (omega arith))
       (omega (arith, need-less g v k most (h .room) (h .boxes) u l on))
       (omega (arith, need-less g v k most (h .room) (h .boxes) u l on)))
     where
-      go : Dec (k ≤ h .boxes) → (b : Bool) → aboveZero (item noItem (h .room) 0 .spread) ≡ b
-          → (h .boxes < k → aboveZero (item noItem (h .room) 0 .spread) ≡ true
+      go : Dec (k ≤ h .boxes) → (b : Bool) → lt zeroOf (item noItem (h .room) 0 .spread) ≡ b
+          → (h .boxes < k → lt zeroOf (item noItem (h .room) 0 .spread) ≡ true
           → rounds f g v k (round g v h) ≡ rounds e g v k (round g v h))
           → rounds (suc f) g v k h ≡ rounds (suc e) g v k h
       go (yes l) b t after = rounds-full g v k h (suc f) l ∙ sym (rounds-full g v k h (suc e) l)
@@ -169,7 +170,7 @@ module _ (g : Grid) (v : View) (k : ℕ) (most : k ≤ 256) where
 
 -- ---- the start
 start-hot : (g : Grid) → sumItems hot (take 1 (startRoom g)) ≡ 1
-unfolding startRoom sumItems hot aboveZero lt eq
+unfolding startRoom sumItems hot lt
 start-hot g = refl
 
 pub start-need : (g : Grid) (k : ℕ) → need k (startRoom g) 1 ≤ 2 * k - 2
@@ -218,7 +219,7 @@ module _ {g : Grid} {v : View} {k : ℕ} where
 
     module _ (l : n < k) where
       -- the last round
-      pub come-stop : aboveZero (item noItem h 0 .spread) ≡ false → AtEnd g v k (roundRoom g v h n) (roundBoxes g v h n)
+      pub come-stop : lt zeroOf (item noItem h 0 .spread) ≡ false → AtEnd g v k (roundRoom g v h n) (roundBoxes g v h n)
       unfolding here round
       come-stop off = at-end (go (c .left) (c .covers) (c .gives))
         where
@@ -227,7 +228,7 @@ module _ {g : Grid} {v : View} {k : ℕ} where
           go (suc f) m e = sym (rounds-stop g v k here f l off) ∙ e
 
       -- one of others
-      pub come-round : k ≤ 256 → InUse h n → aboveZero (item noItem h 0 .spread) ≡ true
+      pub come-round : k ≤ 256 → InUse h n → lt zeroOf (item noItem h 0 .spread) ≡ true
           → ToCome g v k (roundRoom g v h n) (roundBoxes g v h n)
       unfolding here round
       come-round most u on = go (c .left) (c .covers) (c .gives)

@@ -7,7 +7,7 @@ use mathlib.Core.List.{List, [], _∷_}
 use Prim.Native.Nat.{ℕ, zero, suc, _*_, _≤_, _<_, min}
 use native.Mathlib.Omega.{arith}
 use lib.ListN.{length}
-use lib.Ieee.{lt, eq}
+use lib.Ieee.{lt}
 use Rattle.grid.specs.declared.place.Grid.{Grid}
 use Rattle.basics.specs.Range.{sumFrom}
 use Rattle.grid.specs.Grid.{Accepted, binsOf}
@@ -16,22 +16,22 @@ use Rattle.table.specs.Sound.{limit, total}
 use Rattle.table.proofs.Soundness.{Sound}
 use Rattle.boxes.proofs.Held.{in-holds}
 use Rattle.boxes.specs.declared.sides.Bounds.{Bounds}
-use Rattle.sums.specs.Box.{statsOf, marks, occupiedIn}
+use Rattle.sums.specs.Box.{marks, occupiedIn}
 use Rattle.boxes.specs.Box.{lowSide, highSide}
 use Rattle.sums.proofs.Laws.{cut-sum}
 use Rattle.sums.proofs.Occupied.{Two, some-occupied, one-at-most}
 use Rattle.spread.specs.declared.position.Position.the-variants.{Nowhere}
-use Rattle.spread.specs.Spread.{spreadOf, SpreadsAbove}
+use Rattle.spread.specs.Spread.{SpreadsAbove}
 use Rattle.spread.specs.Cut.{bestCut}
 use Rattle.spread.proofs.Best.{two-occupied}
 use Rattle.heap.specs.Heap.{item, sumItems}
 use Rattle.rounds.specs.declared.gather.BoxSpread.{BoxSpread}
-use Rattle.rounds.specs.Loop.{noItem, withSpread, start, aboveZero, heapOf}
+use Rattle.rounds.specs.Loop.{noItem, withSpread, start, heapOf}
 use Rattle.boxes.specs.Box.{wholeOf}
 use Rattle.rounds.proofs.Grids.{whole-sum}
 use Rattle.rounds.proofs.Filled.{Each, Kept, Fit, atStart, each-rounds, start-each, heap-fit, heap-most}
 use Rattle.rounds.proofs.Cover.{Additive, over, over-heap}
-use Rattle.rounds.proofs.Ends.{Sane, sane-kept, of-cold, start-sane, Cold, Ended, full as reached, cold}
+use Rattle.rounds.proofs.Ends.{Sane, sane-kept, start-sane, Cold, Ended, full as reached, cold}
 use Rattle.rounds.proofs.Ends.{heap-end}
 
 -- ---- sums over the boxes in use, whose terms are 1 at least, or at most
@@ -72,7 +72,7 @@ module _ {g : Grid} {v : View} (s : Sound limit g v) (spreads : SpreadsAbove g v
             let b = t .other in
             let above = spreads .above x (h .fit .within) (a .one) (a .two) (a .three) (b .one) (b .two) (b .three)
             (in-holds (a .in-box)) (in-holds (b .in-box)) (a .some) (b .some) (t .apart) in
-            rw (of-cold (spreadOf x (statsOf g v x)) (h .number) c) at above;
+            rw c at above;
       }
 
   honest-kept : Kept g v (Honest g v)
@@ -88,7 +88,7 @@ module _ {g : Grid} {v : View} (s : Sound limit g v) (spreads : SpreadsAbove g v
   module _ (a : Accepted g) (l : 0 < total g v) where
     -- the start, at infinity, is to be cut
     start-honest : Honest g v (atStart g)
-    unfolding aboveZero lt eq
+    unfolding lt
     start-honest = record { sane = start-sane a l; single = λ c t. true≢false c }
 
     heap-honest : (k : ℕ) → k ≤ 256 → Each (Honest g v) (heapOf g v k .room) (heapOf g v k .boxes)

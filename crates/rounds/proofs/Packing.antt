@@ -19,6 +19,7 @@ use Rattle.heap.specs.TwoArrays.{noItem as noPacked}
 use Rattle.heap.proofs.TwoArrays.{alike, items-item, items-are, items-long, lent-of}
 use Rattle.heap.proofs.Keeps.{put-in-long, take-out-long}
 use Rattle.heap.proofs.View.{item-view, put-in-view, take-out-view}
+use Rattle.rounds.specs.declared.gather.BoxSpread.{BoxSpread}
 use Rattle.rounds.specs.Loop.{bySpread, noItem, withZero, startRoom}
 use Rattle.rounds.specs.Inner.{unpack, roomIn}
 
@@ -35,6 +36,9 @@ module _ {spreads : List Float} {boxes : List ℕ} (lent : TwoArrays spreads box
       (λ i. item (sym nothing-there i) (map unpack (itemsOf spreads boxes)) p)
       ∙ item-view unpack byPacked bySpread (λ x. refl) noPacked (itemsOf spreads boxes) p
       ∙ ap unpack (items-item spreads boxes p (alike lent))
+
+  pub room-in-spread : (p : ℕ) → item noItem (roomIn spreads boxes) p .spread ≡ getD spreads p nan
+  room-in-spread p = ap (λ (x : BoxSpread). x .spread) (room-in-item p)
 
   -- after a call
   module _ {spreads' : List Float} {boxes' : List ℕ} (n : ℕ) where

@@ -1,10 +1,10 @@
 -- The loop of a cut (Rules, Loop). Definitions only.
-use mathlib.Core.Bool.{Bool, false, cond}
+use mathlib.Core.Bool.{false, cond}
 use mathlib.Core.List.{List}
 use Prim.Native.Nat.{ℕ, zero, suc, _+_, _-_, _*_}
 use lib.Dec.{ltb}
 use lib.ListN.{set, replicate}
-use lib.Ieee.{Float, nan, inf, lt, eq}
+use lib.Ieee.{Float, nan, inf, lt}
 use Rattle.grid.specs.declared.place.Grid.{Grid}
 use Rattle.basics.specs.Range.{listFrom}
 use Rattle.table.specs.Cell.{View}
@@ -60,22 +60,18 @@ unfoldable pub boxesAfter : ℕ → Position → ℕ
 boxesAfter n (At d bin score) = n + 2
 boxesAfter n Nowhere = n + 1
 
--- whether a spread is above 0, and is not NaN: then the box is to be cut
-unfoldable pub aboveZero : Float → Bool
-aboveZero s = cond (lt zeroOf s) (eq s s) false
-
--- one round: "take out the top. If its spread is not above 0, or is NaN, put it back and stop"
+-- one round: "take out the top. If its spread is not above 0, put it back and stop"
 unfoldable pub roundRoom : Grid → View → List BoxSpread → ℕ → List BoxSpread
 roundRoom g v h n =
     let top = item noItem h 0 in
     let rest = takeOut bySpread noItem h n in
-    cond (aboveZero (top .spread)) (roomAfter g v rest (n - 1) (top .bounds) (bestCut g v (top .bounds)))
+    cond (lt zeroOf (top .spread)) (roomAfter g v rest (n - 1) (top .bounds) (bestCut g v (top .bounds)))
     (putIn bySpread noItem rest (n - 1) top)
 
 unfoldable pub roundBoxes : Grid → View → List BoxSpread → ℕ → ℕ
 roundBoxes g v h n =
     let top = item noItem h 0 in
-    cond (aboveZero (top .spread)) (boxesAfter (n - 1) (bestCut g v (top .bounds))) n
+    cond (lt zeroOf (top .spread)) (boxesAfter (n - 1) (bestCut g v (top .bounds))) n
 
 unfoldable pub round : Grid → View → Heap → Heap
 round g v h =
@@ -91,7 +87,7 @@ rounds zero g v k h = h
 rounds (suc n) g v k h =
     let next = round g v h in
     let on = rounds n g v k next in
-    cond (ltb (h .boxes) k) (cond (aboveZero (item noItem (h .room) 0 .spread)) on next) h
+    cond (ltb (h .boxes) k) (cond (lt zeroOf (item noItem (h .room) 0 .spread)) on next) h
 
 -- all rounds: 2·k − 2 are enough
 unfoldable pub heapOf : Grid → View → ℕ → Heap

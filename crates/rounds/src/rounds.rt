@@ -18,8 +18,7 @@ ghost use Rattle.sums.specs.Moments.{CanSum};
 ghost use Rattle.spread.specs.Cut.{bestCut};
 ghost use Rattle.heap.specs.Heap.{item};
 ghost use Rattle.heap.specs.TwoArrays.{TwoArrays};
-ghost use Rattle.rounds.specs.Loop.{noItem, startRoom, roomAfter, boxesAfter, aboveZero, roundRoom, roundBoxes};
-ghost use Rattle.rounds.specs.Loop.{heapOf};
+ghost use Rattle.rounds.specs.Loop.{noItem, startRoom, roomAfter, boxesAfter, roundRoom, roundBoxes, heapOf};
 ghost use Rattle.rounds.specs.Inner.{roomIn};
 
 // Cuts a box that was taken out, with `left` boxes left, and answers how many there are then.
@@ -56,16 +55,6 @@ fn cut_top(
     left + 2
 }
 
-// Whether a spread is above 0, and is not NaN: then its box is to be cut.
-fn is_above_zero(s: f64) -> bool
-    ensures { λ r. ⌜ r ≡ aboveZero s ⌝ }
-{
-    if 0.0 < s {
-        return s == s;
-    }
-    false
-}
-
 // One round with `len` boxes; answers how many there are then.
 fn round(
     table: &[u64],
@@ -88,7 +77,7 @@ fn round(
     let x = unpacked(boxes[0]);
     let left = len - 1;
     take_top(spreads, boxes, len);
-    if is_above_zero(s) {
+    if 0.0 < s {
         return cut_top(table, work, g, spreads, boxes, left, x);
     }
     put_box(spreads, boxes, left, s, x);
@@ -113,7 +102,7 @@ pub(crate) fn all_rounds(
 {
     let mut len = 1;
     while len < k {
-        let more = is_above_zero(spreads[0]);
+        let more = 0.0 < spreads[0];
         len = round(table, work, g, spreads, boxes, len);
         if !more {
             return len;

@@ -1,19 +1,20 @@
 -- `rounds::rounds::all_rounds` meets its contract: what is still to come of the loop's rounds gives the heap at the
 -- end.
 -- Assumes nothing.
-use mathlib.Core.Path.{_≡_, sym, ap, _∙_}
+use mathlib.Core.Path.{_≡_, ap, _∙_}
 use mathlib.Core.Bool.{true}
 use native.Mathlib.Omega.{arith}
 use borrow.Author.Needs.{needs}
 use borrow.Author.Tests.{not-true, not-false}
 use denote.Ref.{now}
+use lib.Ieee.{ofBits, lt}
 use Rattle.table.specs.Table.{viewOf}
+use Rattle.spread.specs.Spread.{zeroOf}
 use Rattle.heap.specs.Heap.{item}
 use Rattle.heap.specs.TwoArrays.{TwoArrays}
-use Rattle.rounds.specs.declared.gather.BoxSpread.{BoxSpread}
-use Rattle.rounds.specs.Loop.{noItem, aboveZero}
+use Rattle.rounds.specs.Loop.{noItem}
 use Rattle.rounds.specs.Inner.{roomIn}
-use Rattle.rounds.proofs.Packing.{room-in-item}
+use Rattle.rounds.proofs.Packing.{room-in-spread}
 use Rattle.boxes.proofs.Whole.{whole-within}
 use Rattle.rounds.proofs.Filled.{Each, OfGrid, of-grid-kept, each-round, start-each}
 use Rattle.rounds.proofs.Fuel.{need, need-less, ToCome, come-start, come-full, come-stop, come-round}
@@ -37,67 +38,58 @@ loop-holds c =
       come-start (s .pre .1 .1),
     )
 
-element-copy-out-is-above-zero : tie.Need-element-copy-out-is-above-zero Inv-loop μ-loop
-element-copy-out-is-above-zero c = search needs
-
-is-above-zero-requires : tie.Need-is-above-zero-requires Inv-loop μ-loop
-is-above-zero-requires c κs = search needs
+element-copy-out-more : tie.Need-element-copy-out-more Inv-loop μ-loop
+element-copy-out-more c = search needs
 
 round-requires : tie.Need-round-requires Inv-loop μ-loop
 round-requires c κs =
-    let s = c .before .before .before .before .before .before .before .before in
-    let l = c .before .before .before .before .before .loop in (
+    let s = c .before .before .before .before .before .before .before in
+    let l = c .before .before .before .before .loop in (
       s .pre .0 .0,
       (
         l .inv .0,
         l .inv .1 .in-use .some,
         omega
-            (arith, c .before .before .before .before .loop-test .taken, s .pre .0 .1),
+            (arith, c .before .before .before .loop-test .taken, s .pre .0 .1),
         l .inv .1 .each 0
             (l .inv .1 .in-use .some),
       ),
     )
 
--- whether the round at hand is the last
-spread-read : (k : tie.After-is-above-zero Inv-loop μ-loop)
-    → aboveZero
-    (item noItem (roomIn (k .before .before .before .loop .spreads) (k .before .before .before .loop .boxes)) 0 .spread)
-    ≡ k .is-above-zero .result
-spread-read k =
-    ap (λ (x : BoxSpread). aboveZero (x .spread)) (room-in-item (k .before .before .before .loop .inv .0) 0)
-    ∙ sym (k .is-above-zero .ensures)
-
 returns : tie.Need-returns Inv-loop μ-loop
+unfolding ofBits
 returns c =
-    let l = c .before .before .before .before .before .before .before .loop in
+    let l = c .before .before .before .before .before .before .loop in
     let e = c .before .round .ensures in
-    let end = come-stop (l .inv .2) (c .before .before .before .before .before .before .loop-test .taken)
-    (spread-read (c .before .before .before .before) ∙ not-true _ (c .if1 .taken)) in
+    let end = come-stop (l .inv .2) (c .before .before .before .before .before .loop-test .taken)
+    (ap (lt zeroOf) (room-in-spread (l .inv .0) 0) ∙ not-true _ (c .if1 .taken)) in
     (e .0 ∙ end .boxes, (e .1 .0 ∙ end .room, e .1 .1))
 
 loop-less : tie.Need-loop-less Inv-loop μ-loop
+unfolding ofBits
 loop-less c =
-    let s = c .before .before .before .before .before .before .before .before .before .before in
-    let l = c .before .before .before .before .before .before .before .loop in
+    let s = c .before .before .before .before .before .before .before .before .before in
+    let l = c .before .before .before .before .before .before .loop in
     let e = c .before .round .ensures in
     rw (e .0, e .1 .0)
     (need-less (s .args .g) (viewOf (now (s .args .table))) (s .args .k) (s .pre .0 .1) (roomIn (l .spreads) (l .boxes))
-    (l .len) (l .inv .1 .in-use) (c .before .before .before .before .before .before .loop-test .taken)
-    (spread-read (c .before .before .before .before) ∙ not-false _ (c .if1 .left)))
+    (l .len) (l .inv .1 .in-use) (c .before .before .before .before .before .loop-test .taken)
+    (ap (lt zeroOf) (room-in-spread (l .inv .0) 0) ∙ not-false _ (c .if1 .left)))
 
 loop-again : tie.Need-loop-again Inv-loop μ-loop
+unfolding ofBits
 loop-again c =
-    let s = c .before .before .before .before .before .before .before .before .before .before in
-    let l = c .before .before .before .before .before .before .before .loop in
+    let s = c .before .before .before .before .before .before .before .before .before in
+    let l = c .before .before .before .before .before .before .loop in
     let e = c .before .round .ensures in
-    let on : aboveZero (item noItem (roomIn (l .spreads) (l .boxes)) 0 .spread)
-    ≡ true = spread-read (c .before .before .before .before) ∙ not-false _ (c .if1 .left) in (
+    let on : lt zeroOf (item noItem (roomIn (l .spreads) (l .boxes)) 0 .spread)
+    ≡ true = ap (lt zeroOf) (room-in-spread (l .inv .0) 0) ∙ not-false _ (c .if1 .left) in (
       e .1 .1,
       rw (e .0, e .1 .0)
           (each-round (of-grid-kept (s .args .g) (viewOf (now (s .args .table)))) (l .inv .1)
-          (omega (arith, c .before .before .before .before .before .before .loop-test .taken, s .pre .0 .1))),
+          (omega (arith, c .before .before .before .before .before .loop-test .taken, s .pre .0 .1))),
       rw (e .0, e .1 .0)
-          (come-round (l .inv .2) (c .before .before .before .before .before .before .loop-test .taken) (s .pre .0 .1)
+          (come-round (l .inv .2) (c .before .before .before .before .before .loop-test .taken) (s .pre .0 .1)
           (l .inv .1 .in-use) on),
     )
 
@@ -114,8 +106,7 @@ all-rounds-spec =
     Inv-loop
     μ-loop
     loop-holds
-    element-copy-out-is-above-zero
-    is-above-zero-requires
+    element-copy-out-more
     round-requires
     returns
     loop-less

@@ -7,18 +7,18 @@ use Prim.Native.Nat.{_-_}
 use native.Mathlib.Omega.{arith}
 use borrow.Author.Needs.{needs}
 use denote.Ref.{now}
-use lib.Ieee.{nan}
-use lib.ListN.{getD}
+use lib.Ieee.{ofBits, lt}
 use Rattle.table.specs.Cell.{View}
 use Rattle.table.specs.Table.{viewOf}
 use Rattle.boxes.specs.declared.sides.Bounds.{Bounds}
+use Rattle.spread.specs.Spread.{zeroOf}
 use Rattle.spread.specs.Cut.{bestCut}
 use Rattle.heap.specs.Heap.{item, putIn}
 use Rattle.rounds.specs.declared.gather.BoxSpread.{BoxSpread}
-use Rattle.rounds.specs.Loop.{bySpread, noItem, roomAfter, boxesAfter, aboveZero}
+use Rattle.rounds.specs.Loop.{bySpread, noItem, roomAfter, boxesAfter}
 use Rattle.rounds.specs.Inner.{roomIn}
 use Rattle.boxes.proofs.Packing.{within-bytes}
-use Rattle.rounds.proofs.Packing.{room-in-item}
+use Rattle.rounds.proofs.Packing.{room-in-item, room-in-spread}
 use Rattle.rounds.proofs.OneRound.{room-on, boxes-on, room-stops, boxes-stops}
 use Rattle.rounds.proofs.rounds.round.Statement.{statement}
 use Rattle.rounds.proofs.rounds.round.Tie as tie
@@ -49,37 +49,31 @@ take-top-requires c κs =
     let s = c .before .before .before .before .before .before .before in
     (s .pre .1 .0, s .pre .1 .1, omega (arith, s .pre .1 .2))
 
-is-above-zero-requires : tie.Need-is-above-zero-requires
-is-above-zero-requires c κs = search needs
-
 -- the box that was read
 box-read : (k : tie.After-unpacked) → k .unpacked .result ≡ top (k .before .before .before .before .before) .bounds
 box-read k =
     k .unpacked .ensures
     ∙ sym (ap (λ (x : BoxSpread). x .bounds) (room-in-item (k .before .before .before .before .before .pre .1 .0) 0))
 
--- and its spread
-spread-read : (s : tie.Start) → top s .spread ≡ getD (now (s .args .spreads)) 0 nan
-spread-read s = ap (λ (x : BoxSpread). x .spread) (room-in-item (s .pre .1 .0) 0)
-
 cut-top-requires : tie.Need-cut-top-requires
 cut-top-requires c κs =
-    let s = c .before .before .before .before .before .before .before .before .before .before .before .before in (
-      (s .pre .0, rw (box-read (c .before .before .before .before .before .before .before)) (s .pre .1 .3)),
-      (c .before .before .before .before .take-top .ensures .1, omega (arith, s .pre .1 .2)),
+    let s = c .before .before .before .before .before .before .before .before .before .before .before in (
+      (s .pre .0, rw (box-read (c .before .before .before .before .before .before)) (s .pre .1 .3)),
+      (c .before .before .before .take-top .ensures .1, omega (arith, s .pre .1 .2)),
     )
 
 returns : tie.Need-returns
+unfolding ofBits
 returns c =
-    let s = c .before .before .before .before .before .before .before .before .before .before .before .before .before in
-    let on : aboveZero (top s .spread) ≡ true = ap aboveZero (spread-read s)
-    ∙ sym (c .before .before .before .before .is-above-zero .ensures) ∙ c .before .before .before .if1 .taken in
-    let same = box-read (c .before .before .before .before .before .before .before .before) in (
+    let s = c .before .before .before .before .before .before .before .before .before .before .before .before in
+    let on : lt zeroOf (top s .spread) ≡ true = ap (lt zeroOf) (room-in-spread (s .pre .1 .0) 0)
+    ∙ c .before .before .before .if1 .taken in
+    let same = box-read (c .before .before .before .before .before .before .before) in (
       c .cut-top .ensures .0 ∙ ap (λ (x : Bounds). boxesAfter (s .args .len - 1) (bestCut (s .args .g) (view s) x)) same
           ∙ sym (boxes-on (s .args .g) (view s) (before s) (s .args .len) on),
       (
         c .cut-top .ensures .1 .0
-            ∙ (λ i. roomAfter (s .args .g) (view s) (c .before .before .before .before .before .take-top .ensures .0 i)
+            ∙ (λ i. roomAfter (s .args .g) (view s) (c .before .before .before .before .take-top .ensures .0 i)
             (s .args .len - 1) (same i) (bestCut (s .args .g) (view s) (same i)))
             ∙ sym (room-on (s .args .g) (view s) (before s) (s .args .len) on),
         c .cut-top .ensures .1 .1,
@@ -88,26 +82,27 @@ returns c =
 
 put-box-requires : tie.Need-put-box-requires
 put-box-requires c κs =
-    let s = c .before .before .before .before .before .before .before .before .before .before .before .before in (
-      c .before .before .before .before .take-top .ensures .1,
+    let s = c .before .before .before .before .before .before .before .before .before .before .before in (
+      c .before .before .before .take-top .ensures .1,
       omega (arith, s .pre .1 .2),
-      rw (box-read (c .before .before .before .before .before .before .before)) (within-bytes (s .pre .1 .3)),
+      rw (box-read (c .before .before .before .before .before .before)) (within-bytes (s .pre .1 .3)),
     )
 
 returns-2 : tie.Need-returns-2
+unfolding ofBits
 returns-2 c =
-    let s = c .before .before .before .before .before .before .before .before .before .before .before .before .before in
-    let off : aboveZero (top s .spread) ≡ false = ap aboveZero (spread-read s)
-    ∙ sym (c .before .before .before .before .is-above-zero .ensures) ∙ c .before .before .before .if1 .left in (
+    let s = c .before .before .before .before .before .before .before .before .before .before .before .before in
+    let off : lt zeroOf (top s .spread) ≡ false = ap (lt zeroOf) (room-in-spread (s .pre .1 .0) 0)
+    ∙ c .before .before .before .if1 .left in (
       sym (boxes-stops (s .args .g) (view s) (before s) (s .args .len) off),
       (
         c .put-box .ensures .0
-            ∙ (λ i. putIn bySpread noItem (c .before .before .before .before .before .take-top .ensures .0 i)
+            ∙ (λ i. putIn bySpread noItem (c .before .before .before .before .take-top .ensures .0 i)
             (s .args .len - 1)
             (record {
-              spread = sym (spread-read s) i;
+              spread = sym (room-in-spread (s .pre .1 .0) 0) i;
               bounds = box-read
-                  (c .before .before .before .before .before .before .before .before) i;
+                  (c .before .before .before .before .before .before .before) i;
             }))
             ∙ sym (room-stops (s .args .g) (view s) (before s) (s .args .len) off),
         c .put-box .ensures .1,
@@ -123,7 +118,6 @@ round-spec =
     unpacked-requires
     sub-left
     take-top-requires
-    is-above-zero-requires
     cut-top-requires
     returns
     put-box-requires
