@@ -88,7 +88,7 @@ pub fine-worked : (sound limit grid2 fineTable ≡ true)
     × (computedSpread grid2 fineTable (wholeOf grid2) ≡ fin true 6004799503160661 (negsuc 83))
     × (boxSum grid2 fineTable (wholeOf grid2) 0 ≡ 3221225472)
 unfolding fineTable loneBin sumFrom allFrom binOf spanOf choose shiftAt binsOf placeOf binAt
-    between inBounds spanAt binSound total sound sum3 binSum boxSum statsOf wholeOf quotientOf oneBin spreadOf
+    between squaredSpan plusSpan squaresSpan inBounds spanAt binSound total sound sum3 binSum boxSum statsOf wholeOf quotientOf oneBin spreadOf
     lib.Ieee.ofInt lib.Ieee.mul lib.Ieee.add lib.Ieee.sub lib.Ieee.div
     lib.Ieee.round lib.Ieee.size lib.Ieee.span lib.Ieee.climb lib.Ieee.units lib.Ieee.odd lib.Count.trailingZeros
 fine-worked = (refl, refl, refl)
@@ -99,7 +99,7 @@ pub far-worked : (sound limit grid2 farTable ≡ true)
     × (boxSum grid2 farTable (wholeOf grid2) 4 ≡ 694346204755331)
     × (sumsSquared grid2 farTable (wholeOf grid2) ≡ 2524325387066343710556102)
 unfolding farTable loneBin sumFrom allFrom binOf spanOf choose shiftAt binsOf placeOf binAt
-    between inBounds spanAt binSound total sound sum3 binSum boxSum statsOf wholeOf quotientOf oneBin spreadOf
+    between squaredSpan plusSpan squaresSpan inBounds spanAt binSound total sound sum3 binSum boxSum statsOf wholeOf quotientOf oneBin spreadOf
     sumsSquared
     lib.Ieee.ofInt lib.Ieee.mul lib.Ieee.add lib.Ieee.sub lib.Ieee.div
     lib.Ieee.round lib.Ieee.size lib.Ieee.span lib.Ieee.climb lib.Ieee.units lib.Ieee.odd lib.Count.trailingZeros
