@@ -28,7 +28,7 @@ const fn class(name: &'static str, cases: Cases) -> Class {
 }
 
 /// The classes; README.md says what their cases are.
-pub const CLASSES: [Class; 18] = [
+pub const CLASSES: [Class; 19] = [
     class("tiny", Cases::Random(tiny)),
     class("few", Cases::Random(few)),
     class("equal", Cases::Random(equal)),
@@ -40,6 +40,7 @@ pub const CLASSES: [Class; 18] = [
     class("single", Cases::Random(single)),
     class("crowded", Cases::Random(crowded)),
     class("close", Cases::Random(close)),
+    class("mosaics", Cases::Random(mosaics)),
     class("batches", Cases::Random(in_batches)),
     class("calls", Cases::Random(sound_calls)),
     class("damaged", Cases::Random(damaged)),
@@ -330,6 +331,29 @@ fn close(m: &mut Maker<'_>, _: usize) -> Case {
     let least = m.r.one_of(&[most, 200_000]);
     input.weights[n - 1] = m.r.from(least, most) as u32;
     let (grid, k) = (m.grid(), m.r.from(2, 8));
+    m.whole(grid, k, input)
+}
+
+/// Screens of colours one step apart on either side of the edges of bins, so that each box of two colours has a small
+/// spread beside sums of squares that are as large as they can be.
+fn mosaics(m: &mut Maker<'_>, _: usize) -> Case {
+    let (grid, k) = (m.grid(), m.k());
+    let screens = m.r.one_of(&[1, 1, 2, 8, 40]);
+    let edge = |r: &mut Random, size: usize| 256 / size * r.from(1, size - 1);
+    let corners: Vec<_> = (0..screens)
+        .map(|_| grid.map(|size| edge(&mut m.r, size)))
+        .collect();
+    let color = |r: &mut Random| r.one_of(&corners).map(|c| (c - r.from(0, 1)) as u8);
+    let n = m.r.from(2, 8 * screens);
+    let total = u32::MAX - m.r.one_of(&[0, 1, 1000, 1_000_000_000]);
+    let mut input = m.input(n, color, |r| r.from(0, 3) as u32);
+    if m.r.once_in(2) {
+        input.weights = m.r.weights(n, total);
+    } else {
+        // one colour has nearly all the weight
+        input.weights[0] = 0;
+        input.weights[0] = total - input.total() as u32;
+    }
     m.whole(grid, k, input)
 }
 

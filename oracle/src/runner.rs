@@ -97,8 +97,7 @@ fn report(name: &str, ran: &Ran, seconds: f64) {
     if t.boxes > 0 {
         println!(
             "    {} boxes; {} also by pixels, {} by batches, {} with 64-bit sums, {} with a negative spread, {} with \
-             a box put back ({} of them falsely positive), {} with fewer boxes than k and the occupied bins allow, \
-             {} of total 0, {} too heavy",
+             a box put back ({} of them falsely positive), {} of total 0, {} too heavy",
             t.boxes,
             t.by_pixels,
             t.by_batches,
@@ -106,7 +105,6 @@ fn report(name: &str, ran: &Ran, seconds: f64) {
             t.negative,
             t.put_back,
             t.falsely_positive,
-            t.fewer,
             t.of_total_0,
             t.too_heavy
         );

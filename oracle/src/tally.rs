@@ -13,7 +13,6 @@ pub struct Tally {
     pub negative: usize,
     pub put_back: usize,
     pub falsely_positive: usize,
-    pub fewer: usize,
     /// Of the calls made one by one, how many answered each number: load, merge, cut, map, paint.
     pub numbers: [[usize; 10]; 5],
 }

@@ -59,6 +59,12 @@ impl Whole<'_> {
         let (grid, k) = (self.case.grid, self.case.k);
         let answered = lent.cut(self.port, grid, k, table.see());
         table.unchanged("the table after a cut")?;
+        let occupied = table.see().iter().step_by(5).filter(|&&n| n > 0).count();
+        same(
+            "as many boxes as the smaller of k and the occupied bins",
+            k.min(occupied),
+            answered.1,
+        )?;
         let boxes = told.map(|t| t.answer.boxes.len());
         let expected = boxes.map_or((8, 0), |boxes| (0, boxes));
         same("number and boxes of a cut", expected, answered)?;
@@ -164,11 +170,9 @@ fn put_back(table: &[u64], grid: Grid, x: &BoxSpread) -> [bool; 2] {
 /// Counts a case by its sort. Boxes that were put back are looked for in small grids alone.
 fn count(case: &Case, told: &Told, tally: &mut Tally) {
     let boxes = &told.answer.boxes;
-    let occupied = told.table.iter().step_by(5).filter(|&&n| n > 0).count();
     tally.boxes += boxes.len();
     tally.wide += usize::from(case.input.total() >= 16_843_009);
     tally.negative += usize::from(boxes.iter().any(|b| b.spread < 0.0));
-    tally.fewer += usize::from(boxes.len() < case.k.min(occupied));
     if case.bins() <= 512 {
         let found = |which: usize| {
             let one = |x| put_back(&told.table, case.grid, x)[which];

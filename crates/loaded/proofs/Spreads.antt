@@ -7,10 +7,10 @@ use mathlib.Core.Bool.{Bool, true, false, cond, _&&_}
 use mathlib.Core.List.{List, [], _∷_, List·Memᴰ, List·Memᴰ·head, List·Memᴰ·tail, List·Memᴰ·not-nil}
 use mathlib.Core.List.{List·Memᴰ·cases-cons}
 use Prim.Native.Nat.{ℕ, _+_, _-_, _*_, _≤_, _<_}
-use native.Mathlib.Nat.{le-trans, zero-add, zero-mul, mul-one, pos-of-ne-zero}
+use native.Mathlib.Nat.{zero-add, zero-mul, mul-one, pos-of-ne-zero}
 use native.Mathlib.Omega.{arith}
 use borrow.Author.Tests.{eqb-true, ltb-true, ltb-false, lt-ltb}
-use lib.Dec.{eqb, ltb, lit<, lit≤}
+use lib.Dec.{eqb, ltb, lit<}
 use Rattle.grid.specs.declared.place.Grid.{Grid}
 use Rattle.grid.specs.Size.{binOf}
 use Rattle.grid.specs.Grid.{Accepted, binsOf, placeOf, colourPlace}
@@ -29,7 +29,6 @@ use Rattle.table.proofs.Soundness.{zeros-total, zeros-sound}
 use Rattle.boxes.specs.declared.sides.Bounds.{Bounds}
 use Rattle.sums.specs.Box.{boxSum}
 use Rattle.boxes.specs.Box.{Within}
-use Rattle.boxes.specs.Holds.{holds}
 use Rattle.boxes.proofs.Within.{InBox, bin-inside}
 use Rattle.boxes.proofs.Held.{holds-in, in-holds}
 use Rattle.sums.proofs.Laws.{bins-empty}
@@ -225,7 +224,7 @@ spreads-same {g} {v} {u} same s =
 
 -- ---- the theorem
 module _ {g : Grid} (a : Accepted g) (cs : List Weighted) (b : AllBytes cs) where
-  -- a table loaded from colours, of any total that a table has
+  -- the numbers that colours add up to, of any total that a table has
   pub from-colours : weightOf cs ≤ limit → SpreadsAbove g (loaded g cs zeros)
   from-colours most =
       record {
@@ -241,10 +240,6 @@ module _ {g : Grid} (a : Accepted g) (cs : List Weighted) (b : AllBytes cs) wher
             (colours-half (points g x cs) (points-positive g x cs)
             (two-colours (p .member) (q .member) (unlike (p .binned) (q .binned) n))));
       }
-
-  -- and of totals up to 200,000, which demand 3 asks for
-  pub few-colours : weightOf cs ≤ 200000 → SpreadsAbove g (loaded g cs zeros)
-  few-colours few = from-colours (le-trans few (lit≤ tt))
 
   -- and of the list that the calls leave behind
   pub table-above : weightOf cs ≤ limit → SpreadsAbove g (viewOf (tableOf g cs))

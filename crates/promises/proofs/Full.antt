@@ -1,15 +1,16 @@
--- How many boxes (Rules, Demands): of a table loaded from colours, as many as the smaller of k and the occupied bins.
+-- How many boxes (Rules, Demands): of "every table loaded from colours with a total of 1 to 4,294,967,295", as many as
+-- the smaller of k and the occupied bins.
 -- Assumes nothing.
 use mathlib.Core.Path.{_≡_, sym, ap, _∙_}
 use mathlib.Core.List.{List}
-use Prim.Native.Nat.{ℕ, _<_, min}
-use native.Mathlib.Omega.{arith}
+use Prim.Native.Nat.{ℕ, _≤_, _<_, min}
 use lib.Dec.{lit<}
 use Rattle.grid.specs.declared.place.Grid.{Grid}
 use Rattle.grid.specs.declared.place.Chosen.the-variants as chosen
 use Rattle.grid.specs.Grid.{gridOf, binsOf}
 use Rattle.grid.proofs.Places.{chose}
 use Rattle.table.specs.Table.{viewOf}
+use Rattle.table.specs.Sound.{limit, total}
 use Rattle.loader.specs.Load.{weightOf, ColourAt}
 use Rattle.loader.specs.Plan.{Plan, Filled, ends, leaves, BytesIn}
 use Rattle.loader.proofs.Order.{table-holds, table-total, table-sound, leaves-bytes}
@@ -35,8 +36,15 @@ module _ (b1 b2 b3 k : ℕ) (t : List ℕ) (b : Buffers) {g : Grid} (e : gridOf 
       ∙ ap (min k) (occupied-whole g (viewOf t)))
 
   module _ (p : Plan) (y : BytesIn p) (ran : ends b1 b2 b3 p ≡ Filled t) where
+    -- the total of what was loaded: the weights of all colours, and never past the limit
+    pub plan-total : (total g (viewOf t) ≡ weightOf (leaves p)) × (total g (viewOf t) ≤ limit)
+    plan-total =
+        let fits = filled-table b1 b2 b3 e p y ran in
+        let all = table-total g (chose b1 b2 b3 g e .accepted) (leaves p) (leaves-bytes p y) in
+        rw (fits .1) (all, rw all (fits .0))
+
     -- a cut of what was loaded is done, if anything was
-    pub plan-cuts : Lends g k b → 0 < weightOf (leaves p) → cutNumber b1 b2 b3 k t b ≡ 0
+    pub plan-cuts : Lends g k b → 1 ≤ total g (viewOf t) → cutNumber b1 b2 b3 k t b ≡ 0
     plan-cuts l some =
         let a = chose b1 b2 b3 g e .accepted in
         let fits = filled-table b1 b2 b3 e p y ran in
@@ -47,7 +55,7 @@ module _ (b1 b2 b3 k : ℕ) (t : List ℕ) (b : Buffers) {g : Grid} (e : gridOf 
           least = l .least;
           most = l .most;
           is-sound = table-sound g a (leaves p) bytes (fits .0);
-          some = omega (arith, some, table-total g a (leaves p) bytes);
+          some = rw (sym (fits .1)) some;
         }))
         (rw (fits .1)
         (record {
@@ -58,9 +66,8 @@ module _ (b1 b2 b3 k : ℕ) (t : List ℕ) (b : Buffers) {g : Grid} (e : gridOf 
           map = l .map;
         }))
 
-    -- as many boxes as the smaller of k and the occupied bins, at every total from 1 on; demand 3 asks for those up to
-    -- 200,000
-    pub full-loaded : Lends g k b → 0 < weightOf (leaves p) → cutRecord b1 b2 b3 k t b .boxes ≡ min k (occupiedBins g t)
+    -- "as many boxes as the smaller of k and the occupied bins"
+    pub full-loaded : Lends g k b → 1 ≤ total g (viewOf t) → cutRecord b1 b2 b3 k t b .boxes ≡ min k (occupiedBins g t)
     full-loaded l some =
         let fits = filled-table b1 b2 b3 e p y ran in
         full-above (plan-cuts l some)

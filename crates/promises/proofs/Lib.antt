@@ -10,6 +10,7 @@ pub mod Order
 pub mod Mapping
 pub mod Criterion
 pub mod Sign
+pub mod Half
 pub mod Listing
 pub mod Determined
 pub mod Finite

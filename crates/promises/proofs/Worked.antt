@@ -2,17 +2,21 @@
 -- computed on the definitions that the contracts of load and cut cite.
 -- Assumes nothing.
 use mathlib.Core.Path.{_≡_, refl}
-use mathlib.Core.Bool.{false}
+use mathlib.Core.Bool.{true, false}
 use mathlib.Core.List.{[], map, List·Memᴰ}
+use lib.IntN.{negsuc}
+use lib.Ieee.{fin}
 use Rattle.basics.specs.Answer.{refuse, whenDone}
 use Rattle.basics.specs.Range.{listFrom, sumFrom, allFrom}
 use Rattle.grid.specs.Size.{choices, shiftIn, shiftOf, binOf, spanOf}
 use Rattle.basics.specs.Dimension.{choose}
 use Rattle.grid.specs.Grid.{shiftAt, gridWith, gridOf, gridAnswer, onGrid, numberOn, binsOf, placeOf, binAt}
 use Rattle.grid.specs.Grid.{colourPlace}
+use Rattle.grid.specs.declared.place.Chosen.the-variants as chosen
 use Rattle.pixels.specs.Colour.{colourAt}
 use Rattle.table.specs.Table.{tableLen, isSized, viewOf, written}
-use Rattle.table.specs.Sound.{between, squaredSpan, plusSpan, squaresSpan, inBounds, spanAt, binSound, total, sound}
+use Rattle.table.specs.Sound.{limit, between, squaredSpan, plusSpan, squaresSpan, inBounds, spanAt, binSound}
+use Rattle.table.specs.Sound.{total, sound}
 use Rattle.loader.specs.Load.{share, adds, sumOver, weightOf, loaded, tableOf, weightedAt, batchOf, loadNumberOn}
 use Rattle.loader.specs.Load.{loadNumber, loadLater}
 use Rattle.boxes.specs.Box.{minAt, maxAt, lowSide, highSide}
@@ -38,6 +42,8 @@ use Rattle.promises.specs.Cases.{weighted, loadGives, at, nowhere, box, 
 use Rattle.promises.specs.Cases.{blackWhiteTable, blackWhiteMoments, reds, redsTable, redsMoments, fullCell}
 use Rattle.promises.specs.Cases.{sizeOne, cases}
 use Rattle.promises.specs.Listing.{grid8, fourPixels, fourTable}
+use Rattle.promises.specs.Criterion.{sumsSquared}
+use Rattle.promises.specs.Half.{computedSpread, grid2, loneBin, fineTable, farTable}
 use Rattle.promises.proofs.Each.{each}
 
 pub worked : map outcome cases ≡ map (λ c. c .expected) cases
@@ -71,3 +77,30 @@ unfolding fourPixels fourTable tableOf listFrom binOf choose shiftAt binsOf plac
     written
     share adds sumOver loaded weightedAt batchOf
 four-added = refl
+
+-- the two tables that `not-83` and `not-an-eighth` are about: each is sound, with the spread, the weight, the squares
+-- and the squared sums of its whole grid
+pub grid2-accepted : gridOf 2 2 2 ≡ chosen.Accepted grid2
+unfolding gridOf gridWith shiftOf shiftIn choices
+grid2-accepted = refl
+
+pub fine-worked : (sound limit grid2 fineTable ≡ true)
+    × (computedSpread grid2 fineTable (wholeOf grid2) ≡ fin true 6004799503160661 (negsuc 83))
+    × (boxSum grid2 fineTable (wholeOf grid2) 0 ≡ 3221225472)
+unfolding fineTable loneBin sumFrom allFrom binOf spanOf choose shiftAt binsOf placeOf binAt
+    between squaredSpan plusSpan squaresSpan inBounds spanAt binSound total sound sum3 binSum boxSum statsOf wholeOf quotientOf oneBin spreadOf
+    lib.Ieee.ofInt lib.Ieee.mul lib.Ieee.add lib.Ieee.sub lib.Ieee.div
+    lib.Ieee.round lib.Ieee.size lib.Ieee.span lib.Ieee.climb lib.Ieee.units lib.Ieee.odd lib.Count.trailingZeros
+fine-worked = (refl, refl, refl)
+
+pub far-worked : (sound limit grid2 farTable ≡ true)
+    × (computedSpread grid2 farTable (wholeOf grid2) ≡ fin true 3 (negsuc 1))
+    × (boxSum grid2 farTable (wholeOf grid2) 0 ≡ 3635542860)
+    × (boxSum grid2 farTable (wholeOf grid2) 4 ≡ 694346204755331)
+    × (sumsSquared grid2 farTable (wholeOf grid2) ≡ 2524325387066343710556102)
+unfolding farTable loneBin sumFrom allFrom binOf spanOf choose shiftAt binsOf placeOf binAt
+    between squaredSpan plusSpan squaresSpan inBounds spanAt binSound total sound sum3 binSum boxSum statsOf wholeOf quotientOf oneBin spreadOf
+    sumsSquared
+    lib.Ieee.ofInt lib.Ieee.mul lib.Ieee.add lib.Ieee.sub lib.Ieee.div
+    lib.Ieee.round lib.Ieee.size lib.Ieee.span lib.Ieee.climb lib.Ieee.units lib.Ieee.odd lib.Count.trailingZeros
+far-worked = (refl, refl, refl, refl, refl)

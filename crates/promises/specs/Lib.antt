@@ -7,5 +7,6 @@ pub mod Full
 pub mod Order
 pub mod Mapping
 pub mod Criterion
+pub mod Half
 pub mod Listing
 pub mod Finite

@@ -18,9 +18,8 @@ use Rattle.sums.specs.Box.{boxSum, statsOf}
 use Rattle.boxes.specs.Box.{Within}
 use Rattle.spread.specs.Spread.{exactQ, zeroOf, spreadOf}
 use Rattle.boxes.specs.Box.{oneBin}
-use Rattle.spread.proofs.Numbers.{Numbers, spreadAt, numbers, spread-is}
 use Rattle.spread.proofs.Sign.{above-zero}
-use Rattle.spread.proofs.Bound.{Closely, numbers-close}
+use Rattle.spread.proofs.Bound.{Closely, box-close}
 
 -- omega takes no number as large as 2 ^ 84 times these, so it stands as a variable
 scaled : (n v sq L : ℕ) → 2 * v + n ≤ 2 * (n * sq) → 2 * (v * L) + n * L ≤ 2 * (n * sq * L)
@@ -47,15 +46,13 @@ close-above x n v sq e false k p h =
     ]
 
 -- (n * sq - v) / n is one half or more
-pub numbers-above : {n a b c sq : ℕ} → Numbers n a b c sq → 2 * exactQ a b c + n ≤ 2 * (n * sq)
-    → T (lt zeroOf (spreadAt n a b c sq))
-numbers-above {n} {a} {b} {c} {sq} box h =
-    let r = numbers-close box in
-    close-above (spreadAt n a b c sq) n (exactQ a b c) sq h (r .sign) (r .parts) (r .value) (r .near)
-
-pub box-above : {g : Grid} {v : View} → Sound limit g v → {x : Bounds} → Within g x → 1 ≤ boxSum g v x 0 → oneBin x
-    ≡ false
-    → 2 * exactQ (boxSum g v x 1) (boxSum g v x 2) (boxSum g v x 3) + boxSum g v x
-    0 ≤ 2 * (boxSum g v x 0 * boxSum g v x 4)
+pub box-above : {g : Grid} {v : View} → Sound limit g v → {x : Bounds} → Within g x → 1 ≤ boxSum g v x 0
+    → oneBin x ≡ false
+    → 2 * exactQ (boxSum g v x 1) (boxSum g v x 2) (boxSum g v x 3) + boxSum g v x 0
+    ≤ 2 * (boxSum g v x 0 * boxSum g v x 4)
     → T (lt zeroOf (spreadOf x (statsOf g v x)))
-box-above {g} {v} s {x} w some e h = rw (spread-is g v x e) (numbers-above (numbers s w some) h)
+box-above {g} {v} s {x} w some e h =
+    let r = box-close s w some e in
+    close-above (spreadOf x (statsOf g v x)) (boxSum g v x 0)
+    (exactQ (boxSum g v x 1) (boxSum g v x 2) (boxSum g v x 3)) (boxSum g v x 4) h (r .sign) (r .parts) (r .value)
+    (r .near)

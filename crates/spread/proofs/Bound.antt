@@ -18,10 +18,15 @@ use lib.Ieee.{Float, nan, inf, fin, up, down, round, add}
 use lib.Ieee.Exact.{HasValue}
 use lib.Ieee.Scale.{grid, overflow}
 use lib.Ieee.Order.{drop}
+use Rattle.grid.specs.declared.place.Grid.{Grid}
+use Rattle.table.specs.Cell.{View}
 use Rattle.table.specs.Sound.{limit}
-use Rattle.sums.specs.Box.{whole}
-use Rattle.spread.specs.Spread.{squareOf, qOf, exactQ}
-use Rattle.spread.proofs.Numbers.{Numbers, quotAt, spreadAt, weight-value, squares-value}
+use Rattle.table.proofs.Soundness.{Sound}
+use Rattle.boxes.specs.declared.sides.Bounds.{Bounds}
+use Rattle.boxes.specs.Box.{Within, oneBin}
+use Rattle.sums.specs.Box.{whole, boxSum, statsOf}
+use Rattle.spread.specs.Spread.{squareOf, qOf, exactQ, spreadOf}
+use Rattle.spread.proofs.Numbers.{Numbers, quotAt, spreadAt, weight-value, squares-value, numbers, spread-is}
 use Rattle.spread.proofs.Rounding.{Is, is-of, of-whole, mul-of, add-whole, div-whole, less-of, less-under}
 use Rattle.spread.proofs.Rounding.{sub-mul}
 use Rattle.spread.proofs.Error.{F, U, Half, spot, spot-near, drop-le, spot-le, round-value, round-is-at}
@@ -373,5 +378,12 @@ module _ {n a b c sq : ℕ} (box : Numbers n a b c sq) where
             w-near v-few (sub-add-cancel (le-of-lt h));
       }
 
-  pub numbers-close : Close (spreadAt n a b c sq) n v sq
+  numbers-close : Close (spreadAt n a b c sq) n v sq
   numbers-close = elim (decLe w (sq * U)) [ yes h ↦ above h | no h ↦ under (lt-of-not-le h) ]
+
+-- ---- a box of a sound table
+pub box-close : {g : Grid} {v : View} → Sound limit g v → {x : Bounds} → Within g x → 1 ≤ boxSum g v x 0
+    → oneBin x ≡ false
+    → Close (spreadOf x (statsOf g v x)) (boxSum g v x 0) (exactQ (boxSum g v x 1) (boxSum g v x 2) (boxSum g v x 3))
+    (boxSum g v x 4)
+box-close {g} {v} s {x} w some e = rw (spread-is g v x e) (numbers-close (numbers s w some))

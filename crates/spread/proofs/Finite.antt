@@ -22,10 +22,10 @@ use Rattle.boxes.proofs.Within.{low-within, high-within}
 use Rattle.boxes.specs.Box.{oneBin}
 use Rattle.spread.specs.Spread.{spreadOf, scoreOf}
 use Rattle.spread.specs.Best.{Good}
-use Rattle.spread.proofs.Numbers.{numbers, quot-is, spread-is, spread-one}
+use Rattle.spread.proofs.Numbers.{numbers, quot-is, spread-one}
 use Rattle.spread.proofs.Rounding.{Is, add-of}
 use Rattle.spread.proofs.Error.{F, U, spot-le, round-is-at}
-use Rattle.spread.proofs.Bound.{Close, numbers-close, w-value, w-lt}
+use Rattle.spread.proofs.Bound.{Close, w-value, w-lt, box-close}
 
 -- what has a value is finite, and so is its opposite
 value-finite : (x : Float) (s : Bool) (a c : ℕ) → HasValue x s a c → T (finite x)
@@ -61,7 +61,7 @@ module _ {g : Grid} {v : View} (s : Sound limit g v) {x : Bounds} (w : Within g 
     where
       go : (t : Bool) → oneBin x ≡ t → T (finite (spreadOf x (statsOf g v x)))
       go true e = rw (spread-one g v x e) tt
-      go false e = rw (spread-is g v x e) (close-finite (numbers-close (numbers s w some)))
+      go false e = close-finite (box-close s w some e)
 
   pub score-finite : {y : Bounds} → Within g y → 1 ≤ boxSum g v y 0
       → T (finite (scoreOf (statsOf g v x) (statsOf g v y)))
