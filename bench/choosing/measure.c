@@ -103,7 +103,7 @@ static int cut(char **words)
     static uint8_t palette[3 * 256], boxes[6 * 256];
     static uint32_t counts[256];
     static double spreads[256];
-    struct seluvava_cut_answer answer = {0, 0};
+    struct seluvava_cut_answer answer = {0, 0, 0};
     double least = 0;
     for (int run = 0, runs = atoi(words[6]); run < runs; run++) {
         double start, took;
