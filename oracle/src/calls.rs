@@ -190,7 +190,11 @@ impl Calls {
         table.unchanged("the table after a cut")?;
         same("the number of a cut", said, number)?;
         if number != 0 {
-            same("what a refused cut answers", CutAnswer::refused(number), answered)?;
+            same(
+                "what a refused cut answers",
+                CutAnswer::refused(number),
+                answered,
+            )?;
             lent.unchanged()?;
         } else if let Some(Original { of_table, .. }) = original(self.grid) {
             let answer = of_table(&self.table, PaletteSize::new(self.k).ok_or("k")?);

@@ -62,25 +62,14 @@ fn total(boxes: usize, counts: &[u32]) -> u64
 }
 
 // Puts the whole listing at the start of a buffer, and answers its length.
-pub fn listing(
-    boxes: usize,
-    rounds: usize,
-    palette: &[u8],
-    counts: &[u32],
-    out: &mut [u8],
-) -> usize
+pub fn listing(boxes: usize, rounds: usize, palette: &[u8], counts: &[u32], out: &mut [u8]) -> usize
     requires { ⌜ RoomForLines boxes (now palette) (now counts) (now out) ⌝ }
     ensures ends { λ r. ⌜ r ≡ length (listingOf boxes rounds (now (palette .entry)) (now (counts .entry))) ⌝ }
     ensures later { λ r. ⌜ now (out .exit)
         ≡ withText (listingOf boxes rounds (now (palette .entry)) (now (counts .entry))) (now (out .entry)) ⌝ }
     ensures fits { λ r. ⌜ r ≤ length (now (out .exit)) ⌝ }
 {
-    let mut at = head(
-        out,
-        boxes as u64,
-        total(boxes, counts),
-        rounds as u64,
-    );
+    let mut at = head(out, boxes as u64, total(boxes, counts), rounds as u64);
     let mut i = 0;
     while i < boxes {
         at = box_line(out, at, i, palette, counts);
