@@ -66,9 +66,9 @@ extern "C" {
 #endif
 
 /* The version of the calls, the crate for Rust and the pages. */
-#define SELUVAVA_VERSION "0.2.0"
+#define SELUVAVA_VERSION "0.3.0"
 #define SELUVAVA_VERSION_MAJOR 0
-#define SELUVAVA_VERSION_MINOR 2
+#define SELUVAVA_VERSION_MINOR 3
 #define SELUVAVA_VERSION_PATCH 0
 
 /* The three sizes for RGB, as every call takes them: 8,192 bins. */
@@ -110,10 +110,18 @@ uint8_t seluvava_merge(size_t b1, size_t b2, size_t b3,
                        uint64_t *table, size_t table_len,
                        const uint64_t *second, size_t second_len);
 
-/* What a cut answers: its number, and how many boxes there are. A refusal has none. */
+/*
+ * What a cut answers: its number, how many boxes there are, and in how many rounds they were found. A refusal has none
+ * of either. `rounds` is new in version 0.3.0, and the structure is longer by it: what was compiled by the header of
+ * 0.2.0 has to be compiled anew.
+ *
+ * A round takes up the box with the largest spread: it divides the box, or finds that it can't be divided, or ends the
+ * cut, since no box is left to divide. So there are at least boxes - 1 rounds, and never more than 2 * k - 2.
+ */
 struct seluvava_cut_answer {
     uint8_t number;
     size_t boxes;
+    size_t rounds;
 };
 
 /*

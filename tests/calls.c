@@ -65,7 +65,7 @@ static const struct {
 
 static struct seluvava_cut_answer answer_of(enum call call, const struct asked *q, void *const *at)
 {
-    struct seluvava_cut_answer answer = {0, 0};
+    struct seluvava_cut_answer answer = {0, 0, 0};
     const size_t b1 = q->b1, b2 = q->b2, b3 = q->b3, *length = q->length;
     switch (call) {
     case LOAD:
@@ -151,10 +151,12 @@ static size_t box_cut(struct asked *q, size_t i)
 }
 
 /* All that follows from the boxes. Which they are, and whose spread is 0.0, the worked ones tell. */
-static void cut(struct asked *q, size_t boxes, const uint8_t *bounds, const double *spreads)
+static void cut(struct asked *q, struct seluvava_cut_answer answer, const uint8_t *bounds, const double *spreads)
 {
+    const size_t boxes = answer.boxes, rounds = answer.rounds;
     size_t bins = 0;
     check(1 <= boxes && boxes <= q->k, "%zu boxes", boxes);
+    check(boxes - 1 <= rounds && rounds <= 2 * q->k - 2, "%zu rounds", rounds);
     memcpy(q->boxes, bounds, 6 * boxes);
     memcpy(q->spreads, spreads, boxes * sizeof *spreads);
     memset(q->map, 255, q->length[MAP]);
@@ -219,8 +221,9 @@ static void *lend(size_t buffer, const void *content, size_t size, bool changes)
 }
 
 /* Asks a call, which must answer the number, and holds every lent byte to what must be there then: on a refusal what
- * was there before. What was asked with becomes what is there then. Answers the number of boxes. */
-static size_t ask(enum call call, struct asked *q, unsigned number, const char *what, const char *and)
+ * was there before. What was asked with becomes what is there then. Hands on what a cut answers. */
+static struct seluvava_cut_answer ask(enum call call, struct asked *q, unsigned number, const char *what,
+                                      const char *and)
 {
     void *at[BUFFERS] = {NULL};
     struct seluvava_cut_answer answer;
@@ -231,10 +234,10 @@ static size_t ask(enum call call, struct asked *q, unsigned number, const char *
                          number == 0 && (calls[call].changed & BIT(b)));
     answer = answer_of(call, q, at);
     check(answer.number == number, "answered %u and not %u", answer.number, number);
-    if (number != 0) check(answer.boxes == 0, "a refusal answered %zu boxes", answer.boxes);
+    if (number != 0) check(answer.boxes == 0 && answer.rounds == 0, "a refusal answered boxes or rounds");
     else if (call == LOAD) loaded(q);
     else if (call == MERGE) merged(q);
-    else if (call == CUT) cut(q, answer.boxes, at[BOXES], at[SPREADS]);
+    else if (call == CUT) cut(q, answer, at[BOXES], at[SPREADS]);
     else if (call == MAPPING) mapped(q);
     else painted(q);
     for (size_t b = 0; b < BUFFERS; b++) {
@@ -243,7 +246,7 @@ static size_t ask(enum call call, struct asked *q, unsigned number, const char *
         check(memcmp(at[b], (unsigned char *)q + buffers[b].at, size) == 0, "%s holds other bytes", buffers[b].name);
         if (way == EXACT) free(at[b]);
     }
-    return answer.boxes;
+    return answer;
 }
 
 /* ---- The worked boxes */
@@ -266,33 +269,33 @@ static const struct worked {
     size_t b1, b2, b3, k, loads;
     struct batch batches[2];
     unsigned number;
-    size_t boxes;
+    size_t boxes, rounds;
     uint8_t palette[9];
     uint32_t counts[3];
     uint8_t bounds[18];
     double spreads[3];
     const char *map;
 } worked[] = {
-    {"P1", 2, 2, 2, BLACK_WHITE, .k = 2, .boxes = 2, .palette = {0, 0, 0, 255, 255, 255}, .counts = {1, 3},
+    {"P1", 2, 2, 2, BLACK_WHITE, .k = 2, .boxes = 2, .rounds = 1, .palette = {0, 0, 0, 255, 255, 255}, .counts = {1, 3},
      .bounds = {0, 1, 0, 2, 0, 2, 1, 2, 0, 2, 0, 2}, .map = "00001111"},
-    {"P2", 2, 2, 2, BLACK_WHITE, .k = 3, .boxes = 2, .palette = {255, 255, 255, 0, 0, 0}, .counts = {3, 1},
+    {"P2", 2, 2, 2, BLACK_WHITE, .k = 3, .boxes = 2, .rounds = 2, .palette = {255, 255, 255, 0, 0, 0}, .counts = {3, 1},
      .bounds = {1, 2, 0, 2, 0, 2, 0, 1, 0, 2, 0, 2}, .map = "11110000"},
-    {"P3", 2, 2, 2, PLAIN(1, 10, 20, 30), .k = 4, .boxes = 1, .palette = {10, 20, 30}, .counts = {1},
+    {"P3", 2, 2, 2, PLAIN(1, 10, 20, 30), .k = 4, .boxes = 1, .rounds = 2, .palette = {10, 20, 30}, .counts = {1},
      .bounds = {0, 2, 0, 2, 0, 2}, .map = "00000000"},
-    {"P4", 2, 2, 2, PLAIN(2, 1, 0, 0, 2, 0, 0), .k = 256, .boxes = 1, .palette = {1, 0, 0}, .counts = {2},
+    {"P4", 2, 2, 2, PLAIN(2, 1, 0, 0, 2, 0, 0), .k = 256, .boxes = 1, .rounds = 2, .palette = {1, 0, 0}, .counts = {2},
      .bounds = {0, 2, 0, 2, 0, 2}, .map = "00000000"},
-    {"P5", 2, 2, 2, PLAIN(2, 0, 0, 0, 0, 128, 128), .k = 2, .boxes = 2, .palette = {0, 0, 0, 0, 128, 128},
+    {"P5", 2, 2, 2, PLAIN(2, 0, 0, 0, 0, 128, 128), .k = 2, .boxes = 2, .rounds = 1, .palette = {0, 0, 0, 0, 128, 128},
      .counts = {1, 1}, .bounds = {0, 2, 0, 1, 0, 2, 0, 2, 1, 2, 0, 2}, .map = "00110011"},
-    {"P6", 4, 4, 4, PLAIN(2, 0, 0, 0, 192, 0, 0), .k = 2, .boxes = 2, .palette = {0, 0, 0, 192, 0, 0},
+    {"P6", 4, 4, 4, PLAIN(2, 0, 0, 0, 192, 0, 0), .k = 2, .boxes = 2, .rounds = 1, .palette = {0, 0, 0, 192, 0, 0},
      .counts = {1, 1}, .bounds = {0, 1, 0, 4, 0, 4, 1, 4, 0, 4, 0, 4},
      .map = "0000000000000000111111111111111111111111111111111111111111111111"},
-    {"P7", 4, 2, 2, REDS, .k = 2, .boxes = 2, .palette = {32, 0, 0, 255, 0, 0}, .counts = {2, 1},
+    {"P7", 4, 2, 2, REDS, .k = 2, .boxes = 2, .rounds = 1, .palette = {32, 0, 0, 255, 0, 0}, .counts = {2, 1},
      .bounds = {0, 2, 0, 2, 0, 2, 2, 4, 0, 2, 0, 2}, .spreads = {2048, 0}, .map = "0000000011111111"},
-    {"P8", 4, 2, 2, REDS, .k = 3, .boxes = 3, .palette = {255, 0, 0, 0, 0, 0, 64, 0, 0}, .counts = {1, 1, 1},
-     .bounds = {2, 4, 0, 2, 0, 2, 0, 1, 0, 2, 0, 2, 1, 2, 0, 2, 0, 2}, .map = "1111222200000000"},
+    {"P8", 4, 2, 2, REDS, .k = 3, .boxes = 3, .rounds = 2, .palette = {255, 0, 0, 0, 0, 0, 64, 0, 0},
+     .counts = {1, 1, 1}, .bounds = {2, 4, 0, 2, 0, 2, 0, 1, 0, 2, 0, 2, 1, 2, 0, 2, 0, 2}, .map = "1111222200000000"},
     {"P9", 2, 2, 2, .loads = 2, .batches = {{0, 1, {9, 9, 9}, true, {LIMIT}}, {7, 1, {9, 9, 9}, true, {1}}}, .k = 1,
-     .boxes = 1, .palette = {9, 9, 9}, .counts = {LIMIT}, .bounds = {0, 2, 0, 2, 0, 2}, .spreads = {INFINITY},
-     .map = "00000000"},
+     .boxes = 1, .rounds = 0, .palette = {9, 9, 9}, .counts = {LIMIT}, .bounds = {0, 2, 0, 2, 0, 2},
+     .spreads = {INFINITY}, .map = "00000000"},
     {"P10, total 0", 2, 2, 2, .k = 2, .number = 8},
     {"P10, k=0", 2, 2, 2, BLACK_WHITE, .k = 0, .number = 2},
     {"P10, k=257", 2, 2, 2, BLACK_WHITE, .k = 257, .number = 2},
@@ -328,8 +331,10 @@ static void ask_worked(const struct worked *w)
         memcpy(q.weights, batch->weights, q.length[WEIGHTS] * sizeof *q.weights);
         ask(LOAD, &q, batch->number, w->name, "");
     }
-    const size_t boxes = ask(CUT, &q, w->number, w->name, "");
+    const struct seluvava_cut_answer answer = ask(CUT, &q, w->number, w->name, "");
+    const size_t boxes = answer.boxes;
     check(boxes == w->boxes, "%zu boxes and not %zu", boxes, w->boxes);
+    check(answer.rounds == w->rounds, "%zu rounds and not %zu", answer.rounds, w->rounds);
     check(memcmp(q.palette, w->palette, 3 * boxes) == 0, "another palette");
     check(memcmp(q.counts, w->counts, boxes * sizeof *q.counts) == 0, "other counts");
     check(memcmp(q.boxes, w->bounds, 6 * boxes) == 0, "other boxes");

@@ -2,6 +2,7 @@
  * Measures what docs/CHOOSING.md says. bench/choosing/run calls it:
  *
  *   measure cut FRAME.ppm B1 B2 B3 K OUT.ppm RUNS   paints with at most K colours; prints boxes and milliseconds
+ *   measure rounds FRAME.ppm B1 B2 B3 K             prints how many boxes and rounds a cut at K has
  *   measure error A.ppm B.ppm                       prints the mean squared difference of the components
  *   measure look FRAME.ppm B1 B2 B3                 prints the microseconds of a load of no colours into its table
  *   measure flips FRAME.ppm B1 B2 B3                prints how many of 5,000 tables with one bit flipped are sound
@@ -93,17 +94,38 @@ static uint8_t look(struct table t)
     return seluvava_load(t.b1, t.b2, t.b3, t.numbers, t.len, NULL, 0, false, NULL, 0);
 }
 
+/* What a cut is lent to write. */
+struct lent {
+    uint64_t *work;
+    uint8_t *map, palette[3 * 256], boxes[6 * 256];
+    uint32_t counts[256];
+    double spreads[256];
+};
+
+static struct lent lend(struct table t)
+{
+    struct lent l;
+    l.work = room(t.len, sizeof *l.work);
+    l.map = room(t.len / 5, 1);
+    return l;
+}
+
+static struct seluvava_cut_answer cut_table(struct table t, size_t k, struct lent *l)
+{
+    struct seluvava_cut_answer answer =
+        seluvava_cut(t.b1, t.b2, t.b3, k, t.numbers, t.len, l->work, t.len, l->palette, sizeof l->palette, l->counts,
+                     256, l->map, t.len / 5, l->boxes, sizeof l->boxes, l->spreads, 256);
+    if (answer.number != 0) fail("cut");
+    return answer;
+}
+
 static int cut(char **words)
 {
     struct frame f = read_frame(words[0]);
     struct table t = empty_table(words + 1);
-    size_t k = strtoul(words[4], NULL, 10), bins = t.len / 5;
-    uint64_t *work = room(t.len, sizeof *work);
-    uint8_t *map = room(bins, 1), *frame = room(f.bytes, 1);
-    static uint8_t palette[3 * 256], boxes[6 * 256];
-    static uint32_t counts[256];
-    static double spreads[256];
-    struct seluvava_cut_answer answer = {0, 0};
+    size_t k = strtoul(words[4], NULL, 10), boxes = 0;
+    struct lent l = lend(t);
+    uint8_t *frame = room(f.bytes, 1);
     double least = 0;
     for (int run = 0, runs = atoi(words[6]); run < runs; run++) {
         double start, took;
@@ -111,17 +133,26 @@ static int cut(char **words)
         start = seconds();
         memset(t.numbers, 0, t.len * sizeof *t.numbers);
         if (load(t, f) != 0) fail("load");
-        answer = seluvava_cut(t.b1, t.b2, t.b3, k, t.numbers, t.len, work, t.len, palette, sizeof palette, counts, 256,
-                              map, bins, boxes, sizeof boxes, spreads, 256);
-        if (answer.number != 0) fail("cut");
-        if (seluvava_paint(t.b1, t.b2, t.b3, map, bins, palette, 3 * answer.boxes, frame, f.bytes, 0, f.bytes / 3) != 0)
+        boxes = cut_table(t, k, &l).boxes;
+        if (seluvava_paint(t.b1, t.b2, t.b3, l.map, t.len / 5, l.palette, 3 * boxes, frame, f.bytes, 0, f.bytes / 3))
             fail("paint");
         took = seconds() - start;
         if (run == 0 || took < least) least = took;
     }
     f.colours = frame;
     write_frame(words[5], f);
-    printf("%zu %.1f\n", answer.boxes, 1e3 * least);
+    printf("%zu %.1f\n", boxes, 1e3 * least);
+    return 0;
+}
+
+static int rounds(char **words)
+{
+    struct table t = empty_table(words + 1);
+    struct lent l = lend(t);
+    struct seluvava_cut_answer answer;
+    if (load(t, read_frame(words[0])) != 0) fail("load");
+    answer = cut_table(t, strtoul(words[4], NULL, 10), &l);
+    printf("%zu %zu\n", answer.boxes, answer.rounds);
     return 0;
 }
 
@@ -189,7 +220,8 @@ int main(int argc, char **argv)
         int words;
         int (*run)(char **);
     } modes[] = {
-        {"cut", 7, cut}, {"error", 2, error}, {"look", 4, time_look}, {"flips", 4, flips}, {"swapped", 1, swapped},
+        {"cut", 7, cut},        {"rounds", 5, rounds}, {"error", 2, error},
+        {"look", 4, time_look}, {"flips", 4, flips},   {"swapped", 1, swapped},
     };
     for (size_t i = 0; i < sizeof modes / sizeof *modes; i++)
         if (argc == modes[i].words + 2 && strcmp(argv[1], modes[i].name) == 0) return modes[i].run(argv + 2);

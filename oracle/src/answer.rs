@@ -1,7 +1,9 @@
 //! Asks the original for its answer to a whole input.
 use crate::{
     IndexedColorMap, PaletteCounts, PaletteSize,
+    model::boxes_and_rounds,
     original::u8::{BinnerU8x3, WuU8x3},
+    port::CutAnswer,
 };
 
 /// A box with its spread.
@@ -20,14 +22,26 @@ impl PartialEq for BoxSpread {
     }
 }
 
-/// All that the original says of one input.
+/// All that the original says of one input, and how many rounds its loop has.
 #[derive(Clone, Debug, PartialEq)]
 pub struct Answer {
     pub moments: Vec<u64>,
     pub boxes: Vec<BoxSpread>,
+    pub rounds: usize,
     pub palette: Vec<[u8; 3]>,
     pub counts: Vec<u32>,
     pub map: Vec<u8>,
+}
+
+impl Answer {
+    /// What a call answers that finds the same.
+    pub fn of_call(&self) -> CutAnswer {
+        CutAnswer {
+            number: 0,
+            boxes: self.boxes.len(),
+            rounds: self.rounds,
+        }
+    }
 }
 
 /// What becomes of a frame: the index of each pixel, and the frame painted.
@@ -70,6 +84,19 @@ fn shift(size: usize) -> u32 {
     8 - size.ilog2()
 }
 
+/// How often the loop takes out the top. The original does not count it: the loop of the rules is run over its moments,
+/// and has to end with its boxes.
+fn rounds_of(grid: [usize; 3], moments: &[u64], k: PaletteSize, boxes: &[BoxSpread]) -> usize {
+    let (again, rounds) = boxes_and_rounds(grid, moments, k.into());
+    let again = again.iter().map(|x| BoxSpread {
+        min: x.min.map(|bin| bin as u8),
+        max: x.max.map(|bin| bin as u8),
+        spread: x.spread,
+    });
+    assert!(again.eq(boxes.iter().copied()), "the loop of the rules");
+    rounds
+}
+
 /// What one run of the original says, by all of its ways out, which have to agree; and what becomes of a frame.
 fn of_run<const B1: usize, const B2: usize, const B3: usize>(
     run: &WuU8x3<[u8; 3], B1, B2, B3>,
@@ -81,6 +108,7 @@ fn of_run<const B1: usize, const B2: usize, const B3: usize>(
         max: b.0.max,
         spread: b.1,
     });
+    let (boxes, moments) = (boxes.collect::<Vec<_>>(), run.moments());
     let (color_map, counts) = run.color_map_and_counts(k);
     let palette = run.palette(k);
     assert!(run.palette_and_counts(k) == (palette.clone(), counts.clone()));
@@ -96,8 +124,9 @@ fn of_run<const B1: usize, const B2: usize, const B3: usize>(
         }
     }
     let answer = Answer {
-        moments: run.moments(),
-        boxes: boxes.collect(),
+        rounds: rounds_of([B1, B2, B3], &moments, k, &boxes),
+        moments,
+        boxes,
         palette: palette.to_vec(),
         counts: counts.to_vec(),
         map,

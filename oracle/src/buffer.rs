@@ -3,7 +3,7 @@ use crate::{
     answer::Answer,
     case::Case,
     numbers::Lengths,
-    port::{Grid, Lent, Port},
+    port::{CutAnswer, Grid, Lent, Port},
     random::Random,
 };
 use std::fmt::Debug;
@@ -131,7 +131,7 @@ impl Buffers {
         }
     }
 
-    pub fn cut(&mut self, port: &dyn Port, grid: Grid, k: usize, table: &[u64]) -> (u8, usize) {
+    pub fn cut(&mut self, port: &dyn Port, grid: Grid, k: usize, table: &[u64]) -> CutAnswer {
         let lent = Lent {
             work: self.work.lend(),
             palette: self.palette.lend(),

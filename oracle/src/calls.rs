@@ -7,7 +7,7 @@ use crate::{
     damage::Damage,
     numbers::{self, Lengths},
     original::palette_counts::CreatePaletteCountsErrorReason as Reason,
-    port::{Band, Grid, Port},
+    port::{Band, CutAnswer, Grid, Port},
     random::Random,
     tally::Tally,
 };
@@ -185,15 +185,20 @@ impl Calls {
         let said = numbers::cut(self.grid, self.k, &self.table, self.lengths);
         let mut table = Buffer::of(&self.table, r);
         let mut lent = Buffers::random(self.lengths, r);
-        let (number, boxes) = lent.cut(port, self.grid, self.k, table.see());
+        let answered = lent.cut(port, self.grid, self.k, table.see());
+        let CutAnswer { number, .. } = answered;
         table.unchanged("the table after a cut")?;
         same("the number of a cut", said, number)?;
         if number != 0 {
-            same("the boxes of a refused cut", 0, boxes)?;
+            same(
+                "what a refused cut answers",
+                CutAnswer::refused(number),
+                answered,
+            )?;
             lent.unchanged()?;
         } else if let Some(Original { of_table, .. }) = original(self.grid) {
             let answer = of_table(&self.table, PaletteSize::new(self.k).ok_or("k")?);
-            same("the boxes of a cut", answer.boxes.len(), boxes)?;
+            same("what a cut answers", answer.of_call(), answered)?;
             lent.expect(&answer)?;
         }
         Ok(number)

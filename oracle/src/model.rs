@@ -2,7 +2,7 @@
 //! It stands in the library's place where a mutant is to be caught, and shows whether a difference is the rules'.
 use crate::{
     numbers::{self, Lengths, added, bins, place},
-    port::{Band, Grid, Lent, Port},
+    port::{Band, CutAnswer, Grid, Lent, Port},
 };
 
 /// Min inclusive, max exclusive, and the spread.
@@ -94,8 +94,9 @@ impl Cutting<'_> {
         best.map(|(position, _)| position)
     }
 
-    /// "While there are fewer than k boxes, take out the top."
-    fn boxes(&self, k: usize) -> Vec<Item> {
+    /// "While there are fewer than k boxes, take out the top." The boxes, and how often that was done.
+    fn boxes(&self, k: usize) -> (Vec<Item>, usize) {
+        let mut rounds = 0;
         let mut heap = vec![Item {
             min: [0; 3],
             max: self.grid,
@@ -103,6 +104,7 @@ impl Cutting<'_> {
         }];
         while heap.len() < k {
             let top = take_out(&mut heap);
+            rounds += 1;
             if top.spread <= 0.0 {
                 put_in(&mut heap, top);
                 break;
@@ -117,8 +119,13 @@ impl Cutting<'_> {
                 put_in(&mut heap, Item { spread: 0.0, ..top });
             }
         }
-        heap
+        (heap, rounds)
     }
+}
+
+/// The loop over the moments of a table: its boxes in order, and its rounds.
+pub fn boxes_and_rounds(grid: Grid, moments: &[u64], k: usize) -> (Vec<Item>, usize) {
+    Cutting { grid, moments }.boxes(k)
 }
 
 /// "append, then climb while strictly greater than the parent"
@@ -211,7 +218,7 @@ impl Port for Model {
         number
     }
 
-    fn cut(&self, grid: Grid, k: usize, table: &[u64], lent: Lent<'_>) -> (u8, usize) {
+    fn cut(&self, grid: Grid, k: usize, table: &[u64], lent: Lent<'_>) -> CutAnswer {
         let lengths = Lengths {
             work: lent.work.len(),
             palette: lent.palette.len(),
@@ -222,14 +229,14 @@ impl Port for Model {
         };
         let number = numbers::cut(grid, k, table, lengths);
         if number != 0 {
-            return (number, 0);
+            return CutAnswer::refused(number);
         }
         moments(grid, table, lent.work);
         let cutting = Cutting {
             grid,
             moments: lent.work,
         };
-        let boxes = cutting.boxes(k);
+        let (boxes, rounds) = cutting.boxes(k);
         let [_, b2, b3] = grid;
         for (i, item) in boxes.iter().enumerate() {
             let [n, sums @ .., _] = cutting.sum(item.min, item.max);
@@ -247,7 +254,11 @@ impl Port for Model {
                 }
             }
         }
-        (0, boxes.len())
+        CutAnswer {
+            number,
+            boxes: boxes.len(),
+            rounds,
+        }
     }
 
     fn map(

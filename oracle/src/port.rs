@@ -19,7 +19,26 @@ pub struct Band {
     pub pixels: usize,
 }
 
-/// Each call answers its number; a cut also the number of boxes.
+/// What a cut answers: its number, and how many boxes and rounds there are.
+#[derive(Clone, Copy, Debug, PartialEq, Eq)]
+pub struct CutAnswer {
+    pub number: u8,
+    pub boxes: usize,
+    pub rounds: usize,
+}
+
+impl CutAnswer {
+    /// "A refused cut hands back its answer, zero boxes, zero rounds"
+    pub fn refused(number: u8) -> Self {
+        Self {
+            number,
+            boxes: 0,
+            rounds: 0,
+        }
+    }
+}
+
+/// Each call answers its number, and a cut its boxes and rounds too.
 pub trait Port {
     /// How many bins a grid has and how many numbers its table, or twice 0 where a size is refused.
     fn sizes(&self, grid: Grid) -> (usize, usize);
@@ -35,7 +54,7 @@ pub trait Port {
 
     fn merge(&self, grid: Grid, table: &mut [u64], second: &[u64]) -> u8;
 
-    fn cut(&self, grid: Grid, k: usize, table: &[u64], lent: Lent<'_>) -> (u8, usize);
+    fn cut(&self, grid: Grid, k: usize, table: &[u64], lent: Lent<'_>) -> CutAnswer;
 
     fn map(
         &self,

@@ -5,7 +5,7 @@ use crate::{
     batches::{Batch, merged, split},
     buffer::{Buffer, Buffers, Differs, fitting, same},
     case::Case,
-    port::{Band, Grid, Port},
+    port::{Band, CutAnswer, Grid, Port},
     random::Random,
     tally::Tally,
 };
@@ -63,11 +63,10 @@ impl Whole<'_> {
         same(
             "as many boxes as the smaller of k and the occupied bins",
             k.min(occupied),
-            answered.1,
+            answered.boxes,
         )?;
-        let boxes = told.map(|t| t.answer.boxes.len());
-        let expected = boxes.map_or((8, 0), |boxes| (0, boxes));
-        same("number and boxes of a cut", expected, answered)?;
+        let expected = told.map_or(CutAnswer::refused(8), |t| t.answer.of_call());
+        same("what a cut answers", expected, answered)?;
         match told {
             Some(told) => lent.expect(&told.answer)?,
             None => lent.unchanged()?,

@@ -6,7 +6,7 @@ use oracle::{
     classes::{CLASSES, Cases, Grids, Maker},
     compare::check,
     model::Model,
-    port::{Band, Grid, Lent, Port},
+    port::{Band, CutAnswer, Grid, Lent, Port},
     random::Random,
     runner::run,
     tally::Tally,
@@ -63,7 +63,7 @@ impl Port for Faulty {
         Model.merge(grid, table, second)
     }
 
-    fn cut(&self, grid: Grid, k: usize, table: &[u64], lent: Lent<'_>) -> (u8, usize) {
+    fn cut(&self, grid: Grid, k: usize, table: &[u64], lent: Lent<'_>) -> CutAnswer {
         let Lent {
             work,
             palette,
@@ -81,7 +81,7 @@ impl Port for Faulty {
             spreads,
         };
         let answer = Model.cut(grid, k, table, again);
-        if k >= 3 && answer.1 >= 2 {
+        if k >= 3 && answer.boxes >= 2 {
             counts[1] += 1;
         }
         answer

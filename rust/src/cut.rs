@@ -61,17 +61,19 @@ impl ColourBox {
 /// Palette, counts and boxes have the same order and the same length, which is at least 1 and at most k.
 #[derive(Clone, PartialEq)]
 pub struct Cut {
+    rounds: usize,
     counts: Vec<u32>,
     boxes: Vec<ColourBox>,
     colour_map: ColourMap,
 }
 
-/// The parts may be long: grid and number of boxes are printed in their place.
+/// The parts may be long: grid and the numbers of boxes and rounds are printed in their place.
 impl fmt::Debug for Cut {
     fn fmt(&self, f: &mut fmt::Formatter<'_>) -> fmt::Result {
         f.debug_struct("Cut")
             .field("grid", &self.colour_map.grid().sizes())
             .field("boxes", &self.boxes.len())
+            .field("rounds", &self.rounds)
             .finish_non_exhaustive()
     }
 }
@@ -93,6 +95,24 @@ impl Cut {
     #[must_use]
     pub fn boxes(&self) -> &[ColourBox] {
         &self.boxes
+    }
+
+    /// How often the box with the largest spread was taken up: to be divided, to be found impossible to divide, or, the
+    /// last time, to end the cut, since no box was left to divide. The time of a cut goes by it.
+    ///
+    /// It is one less than the number of boxes or more, and at most 2·k − 2.
+    ///
+    /// ```
+    /// use seluvava::{Grid, Table};
+    ///
+    /// let mut table = Table::new(Grid::rgb());
+    /// table.load(&[[10, 20, 30]])?;
+    /// assert_eq!(table.cut(4)?.rounds(), 2);
+    /// # Ok::<(), seluvava::Refused>(())
+    /// ```
+    #[must_use]
+    pub fn rounds(&self) -> usize {
+        self.rounds
     }
 
     /// The index and the colour for each pixel of a frame.
@@ -183,11 +203,12 @@ impl Table {
             boxes: &mut bounds,
             spreads: &mut spreads,
         };
-        let boxes = sys::cut(grid, k, self.numbers(), lent)?;
+        let sys::Done { boxes, rounds } = sys::cut(grid, k, self.numbers(), lent)?;
         palette.truncate(boxes);
         counts.truncate(boxes);
         let boxes = bounds.into_iter().zip(spreads).take(boxes);
         Ok(Cut {
+            rounds,
             counts,
             boxes: boxes
                 .map(|(bounds, spread)| ColourBox::of(bounds, spread))

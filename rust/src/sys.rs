@@ -82,8 +82,14 @@ pub struct Lent<'a> {
     pub spreads: &'a mut [f64],
 }
 
-/// Cuts a table into at most k boxes, and answers how many there are.
-pub fn cut(grid: Grid, k: usize, table: &[u64], lent: Lent<'_>) -> Result<usize, Refused> {
+/// How many boxes and rounds a cut has that is done.
+pub struct Done {
+    pub boxes: usize,
+    pub rounds: usize,
+}
+
+/// Cuts a table into at most k boxes.
+pub fn cut(grid: Grid, k: usize, table: &[u64], lent: Lent<'_>) -> Result<Done, Refused> {
     let [b1, b2, b3] = grid.sizes();
     let palette = lent.palette.as_flattened_mut();
     let boxes = lent.boxes.as_flattened_mut();
@@ -111,7 +117,10 @@ pub fn cut(grid: Grid, k: usize, table: &[u64], lent: Lent<'_>) -> Result<usize,
         )
     };
     Refused::unless_done(answer.number)?;
-    Ok(answer.boxes)
+    Ok(Done {
+        boxes: answer.boxes,
+        rounds: answer.rounds,
+    })
 }
 
 /// Pixels of a frame that follow each other.

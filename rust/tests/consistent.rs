@@ -43,6 +43,7 @@ fn check(grid: Grid, pixels: &[[u8; 3]], k: usize) -> Result<(), Refused> {
     let occupied: BTreeSet<[u8; 3]> = pixels.iter().map(|&pixel| bins(pixel, grid)).collect();
     let number = occupied.len().min(k);
     assert_eq!((cut.boxes().len(), cut.counts().len()), (number, number));
+    assert!((number - 1..=2 * k - 2).contains(&cut.rounds()));
     assert_eq!(
         (map.grid(), map.entries().len(), map.palette()),
         (grid, grid.bins(), cut.palette())

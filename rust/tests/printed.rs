@@ -16,7 +16,7 @@ fn printed_without_the_numbers() -> Result<(), Refused> {
     let expected = [
         "Table { grid: [128, 128, 128], total: 3, .. }",
         "WorkTable { numbers: 10485760 }",
-        "Cut { grid: [128, 128, 128], boxes: 2, .. }",
+        "Cut { grid: [128, 128, 128], boxes: 2, rounds: 2, .. }",
         "ColourMap { grid: [128, 128, 128], colours: 2, .. }",
     ];
     assert_eq!(printed, expected);

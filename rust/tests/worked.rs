@@ -20,6 +20,7 @@ struct Case {
 /// What a cut says, each box as the bounds of its red, green and blue and its spread.
 #[derive(Debug, PartialEq)]
 struct Answer {
+    rounds: usize,
     palette: Vec<[u8; 3]>,
     counts: Vec<u32>,
     boxes: Vec<([[u8; 2]; 3], f64)>,
@@ -33,6 +34,7 @@ fn number_of<T>(answer: &Result<T, Refused>) -> u8 {
 fn answer_of(cut: &Cut) -> Answer {
     let bounds = |min: [u8; 3], max: [u8; 3]| [0, 1, 2].map(|i| [min[i], max[i]]);
     Answer {
+        rounds: cut.rounds(),
         palette: cut.palette().to_vec(),
         counts: cut.counts().to_vec(),
         boxes: cut
@@ -85,8 +87,9 @@ fn cases() -> Vec<Case> {
     let reds = || vec![plain(&[[0, 0, 0], [64, 0, 0], [255, 0, 0]])];
     // Of the dark colours, both in one bin, the spread is 1 - 1/2.
     let two_dark_and_white = || vec![plain(&[[0, 0, 0], [1, 0, 0], [255, 255, 255]])];
-    let dark_box_of_spread = |spread| {
+    let dark_box_of_spread = |spread, rounds| {
         Ok(Answer {
+            rounds,
             palette: vec![[0, 0, 0], [255, 255, 255]],
             counts: vec![2, 1],
             boxes: vec![
@@ -110,6 +113,7 @@ fn cases() -> Vec<Case> {
             loads: black_and_white(),
             k: 2,
             expected: Ok(Answer {
+                rounds: 1,
                 palette: vec![[0, 0, 0], [255, 255, 255]],
                 counts: vec![1, 3],
                 boxes: vec![
@@ -125,6 +129,7 @@ fn cases() -> Vec<Case> {
             loads: black_and_white(),
             k: 3,
             expected: Ok(Answer {
+                rounds: 2,
                 palette: vec![[255, 255, 255], [0, 0, 0]],
                 counts: vec![3, 1],
                 boxes: vec![
@@ -140,6 +145,7 @@ fn cases() -> Vec<Case> {
             loads: vec![plain(&[[10, 20, 30]])],
             k: 4,
             expected: Ok(Answer {
+                rounds: 2,
                 palette: vec![[10, 20, 30]],
                 counts: vec![1],
                 boxes: vec![([[0, 2], [0, 2], [0, 2]], 0.0)],
@@ -152,6 +158,7 @@ fn cases() -> Vec<Case> {
             loads: vec![plain(&[[1, 0, 0], [2, 0, 0]])],
             k: 256,
             expected: Ok(Answer {
+                rounds: 2,
                 palette: vec![[1, 0, 0]],
                 counts: vec![2],
                 boxes: vec![([[0, 2], [0, 2], [0, 2]], 0.0)],
@@ -164,6 +171,7 @@ fn cases() -> Vec<Case> {
             loads: vec![plain(&[[0, 0, 0], [0, 128, 128]])],
             k: 2,
             expected: Ok(Answer {
+                rounds: 1,
                 palette: vec![[0, 0, 0], [0, 128, 128]],
                 counts: vec![1, 1],
                 boxes: vec![
@@ -179,6 +187,7 @@ fn cases() -> Vec<Case> {
             loads: vec![plain(&[[0, 0, 0], [192, 0, 0]])],
             k: 2,
             expected: Ok(Answer {
+                rounds: 1,
                 palette: vec![[0, 0, 0], [192, 0, 0]],
                 counts: vec![1, 1],
                 boxes: vec![
@@ -194,6 +203,7 @@ fn cases() -> Vec<Case> {
             loads: reds(),
             k: 2,
             expected: Ok(Answer {
+                rounds: 1,
                 palette: vec![[32, 0, 0], [255, 0, 0]],
                 counts: vec![2, 1],
                 boxes: vec![
@@ -209,6 +219,7 @@ fn cases() -> Vec<Case> {
             loads: reds(),
             k: 3,
             expected: Ok(Answer {
+                rounds: 2,
                 palette: vec![[255, 0, 0], [0, 0, 0], [64, 0, 0]],
                 counts: vec![1, 1, 1],
                 boxes: vec![
@@ -228,6 +239,7 @@ fn cases() -> Vec<Case> {
             ],
             k: 1,
             expected: Ok(Answer {
+                rounds: 0,
                 palette: vec![[9, 9, 9]],
                 counts: vec![4_294_967_295],
                 boxes: vec![([[0, 2], [0, 2], [0, 2]], f64::INFINITY)],
@@ -239,14 +251,14 @@ fn cases() -> Vec<Case> {
             sizes: [2, 2, 2],
             loads: two_dark_and_white(),
             k: 2,
-            expected: dark_box_of_spread(0.5),
+            expected: dark_box_of_spread(0.5, 1),
         },
         Case {
             name: "a box that cannot be cut, after the loop tried",
             sizes: [2, 2, 2],
             loads: two_dark_and_white(),
             k: 3,
-            expected: dark_box_of_spread(0.0),
+            expected: dark_box_of_spread(0.0, 3),
         },
         refused("P10, total 0", [2, 2, 2], vec![], 2, 8),
         refused("P10, k = 0", [2, 2, 2], black_and_white(), 0, 2),

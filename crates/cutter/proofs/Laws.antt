@@ -48,7 +48,7 @@ module _ (b1 b2 b3 k : ℕ) (t : List ℕ) (b : Buffers) where
           of (cutNumberOn limit g k (lengthsRight g k t b) (viewOf t)) (doneRecord (boxesOf g (viewOf t) k)) refl
       go chosen.Refused = refl
 
-  -- "A refusal writes nothing. A refused cut hands back its answer, zero boxes and box places all zero."
+  -- "A refusal writes nothing. A refused cut hands back its answer, zero boxes, zero rounds and box places all zero."
   pub cut-refuses : {n : ℕ} → cutNumber b1 b2 b3 k t b ≡ suc n
       → (cutRecord b1 b2 b3 k t b ≡ refusedRecord (suc n)) × (cutLater b1 b2 b3 k t b ≡ b)
   unfolding cutRecord cutLater cutNumber recordOn numberOn onGrid gridAnswer whenDone

@@ -38,14 +38,14 @@ pub record CanCut (limit : ℕ) (g : Grid) (k : ℕ) (v : View) : Type 0 where
   pub is-sound : sound limit g v ≡ true
   pub some : 0 < total g v
 
--- ---- the record: "its answer, the number of boxes, and the boxes with their spreads in order; places past the last
--- box are all zeros"
--- "A refused cut hands back its answer, zero boxes and box places all zero."
+-- ---- the record: "its answer, the number of boxes, the number of rounds, and the boxes with their spreads in order;
+-- places past the last box are all zeros"
+-- "A refused cut hands back its answer, zero boxes, zero rounds and box places all zero."
 unfoldable pub refusedRecord : ℕ → CutRecord
-refusedRecord n = record { number = n; boxes = 0; places = replicate 256 (withZero noBox) }
+refusedRecord n = record { number = n; boxes = 0; rounds = 0; places = replicate 256 (withZero noBox) }
 
 unfoldable pub doneRecord : Boxes → CutRecord
-doneRecord b = record { number = 0; boxes = b .boxes; places = b .places }
+doneRecord b = record { number = 0; boxes = b .boxes; rounds = b .rounds; places = b .places }
 
 unfoldable pub recordOn : ℕ → Grid → ℕ → Bool → View → CutRecord
 recordOn most g k fit v =

@@ -23,10 +23,12 @@ ghost use Rattle.rounds.specs.Loop.{boxesOf};
 ghost use Rattle.cutter.specs.Cut.{buffers, lengthsOf, longEnough, cutNumberOn, CanCut, LengthsFit};
 ghost use Rattle.cutter.specs.Cut.{refusedRecord, doneRecord, laterOn, cutRecord, cutLater};
 
-// What a cut hands back: its answer, the number of boxes, and a place for each box with its spread.
+// What a cut hands back: its answer, the number of boxes, the number of rounds, and a place for each box with its
+// spread.
 pub struct CutRecord {
     pub number: u8,
     pub boxes: usize,
+    pub rounds: usize,
     pub places: [BoxSpread; 256],
 }
 
@@ -50,6 +52,7 @@ fn refused(number: u8) -> CutRecord
     CutRecord {
         number,
         boxes: 0,
+        rounds: 0,
         places,
     }
 }
@@ -62,6 +65,7 @@ fn done(b: Boxes) -> CutRecord
     CutRecord {
         number: 0,
         boxes: b.boxes,
+        rounds: b.rounds,
         places,
     }
 }

@@ -70,6 +70,6 @@ module _ (t : List ℕ) {r : CutRecord} (e : r ≡ cutRecord 8 8 8 16 t lentZero
   cut-refused h = rw (← e) (when-refused (r .number) _ _ h)
 
   pub cut-listed : {later : Buffers} → later ≡ cutLater 8 8 8 16 t lentZeros → r .number ≡ 0
-      → cutText t ≡ listingOf (r .boxes) (later .results .palette) (later .results .counts)
+      → cutText t ≡ listingOf (r .boxes) (r .rounds) (later .results .palette) (later .results .counts)
   unfolding cutText
   cut-listed l h = rw (← e, ← l) (when-done (r .number) _ _ h)

@@ -46,7 +46,7 @@ unfoldable pub cutText : List ℕ → List ℕ
 cutText t =
     let r = cutRecord 8 8 8 16 t lentZeros in
     let later = cutLater 8 8 8 16 t lentZeros in
-    whenDone (r .number) (listingOf (r .boxes) (later .results .palette) (later .results .counts))
+    whenDone (r .number) (listingOf (r .boxes) (r .rounds) (later .results .palette) (later .results .counts))
     (refusedOf (r .number))
 
 -- "On a refusal it writes only `refused N`": the lowest refusal of the loads, or else that of the cut

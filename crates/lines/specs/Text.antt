@@ -19,12 +19,15 @@ unfoldable pub decimalOf : ℕ → List ℕ
 decimalOf n = digitsWithin (suc n) n
 
 -- ---- lines
--- the bytes of the words `boxes`, `total` and `refused`, with the spaces around them
+-- the bytes of the words `boxes`, `total`, `rounds` and `refused`, with the spaces around them
 unfoldable pub boxesWord : List ℕ
 boxesWord = 98 ∷ 111 ∷ 120 ∷ 101 ∷ 115 ∷ 32 ∷ []
 
 unfoldable pub totalWord : List ℕ
 totalWord = 32 ∷ 116 ∷ 111 ∷ 116 ∷ 97 ∷ 108 ∷ 32 ∷ []
+
+unfoldable pub roundsWord : List ℕ
+roundsWord = 32 ∷ 114 ∷ 111 ∷ 117 ∷ 110 ∷ 100 ∷ 115 ∷ 32 ∷ []
 
 unfoldable pub refusedWord : List ℕ
 refusedWord = 114 ∷ 101 ∷ 102 ∷ 117 ∷ 115 ∷ 101 ∷ 100 ∷ 32 ∷ []
@@ -32,9 +35,14 @@ refusedWord = 114 ∷ 101 ∷ 102 ∷ 117 ∷ 115 ∷ 101 ∷ 100 ∷ 32 ∷ []
 unfoldable pub newline : List ℕ
 newline = 10 ∷ []
 
--- the first line: the number of boxes, and the total
-unfoldable pub headOf : ℕ → ℕ → List ℕ
-headOf boxes total = boxesWord ++ decimalOf boxes ++ totalWord ++ decimalOf total ++ newline
+-- a number after its name
+unfoldable pub namedOf : List ℕ → ℕ → List ℕ
+namedOf name n = name ++ decimalOf n
+
+-- "Its first line gives the number of boxes, the total and the number of rounds."
+unfoldable pub headOf : ℕ → ℕ → ℕ → List ℕ
+headOf boxes total rounds =
+    namedOf boxesWord boxes ++ namedOf totalWord total ++ namedOf roundsWord rounds ++ newline
 
 -- a number after a space
 unfoldable pub fieldOf : ℕ → List ℕ
@@ -59,13 +67,13 @@ linesOf palette counts (suc n) = linesOf palette counts n ++ lineAt palette coun
 unfoldable pub totalOf : List ℕ → ℕ → ℕ
 totalOf counts n = sumFrom 0 n (λ i. getD counts i 0)
 
--- the complete text for a number of boxes, the palette and the counts
-unfoldable pub listingOf : ℕ → List ℕ → List ℕ → List ℕ
-listingOf boxes palette counts = headOf boxes (totalOf counts boxes) ++ linesOf palette counts boxes
+-- the complete text for the numbers of boxes and rounds, the palette and the counts
+unfoldable pub listingOf : ℕ → ℕ → List ℕ → List ℕ → List ℕ
+listingOf boxes rounds palette counts = headOf boxes (totalOf counts boxes) rounds ++ linesOf palette counts boxes
 
 -- "On a refusal it writes only `refused N`"
 unfoldable pub refusedOf : ℕ → List ℕ
-refusedOf number = refusedWord ++ decimalOf number ++ newline
+refusedOf number = namedOf refusedWord number ++ newline
 
 -- a lent buffer with a text at its start, and after it what stood there
 unfoldable pub withText : List ℕ → List ℕ → List ℕ

@@ -1,23 +1,22 @@
 // The lines of a cut, and the line of a refusal.
 use crate::parts::byte;
 use crate::parts::field;
+use crate::parts::named;
 use crate::parts::number;
-use crate::parts::word;
 ghost use mathlib.Core.Path.{_≡_};
 ghost use Prim.Native.Nat.{_+_, _*_, _≤_, _<_};
 ghost use lib.ListN.{length};
 ghost use Rattle.lines.specs.Text.{headOf, lineOf, lineAt, totalOf, listingOf, refusedOf, withText};
 ghost use Rattle.lines.specs.Inner.{Put, RoomForLines, lineRoom};
 
-fn head(out: &mut [u8], boxes: u64, total: u64) -> usize
+fn head(out: &mut [u8], boxes: u64, total: u64, rounds: u64) -> usize
     requires { ⌜ lineRoom ≤ length (now out) ⌝ }
-    ensures put { λ r. ⌜ Put (now (out .entry)) 0 (headOf boxes total) (now (out .exit)) r ⌝ }
+    ensures put { λ r. ⌜ Put (now (out .entry)) 0 (headOf boxes total rounds) (now (out .exit)) r ⌝ }
     ensures fits { λ r. ⌜ r ≤ lineRoom ⌝ }
 {
-    let first = word(out, 0, b"boxes ");
-    let second = number(out, first, boxes);
-    let third = word(out, second, b" total ");
-    let last = number(out, third, total);
+    let first = named(out, 0, b"boxes ", boxes);
+    let second = named(out, first, b" total ", total);
+    let last = named(out, second, b" rounds ", rounds);
     byte(out, last, b'\n')
 }
 
@@ -63,14 +62,14 @@ fn total(boxes: usize, counts: &[u32]) -> u64
 }
 
 // Puts the whole listing at the start of a buffer, and answers its length.
-pub fn listing(boxes: usize, palette: &[u8], counts: &[u32], out: &mut [u8]) -> usize
+pub fn listing(boxes: usize, rounds: usize, palette: &[u8], counts: &[u32], out: &mut [u8]) -> usize
     requires { ⌜ RoomForLines boxes (now palette) (now counts) (now out) ⌝ }
-    ensures ends { λ r. ⌜ r ≡ length (listingOf boxes (now (palette .entry)) (now (counts .entry))) ⌝ }
+    ensures ends { λ r. ⌜ r ≡ length (listingOf boxes rounds (now (palette .entry)) (now (counts .entry))) ⌝ }
     ensures later { λ r. ⌜ now (out .exit)
-        ≡ withText (listingOf boxes (now (palette .entry)) (now (counts .entry))) (now (out .entry)) ⌝ }
+        ≡ withText (listingOf boxes rounds (now (palette .entry)) (now (counts .entry))) (now (out .entry)) ⌝ }
     ensures fits { λ r. ⌜ r ≤ length (now (out .exit)) ⌝ }
 {
-    let mut at = head(out, boxes as u64, total(boxes, counts));
+    let mut at = head(out, boxes as u64, total(boxes, counts), rounds as u64);
     let mut i = 0;
     while i < boxes {
         at = box_line(out, at, i, palette, counts);
@@ -86,7 +85,6 @@ pub fn refused(refusal: u8, out: &mut [u8]) -> usize
     ensures later { λ r. ⌜ now (out .exit) ≡ withText (refusedOf refusal) (now (out .entry)) ⌝ }
     ensures fits { λ r. ⌜ r ≤ length (now (out .exit)) ⌝ }
 {
-    let first = word(out, 0, b"refused ");
-    let last = number(out, first, refusal as u64);
+    let last = named(out, 0, b"refused ", refusal as u64);
     byte(out, last, b'\n')
 }

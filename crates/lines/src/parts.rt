@@ -3,7 +3,7 @@ ghost use mathlib.Core.Path.{_≡_};
 ghost use mathlib.Core.List.{[], _∷_};
 ghost use Prim.Native.Nat.{_+_, _%_, _≤_, _<_};
 ghost use lib.ListN.{length};
-ghost use Rattle.lines.specs.Text.{decimalOf, fieldOf};
+ghost use Rattle.lines.specs.Text.{decimalOf, fieldOf, namedOf};
 ghost use Rattle.lines.specs.Inner.{Put};
 
 pub fn byte(out: &mut [u8], at: usize, value: u8) -> usize
@@ -60,5 +60,15 @@ pub fn field(out: &mut [u8], at: usize, n: u64) -> usize
     ensures fits { λ r. ⌜ r ≤ at + 21 ⌝ }
 {
     let after = byte(out, at, b' ');
+    number(out, after, n)
+}
+
+// A number after its name.
+pub fn named(out: &mut [u8], at: usize, name: &[u8], n: u64) -> usize
+    requires { ⌜ at + length (now name) + 20 ≤ length (now out) ⌝ }
+    ensures put { λ r. ⌜ Put (now (out .entry)) at (namedOf (now (name .entry)) n) (now (out .exit)) r ⌝ }
+    ensures fits { λ r. ⌜ r ≤ at + length (now (name .entry)) + 20 ⌝ }
+{
+    let after = word(out, at, name);
     number(out, after, n)
 }

@@ -33,7 +33,7 @@ fn cut_text(table: &[u64], out: &mut [u8]) -> usize
     if done.number != 0 {
         return refused(done.number, out);
     }
-    listing(done.boxes, &palette, &counts, out)
+    listing(done.boxes, done.rounds, &palette, &counts, out)
 }
 
 // Puts the program's whole text at the start of a buffer, and answers its length.

@@ -118,9 +118,9 @@ module _ (b1 b2 b3 k : ℕ) (t : List ℕ) (l : Lent) where
         ∙ d .0,
   )
 
-  -- "A refusal writes nothing." And it has no boxes
+  -- "A refusal writes nothing." And it has no boxes and no rounds
   pub refused-call : {n : ℕ} → cutAnswer b1 b2 b3 k t l .number ≡ suc n
-      → (cutAnswer b1 b2 b3 k t l ≡ record { number = suc n; boxes = 0 }) × (callLater b1 b2 b3 k t l ≡ l)
+      → (cutAnswer b1 b2 b3 k t l ≡ record { number = suc n; boxes = 0; rounds = 0 }) × (callLater b1 b2 b3 k t l ≡ l)
   refused-call e = call-kept b1 b2 b3 k t l (sym is-number ∙ e)
 
   pub call-tells : cutAnswer b1 b2 b3 k t l .number ≡ 0
@@ -133,7 +133,7 @@ module _ (b1 b2 b3 k : ℕ) (t : List ℕ) (l : Lent) where
       let many = told-length r (all-places k t b1 b2 b3 (l .buffers) refl) (omega (arith, most, enough .most)) in
       record {
         answer = has .0
-            ∙ ap (λ (n : ℕ). record { number = n; boxes = r .boxes })
+            ∙ ap (λ (n : ℕ). record { number = n; boxes = r .boxes; rounds = r .rounds })
             (sym (record-number b1 b2 b3 k t (l .buffers) ∙ sym (cut-number (has-room e)) ∙ e));
         buffers = ap (λ (x : Lent). x .buffers) (has .1);
         box = λ i h. ap (λ (x : Lent). boxRead (x .boxes) i) (has .1) ∙ read-box r many i h (l .boxes);

@@ -14,3 +14,4 @@ pub mod Half
 pub mod Listing
 pub mod Determined
 pub mod Finite
+pub mod Rounds

@@ -48,8 +48,8 @@ use Rattle.cutter.specs.Cut.{longEnough, resultsOn, lengthsOf, cutNumber, cutRe
 use Rattle.cutter.specs.Cut.{laterOn}
 use Rattle.cutter.proofs.Refusals.{only-map, no-total}
 use Rattle.cutter.proofs.Laws.{record-number, cut-says, cut-accepts}
-use Rattle.lines.specs.Text.{digitsWithin, decimalOf, boxesWord, totalWord, refusedWord, newline, headOf, fieldOf}
-use Rattle.lines.specs.Text.{lineOf, linesOf, totalOf, listingOf, refusedOf}
+use Rattle.lines.specs.Text.{digitsWithin, decimalOf, boxesWord, totalWord, roundsWord, refusedWord}
+use Rattle.lines.specs.Text.{newline, namedOf, headOf, fieldOf, lineOf, linesOf, totalOf, listingOf, refusedOf}
 use Rattle.lines.specs.Listing.{emptyTable, partNumber, partLater, lowerOf, lentZeros, cutText, textOf}
 use Rattle.lines.proofs.Texts.{lower-first, lower-second, lower-other, lower-same, text-refused, text-cut, cut-refused}
 use Rattle.lines.specs.Reading.{Progress, afterBatch, afterAll, AllCame}
@@ -197,6 +197,7 @@ planes from end = record { bounds = record { r0 = from; r1 = end; g0 = 0; g1 = 8
 abbrev two : Boxes
 two = record {
   boxes = 2;
+  rounds = 2;
   places =
       planes 1 8 ∷ planes 0 1
       ∷ replicate 254 (record { bounds = record { r0 = 0; r1 = 0; g0 = 0; g1 = 0; b0 = 0; b1 = 0 }; spread = zeroOf });
@@ -218,14 +219,14 @@ are-two = refl
 -- the text of some boxes
 abbrev listed : View → Boxes → List ℕ
 listed v b =
-    listingOf (b .boxes)
+    listingOf (b .boxes) (b .rounds)
     (paletteLater grid8 v (listOf (b .boxes) (b .places)) (replicate 48 0))
     (countsLater grid8 v (listOf (b .boxes) (b .places)) (replicate 16 0))
 
 lists-two : listed view two ≡ threeLines
 unfolding number view threeLines sumFrom placeOf sum3 binSum boxSum
     listOf meanOf colourOf countOf bytesOf itsColour itsCount joinAll filled paletteLater countsLater
-    digitsWithin decimalOf boxesWord totalWord newline headOf fieldOf lineOf linesOf totalOf listingOf
+    digitsWithin decimalOf boxesWord totalWord roundsWord newline namedOf headOf fieldOf lineOf linesOf totalOf listingOf
 lists-two = refl
 
 byte-at : (l : List ℕ) → areBytes l ≡ true → (k : ℕ) → getD l k 0 < 256
@@ -266,7 +267,7 @@ only-refused batches {n} e =
 
 -- "no input gives 8"
 pub no-input : writtenFor ([] ∷ []) ≡ refused8
-unfolding refused8 refusedOf refusedWord newline decimalOf digitsWithin
+unfolding refused8 refusedOf namedOf refusedWord newline decimalOf digitsWithin
 no-input =
     its-text [] refl (lit≤ tt) ∙ cut-refused nothing refl (λ z. not-both z is-8) ∙ ap refusedOf is-8
   where
@@ -471,7 +472,7 @@ came-written c = ap (λ (s : Progress). textOf (s .number) (s .table)) (c .loade
 -- "stray bytes at the end give 3"
 pub stray-bytes : (batches : List (List ℕ)) (last : List ℕ) → WholePixels batches → ((k : ℕ) → getD last k 0 < 256)
     → (length last % 3 ≡ 0 → ⊥) → writtenFor (batches ++ last ∷ []) ≡ refused3
-unfolding refused3 refusedOf refusedWord newline decimalOf digitsWithin afterAll afterBatch atFirst lowerOf
+unfolding refused3 refusedOf namedOf refusedWord newline decimalOf digitsWithin afterAll afterBatch atFirst lowerOf
 stray-bytes batches last w are n =
     let before : length (readIn batches) % 3 ≡ 0 = reached-all atFirst [] reached-first refl batches w .1 in
     any-batches batches last w are

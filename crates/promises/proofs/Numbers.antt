@@ -1,6 +1,6 @@
 -- "The lowest answer from 1 to 9 that applies is given; where none applies, the answer is 0.": of every call, and what
--- it is given where none applies. And "A refusal writes nothing. A refused cut hands back its answer, zero boxes and
--- box places all zero."
+-- it is given where none applies. And "A refusal writes nothing. A refused cut hands back its answer, zero boxes, zero
+-- rounds and box places all zero."
 -- Assumes nothing.
 use mathlib.Core.Path.{_≡_, refl, sym, ap, _∙_}
 use mathlib.Core.Logic.{_↔_, inl, inr}

@@ -33,7 +33,7 @@ boxRead bytes i =
 -- what is told and left behind is the record r and the buffers after it: the boxes with their spreads in order, and
 -- behind them what stood there
 pub record TellsCut (r : CutRecord) (after : Buffers) (old : Lent) (told : CutAnswer) (later : Lent) : Type 0 where
-  pub answer : told ≡ record { number = r .number; boxes = r .boxes }
+  pub answer : told ≡ record { number = r .number; boxes = r .boxes; rounds = r .rounds }
   pub buffers : later .buffers ≡ after
   pub box : (i : ℕ) → i < r .boxes → boxRead (later .boxes) i ≡ boxIn r i
   pub spread : (i : ℕ) → i < r .boxes

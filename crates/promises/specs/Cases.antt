@@ -105,18 +105,20 @@ box r gr b spread =
     record { bounds = record { r0 = r .0; r1 = r .1; g0 = gr .0; g1 = gr .1; b0 = b .0; b1 = b .1 }; spread = spread }
 
 -- "places past the last box are all zeros"
-unfoldable pub recordWith : ℕ → List BoxSpread → CutRecord
-recordWith number xs =
+unfoldable pub recordWith : ℕ → ℕ → List BoxSpread → CutRecord
+recordWith number rounds xs =
     record {
       number = number;
       boxes = length xs;
+      rounds = rounds;
       places =
           xs ++ replicate (256 - length xs) (box (0, 0) (0, 0) (0, 0) zeroOf);
     }
 
--- a cut that is done: its boxes, moments, colours, counts and map; "Places past the filled front of palette and counts
+-- a cut that is done: its rounds, boxes, moments, colours, counts and map; "Places past the filled front of palette and counts
 -- stay"
 pub record Done : Type 0 where
+  pub rounds : ℕ
   pub boxes : List BoxSpread
   pub work : List ℕ
   pub colours : List ℕ
@@ -128,15 +130,15 @@ done loads position d =
     record {
       loads = loads;
       position = position;
-      cut = recordWith 0 (d .boxes);
+      cut = recordWith 0 (d .rounds) (d .boxes);
       later = buffers (d .work) (d .colours ++ replicate (780 - length (d .colours)) 7)
           (d .counts ++ replicate (260 - length (d .counts)) 9) (d .map);
     }
 
--- "A refusal writes nothing. A refused cut hands back its answer, zero boxes and box places all zero."
+-- "A refusal writes nothing. A refused cut hands back its answer, zero boxes, zero rounds and box places all zero."
 unfoldable pub refusedWith : ℕ → List AfterLoad → ScoredAnswer → ℕ → Outcome
 refusedWith number loads position bins =
-    record { loads = loads; position = position; cut = recordWith number []; later = lentTo bins }
+    record { loads = loads; position = position; cut = recordWith number 0 []; later = lentTo bins }
 
 -- ---- what several cases load
 -- "black weight 1, white weight 3"
@@ -190,6 +192,7 @@ cases =
       k = 2;
       expected = done (loadGives 0 blackWhiteTable ∷ []) (at 0 1 (fin true 585225 (pos 0)))
           (record {
+            rounds = 1;
             boxes = box (0, 1) (0, 2) (0, 2) zeroOf ∷ box (1, 2) (0, 2) (0, 2) zeroOf ∷ [];
             work = blackWhiteMoments;
             colours = 0 ∷ 0 ∷ 0 ∷ 255 ∷ 255 ∷ 255 ∷ [];
@@ -205,6 +208,7 @@ cases =
       k = 3;
       expected = done (loadGives 0 blackWhiteTable ∷ []) (at 0 1 (fin true 585225 (pos 0)))
           (record {
+            rounds = 2;
             boxes = box (1, 2) (0, 2) (0, 2) zeroOf ∷ box (0, 1) (0, 2) (0, 2) zeroOf ∷ [];
             work = blackWhiteMoments;
             colours = 255 ∷ 255 ∷ 255 ∷ 0 ∷ 0 ∷ 0 ∷ [];
@@ -220,6 +224,7 @@ cases =
       k = 4;
       expected = done (loadGives 0 (1 ∷ 10 ∷ 20 ∷ 30 ∷ 1400 ∷ empties 7) ∷ []) nowhere
           (record {
+            rounds = 2;
             boxes = box (0, 2) (0, 2) (0, 2) zeroOf ∷ [];
             work = times 8 (1 ∷ 10 ∷ 20 ∷ 30 ∷ 1400 ∷ []);
             colours = 10 ∷ 20 ∷ 30 ∷ [];
@@ -235,6 +240,7 @@ cases =
       k = 256;
       expected = done (loadGives 0 (2 ∷ 3 ∷ 0 ∷ 0 ∷ 5 ∷ empties 7) ∷ []) nowhere
           (record {
+            rounds = 2;
             boxes = box (0, 2) (0, 2) (0, 2) zeroOf ∷ [];
             work = times 8 (2 ∷ 3 ∷ 0 ∷ 0 ∷ 5 ∷ []);
             colours = 1 ∷ 0 ∷ 0 ∷ [];
@@ -252,6 +258,7 @@ cases =
           done (loadGives 0 ((1 ∷ 0 ∷ 0 ∷ 0 ∷ 0 ∷ empties 2) ++ (1 ∷ 0 ∷ 128 ∷ 128 ∷ 32768 ∷ empties 4)) ∷ [])
           (at 1 1 (fin true 1 (pos 15)))
           (record {
+            rounds = 1;
             boxes = box (0, 2) (0, 1) (0, 2) zeroOf ∷ box (0, 2) (1, 2) (0, 2) zeroOf ∷ [];
             work = times 2 (times 3 (1 ∷ 0 ∷ 0 ∷ 0 ∷ 0 ∷ []) ++ (2 ∷ 0 ∷ 128 ∷ 128 ∷ 32768 ∷ []));
             colours = 0 ∷ 0 ∷ 0 ∷ 0 ∷ 128 ∷ 128 ∷ [];
@@ -269,6 +276,7 @@ cases =
           done (loadGives 0 ((1 ∷ 0 ∷ 0 ∷ 0 ∷ 0 ∷ empties 47) ++ (1 ∷ 192 ∷ 0 ∷ 0 ∷ 36864 ∷ empties 15)) ∷ [])
           (at 0 1 (fin true 9 (pos 12)))
           (record {
+            rounds = 1;
             boxes = box (0, 1) (0, 4) (0, 4) zeroOf ∷ box (1, 4) (0, 4) (0, 4) zeroOf ∷ [];
             work = times 48 (1 ∷ 0 ∷ 0 ∷ 0 ∷ 0 ∷ []) ++ times 16 (2 ∷ 192 ∷ 0 ∷ 0 ∷ 36864 ∷ []);
             colours = 0 ∷ 0 ∷ 0 ∷ 192 ∷ 0 ∷ 0 ∷ [];
@@ -285,6 +293,7 @@ cases =
       k = 2;
       expected = done (loadGives 0 redsTable ∷ []) (at 0 2 (fin true 67073 (pos 0)))
           (record {
+            rounds = 1;
             boxes = box (0, 2) (0, 2) (0, 2) (fin false 1 (pos 11)) ∷ box (2, 4) (0, 2) (0, 2) zeroOf ∷ [];
             work = redsMoments;
             colours = 32 ∷ 0 ∷ 0 ∷ 255 ∷ 0 ∷ 0 ∷ [];
@@ -300,6 +309,7 @@ cases =
       k = 3;
       expected = done (loadGives 0 redsTable ∷ []) (at 0 2 (fin true 67073 (pos 0)))
           (record {
+            rounds = 2;
             boxes = box (2, 4) (0, 2) (0, 2) zeroOf ∷ box (0, 1) (0, 2) (0, 2) zeroOf ∷ box (1, 2) (0, 2) (0, 2) zeroOf
                 ∷ [];
             work = redsMoments;
@@ -317,6 +327,7 @@ cases =
       k = 1;
       expected = done (loadGives 0 (fullCell ++ empties 7) ∷ loadGives 7 (fullCell ++ empties 7) ∷ []) nowhere
           (record {
+            rounds = 0;
             boxes = box (0, 2) (0, 2) (0, 2) (inf false) ∷ [];
             work = times 8 fullCell;
             colours = 9 ∷ 9 ∷ 9 ∷ [];

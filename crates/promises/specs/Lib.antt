@@ -10,3 +10,4 @@ pub mod Criterion
 pub mod Half
 pub mod Listing
 pub mod Finite
+pub mod Rounds

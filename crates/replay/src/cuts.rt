@@ -43,15 +43,17 @@ fn number_of(x: BoxSpread, i: usize) -> u64 {
     }
 }
 
-// Makes the record of a cut a list: how many boxes there are, and every place, those past the last box too.
+// Makes the record of a cut a list: how many boxes there are, how many rounds there were, and every place, those past
+// the last box too.
 fn put_record(m: &mut [u64; 385062], r: CutRecord) {
     let mut i = 0;
     while i < 1792 {
-        m[RECORD + 2 + i] = number_of(r.places[i / 7], i % 7);
+        m[RECORD + 3 + i] = number_of(r.places[i / 7], i % 7);
         i = i + 1;
     }
-    m[RECORD] = 1793;
+    m[RECORD] = 1794;
     m[RECORD + 1] = r.boxes as u64;
+    m[RECORD + 2] = r.rounds as u64;
 }
 
 // ---- The cut

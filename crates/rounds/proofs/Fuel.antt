@@ -26,6 +26,10 @@ use Rattle.rounds.proofs.Filled.{InUse, left-long, two-more, start-in-u
 
 -- ---- one step of the loop
 module _ (g : Grid) (v : View) (k : ℕ) (h : Heap) where
+  rounds-none : rounds zero g v k h ≡ h
+  unfolding rounds
+  rounds-none = refl
+
   pub rounds-full : (f : ℕ) → k ≤ h .boxes → rounds f g v k h ≡ h
   unfolding rounds
   rounds-full zero l = refl
@@ -182,44 +186,83 @@ unfolding start heapOf
 enough g v k f m h =
     stable g v k m f (2 * k) (start g) (start-in-use g) (le-trans (start-need g k) h) (omega (arith, start-need g k))
 
--- ---- what is still to come, from a room with n places in use: it gives the heap at the end
-pub record ToCome (g : Grid) (v : View) (k : ℕ) (h : List BoxSpread) (n : ℕ) : Type 0 where
-  pub so-far : ℕ
+-- ---- no more rounds than are needed
+module _ (g : Grid) (v : View) (k : ℕ) (most : k ≤ 256) where
+  rounds-few : (f : ℕ) (h : Heap) → InUse (h .room) (h .boxes)
+      → rounds f g v k h .rounds ≤ h .rounds + need k (h .room) (h .boxes)
+  unfolding round
+  rounds-few zero h u = rw (rounds-none g v k h) (omega arith)
+  rounds-few (suc f) h u =
+      go (decLe k (h .boxes)) (lt zeroOf (item noItem (h .room) 0 .spread)) refl
+      (λ l on. omega (
+        arith,
+        rounds-few f (round g v h) (in-use-round g v u (omega arith)),
+        need-less g v k most (h .room) (h .boxes) u l on,
+      ))
+    where
+      go : Dec (k ≤ h .boxes) → (b : Bool) → lt zeroOf (item noItem (h .room) 0 .spread) ≡ b
+          → (h .boxes < k → lt zeroOf (item noItem (h .room) 0 .spread) ≡ true
+          → rounds f g v k (round g v h) .rounds ≤ h .rounds + need k (h .room) (h .boxes))
+          → rounds (suc f) g v k h .rounds ≤ h .rounds + need k (h .room) (h .boxes)
+      go (yes l) b t after = rw (rounds-full g v k h (suc f) l) (omega arith)
+      go (no l) true t after = rw (rounds-on g v k h f (lt-of-not-le l) t) (after (lt-of-not-le l) t)
+      go (no l) false t after =
+          rw (rounds-stop g v k h f (lt-of-not-le l) t) (omega (arith, need-is k (h .room) (h .boxes) (lt-of-not-le l)))
+
+  -- the top is taken out 2·k − 2 times at most
+  pub few-rounds : heapOf g v k .rounds ≤ 2 * k - 2
+  unfolding start heapOf
+  few-rounds = omega (arith, rounds-few (2 * k) (start g) (start-in-use g), start-need g k)
+
+-- ---- what is still to come, from a room with n places in use after some rounds: it gives the heap at the end
+pub record ToCome (g : Grid) (v : View) (k : ℕ) (h : List BoxSpread) (n after : ℕ) : Type 0 where
   pub left : ℕ
   pub covers : need k h n ≤ left
-  pub gives : rounds left g v k (record { room = h; boxes = n; rounds = so-far }) ≡ heapOf g v k
+  pub few : after + need k h n ≤ 2 * k - 2
+  pub gives : rounds left g v k (record { room = h; boxes = n; rounds = after }) ≡ heapOf g v k
 
 -- the heap at the end
-pub record AtEnd (g : Grid) (v : View) (k : ℕ) (h : List BoxSpread) (n : ℕ) : Type 0 where
+pub record AtEnd (g : Grid) (v : View) (k : ℕ) (h : List BoxSpread) (n after : ℕ) : Type 0 where
   pub room : h ≡ heapOf g v k .room
   pub boxes : n ≡ heapOf g v k .boxes
+  pub rounds : after ≡ heapOf g v k .rounds
 
-at-end : {g : Grid} {v : View} {k : ℕ} {h : Heap} → h ≡ heapOf g v k → AtEnd g v k (h .room) (h .boxes)
-at-end e = record { room = ap (λ (h : Heap). h .room) e; boxes = ap (λ (h : Heap). h .boxes) e }
+at-end : {g : Grid} {v : View} {k : ℕ} {h : Heap} → h ≡ heapOf g v k → AtEnd g v k (h .room) (h .boxes) (h .rounds)
+at-end e =
+    record {
+      room = ap (λ (h : Heap). h .room) e;
+      boxes = ap (λ (h : Heap). h .boxes) e;
+      rounds = ap (λ (h : Heap). h .rounds) e;
+    }
 
 module _ {g : Grid} {v : View} {k : ℕ} where
-  pub come-start : {h : List BoxSpread} → h ≡ startRoom g → ToCome g v k h 1
+  pub come-start : {h : List BoxSpread} → h ≡ startRoom g → ToCome g v k h 1 0
   unfolding heapOf start
   come-start e =
       record {
-        so-far = 0;
         left = 2 * k;
         covers = rw e (omega (arith, start-need g k));
+        few = rw e (omega (arith, start-need g k));
         gives = λ i. rounds (2 * k) g v k (record { room = e i; boxes = 1; rounds = 0 });
       }
 
-  module _ {h : List BoxSpread} {n : ℕ} (c : ToCome g v k h n) where
+  module _ {h : List BoxSpread} {n after : ℕ} (c : ToCome g v k h n after) where
     here : Heap
-    here = record { room = h; boxes = n; rounds = c .so-far }
+    here = record { room = h; boxes = n; rounds = after }
 
     -- k boxes
-    pub come-full : k ≤ n → AtEnd g v k h n
+    pub come-full : k ≤ n → AtEnd g v k h n after
     unfolding here
     come-full l = at-end (sym (rounds-full g v k here (c .left) l) ∙ c .gives)
 
     module _ (l : n < k) where
+      -- one more round is within what is needed
+      pub come-few : after + 1 ≤ 2 * k - 2
+      come-few = omega (arith, c .few, need-is k h n l)
+
       -- the last round
-      pub come-stop : lt zeroOf (item noItem h 0 .spread) ≡ false → AtEnd g v k (roundRoom g v h n) (roundBoxes g v h n)
+      pub come-stop : lt zeroOf (item noItem h 0 .spread) ≡ false
+          → AtEnd g v k (roundRoom g v h n) (roundBoxes g v h n) (after + 1)
       unfolding here round
       come-stop off = at-end (go (c .left) (c .covers) (c .gives))
         where
@@ -229,17 +272,17 @@ module _ {g : Grid} {v : View} {k : ℕ} where
 
       -- one of others
       pub come-round : k ≤ 256 → InUse h n → lt zeroOf (item noItem h 0 .spread) ≡ true
-          → ToCome g v k (roundRoom g v h n) (roundBoxes g v h n)
+          → ToCome g v k (roundRoom g v h n) (roundBoxes g v h n) (after + 1)
       unfolding here round
       come-round most u on = go (c .left) (c .covers) (c .gives)
         where
           go : (f : ℕ) → need k h n ≤ f → rounds f g v k here ≡ heapOf g v k
-              → ToCome g v k (roundRoom g v h n) (roundBoxes g v h n)
+              → ToCome g v k (roundRoom g v h n) (roundBoxes g v h n) (after + 1)
           go zero m e = absurd (omega (arith, need-is k h n l))
           go (suc f) m e =
               record {
-                so-far = c .so-far + 1;
                 left = f;
                 covers = omega (arith, need-less g v k most h n u l on);
+                few = omega (arith, c .few, need-less g v k most h n u l on);
                 gives = sym (rounds-on g v k here f l on) ∙ e;
               }

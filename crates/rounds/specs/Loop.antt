@@ -99,4 +99,6 @@ unfoldable pub placesOf : List BoxSpread → ℕ → List BoxSpread
 placesOf h n = listFrom 0 256 (λ i. cond (ltb i n) (item noItem h i) (withZero noBox))
 
 unfoldable pub boxesOf : Grid → View → ℕ → Boxes
-boxesOf g v k = let h = heapOf g v k in record { boxes = h .boxes; places = placesOf (h .room) (h .boxes) }
+boxesOf g v k =
+    let h = heapOf g v k in
+    record { boxes = h .boxes; rounds = h .rounds; places = placesOf (h .room) (h .boxes) }

@@ -20,9 +20,11 @@ pub struct BoxSpread {
     pub spread: f64,
 }
 
-// The boxes of a cut in order: how many there are, and a place for each, all zeros past the last.
+// The boxes of a cut in order: how many there are, how often the top was taken out, and a place for each box, all zeros
+// past the last.
 pub struct Boxes {
     pub boxes: usize,
+    pub rounds: usize,
     pub places: [BoxSpread; 256],
 }
 
@@ -57,7 +59,12 @@ pub fn cut_boxes(table: &[u64], work: &[u64], g: Grid, k: usize) -> Boxes
     let mut boxes = [0u64; 256];
     spreads[0] = 1.0 / 0.0;
     boxes[0] = packed(whole(g));
-    let n = all_rounds(table, work, g, k, &mut spreads, &mut boxes);
+    let end = all_rounds(table, work, g, k, &mut spreads, &mut boxes);
+    let n = end.boxes;
     let places = gathered(&spreads, &boxes, n);
-    Boxes { boxes: n, places }
+    Boxes {
+        boxes: n,
+        rounds: end.rounds,
+        places,
+    }
 }

@@ -84,7 +84,13 @@ fn round(
     len
 }
 
-// All rounds; answers how many boxes there are.
+// How many boxes there are at the end, and how often the top was taken out.
+pub struct Ended {
+    pub boxes: usize,
+    pub rounds: usize,
+}
+
+// All rounds.
 pub(crate) fn all_rounds(
     table: &[u64],
     work: &[u64],
@@ -92,21 +98,24 @@ pub(crate) fn all_rounds(
     k: usize,
     spreads: &mut [f64; 256],
     boxes: &mut [u64; 256],
-) -> usize
+) -> Ended
     requires { ⌜ CanSum limit g (now table) (now work) × (k ≤ 256) ⌝ }
     requires { ⌜ TwoArrays (now spreads) (now boxes) × (roomIn (now spreads) (now boxes) ≡ startRoom g) ⌝ }
-    ensures number { λ r. ⌜ r ≡ heapOf g (viewOf (now (table .entry))) k .boxes ⌝ }
+    ensures boxes { λ r. ⌜ r .boxes ≡ heapOf g (viewOf (now (table .entry))) k .boxes ⌝ }
+    ensures rounds { λ r. ⌜ r .rounds ≡ heapOf g (viewOf (now (table .entry))) k .rounds ⌝ }
     ensures room { λ r. ⌜ roomIn (now (spreads .exit)) (now (boxes .exit))
         ≡ heapOf g (viewOf (now (table .entry))) k .room ⌝ }
     ensures arrays { λ r. ⌜ TwoArrays (now (spreads .exit)) (now (boxes .exit)) ⌝ }
 {
     let mut len = 1;
+    let mut rounds = 0;
     while len < k {
         let more = 0.0 < spreads[0];
         len = round(table, work, g, spreads, boxes, len);
+        rounds = rounds + 1;
         if !more {
-            return len;
+            return Ended { boxes: len, rounds };
         }
     }
-    len
+    Ended { boxes: len, rounds }
 }

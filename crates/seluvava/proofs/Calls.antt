@@ -116,11 +116,15 @@ roomy b1 b2 b3 k boxes spreads = go (gridOf b1 b2 b3)
     go chosen.Refused e = absurd (never e)
 
 -- ---- the call: what it answers, and what it leaves behind
-abbrev told-of : ℕ → ℕ → CutAnswer
-told-of number boxes = record { number = number; boxes = boxes }
+-- the answer of a refusal, and that of a record
+abbrev refused-of : ℕ → CutAnswer
+refused-of number = record { number = number; boxes = 0; rounds = 0 }
+
+abbrev told-of : ℕ → CutRecord → CutAnswer
+told-of number r = record { number = number; boxes = r .boxes; rounds = r .rounds }
 
 abbrev answer-of : CutRecord → CutAnswer
-answer-of r = told-of (r .number) (r .boxes)
+answer-of r = told-of (r .number) r
 
 -- 2, and 5 for any of the lengths: those of one kind may be asked for before the others
 stages : (size long room : Bool) (rest : ℕ)
@@ -165,34 +169,33 @@ module _ (b1 b2 b3 k : ℕ) (t : List ℕ) (l : Lent) where
   abbrev cut : Lent
   cut = written (cutRecord b1 b2 b3 k t (l .buffers)) (cutLater b1 b2 b3 k t (l .buffers))
 
-  -- "A refusal writes nothing", and tells of no box
+  -- "A refusal writes nothing", and tells of no box and no round
   pub call-kept : {n : ℕ} → callNumber b1 b2 b3 k t l ≡ suc n
-      → (cutAnswer b1 b2 b3 k t l ≡ told-of (suc n) 0) × (callLater b1 b2 b3 k t l ≡ l)
+      → (cutAnswer b1 b2 b3 k t l ≡ refused-of (suc n)) × (callLater b1 b2 b3 k t l ≡ l)
   unfolding cutAnswer callLater whenDone
   call-kept e = (rw e refl, rw e refl)
 
   -- and a call that is done has the boxes of the record
   pub call-has : callNumber b1 b2 b3 k t l ≡ 0
-      → (cutAnswer b1 b2 b3 k t l ≡ told-of 0 (cutRecord b1 b2 b3 k t (l .buffers) .boxes))
+      → (cutAnswer b1 b2 b3 k t l ≡ told-of 0 (cutRecord b1 b2 b3 k t (l .buffers)))
       × (callLater b1 b2 b3 k t l ≡ cut)
   unfolding cutAnswer callLater whenDone
   call-has e = (rw e refl, rw e refl)
 
   -- ---- what the code shows of it, stage by stage
   module _ {n : ℕ} (e : n ≡ room) where
-    pub call-refused : (n ≡ 0 → ⊥) → Ends (told-of n 0) l
+    pub call-refused : (n ≡ 0 → ⊥) → Ends (refused-of n) l
     unfolding whenDone
     call-refused h = go n refl
       where
-        go : (m : ℕ) → n ≡ m → Ends (told-of n 0) l
+        go : (m : ℕ) → n ≡ m → Ends (refused-of n) l
         go zero z = absurd (h z)
         go (suc m) z =
             let kept = call-kept {n = m} (in-stages ∙ rw (← e, z) refl) in
-            (ap (λ (i : ℕ). told-of i 0) z ∙ sym (kept .0), sym (kept .1))
+            (ap (λ (i : ℕ). refused-of i) z ∙ sym (kept .0), sym (kept .1))
 
     -- where there is room: the cut's answer, and its boxes written out
-    cut-ends : n ≡ 0
-        → Ends (told-of (cutRecord b1 b2 b3 k t (l .buffers) .number) (cutRecord b1 b2 b3 k t (l .buffers) .boxes)) cut
+    cut-ends : n ≡ 0 → Ends (answer-of (cutRecord b1 b2 b3 k t (l .buffers))) cut
     unfolding whenDone told refusedRecord
     cut-ends z = go (cutNumber b1 b2 b3 k t (l .buffers)) refl
       where
@@ -200,11 +203,10 @@ module _ (b1 b2 b3 k : ℕ) (t : List ℕ) (l : Lent) where
         same = in-stages ∙ rw (← e, z) refl
 
         go : (m : ℕ) → cutNumber b1 b2 b3 k t (l .buffers) ≡ m
-            → Ends (told-of (cutRecord b1 b2 b3 k t (l .buffers) .number) (cutRecord b1 b2 b3 k t (l .buffers) .boxes))
-            cut
+            → Ends (answer-of (cutRecord b1 b2 b3 k t (l .buffers))) cut
         go zero q =
             let has = call-has (same ∙ q) in (
-              ap (λ (i : ℕ). told-of i (cutRecord b1 b2 b3 k t (l .buffers) .boxes))
+              ap (λ (i : ℕ). told-of i (cutRecord b1 b2 b3 k t (l .buffers)))
                   (record-number b1 b2 b3 k t (l .buffers) ∙ q) ∙ sym (has .0),
               sym (has .1),
             )

@@ -42,11 +42,12 @@ callNumberOn g k t l = cutNumberOn limit g k (allLong g k (length t) l) (viewOf 
 unfoldable pub callNumber : ℕ → ℕ → ℕ → ℕ → Table → Lent → ℕ
 callNumber b1 b2 b3 k t l = numberOn (gridOf b1 b2 b3) (λ g. callNumberOn g k t l)
 
--- "A refused cut hands back its answer, zero boxes"
+-- "A refused cut hands back its answer, zero boxes, zero rounds"
 unfoldable pub cutAnswer : ℕ → ℕ → ℕ → ℕ → Table → Lent → CutAnswer
 cutAnswer b1 b2 b3 k t l =
     let n = callNumber b1 b2 b3 k t l in
-    record { number = n; boxes = whenDone n (cutRecord b1 b2 b3 k t (l .buffers) .boxes) 0 }
+    let r = cutRecord b1 b2 b3 k t (l .buffers) in
+    record { number = n; boxes = whenDone n (r .boxes) 0; rounds = whenDone n (r .rounds) 0 }
 
 -- ---- what was lent, afterwards
 -- what a box gives the bytes, and what it gives the spreads

@@ -17,6 +17,7 @@ ghost use Rattle.seluvava.specs.Inner.{roomNumber, withBoxAt};
 pub struct CutAnswer {
     pub number: u8,
     pub boxes: usize,
+    pub rounds: usize,
 }
 
 // The answer that the lengths of the arrays for boxes and spreads call for.
@@ -101,12 +102,17 @@ pub extern "C" fn seluvava_cut(
 {
     let number = room_number(b1, b2, b3, k, boxes.len(), spreads.len());
     if number != 0 {
-        return CutAnswer { number, boxes: 0 };
+        return CutAnswer {
+            number,
+            boxes: 0,
+            rounds: 0,
+        };
     }
     let r = cut(b1, b2, b3, k, table, work, palette, counts, map);
     put_boxes(r, boxes, spreads);
     CutAnswer {
         number: r.number,
         boxes: r.boxes,
+        rounds: r.rounds,
     }
 }

@@ -1,5 +1,5 @@
 //! The port: the exported calls of the static library.
-use oracle::port::{Band, Grid, Lent, Port};
+use oracle::port::{Band, CutAnswer, Grid, Lent, Port};
 use seluvava_sys::{
     seluvava_bins, seluvava_cut, seluvava_load, seluvava_map, seluvava_merge, seluvava_paint,
     seluvava_table_len,
@@ -69,7 +69,7 @@ impl Port for Library {
         }
     }
 
-    fn cut(&self, [b1, b2, b3]: Grid, k: usize, table: &[u64], lent: Lent<'_>) -> (u8, usize) {
+    fn cut(&self, [b1, b2, b3]: Grid, k: usize, table: &[u64], lent: Lent<'_>) -> CutAnswer {
         let answer = unsafe {
             seluvava_cut(
                 b1,
@@ -92,7 +92,11 @@ impl Port for Library {
                 lent.spreads.len(),
             )
         };
-        (answer.number, answer.boxes)
+        CutAnswer {
+            number: answer.number,
+            boxes: answer.boxes,
+            rounds: answer.rounds,
+        }
     }
 
     fn map(

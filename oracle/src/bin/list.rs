@@ -21,7 +21,8 @@ fn main() {
         .expect("some pixels")
         .answer;
 
-    println!("boxes {} total {}", answer.palette.len(), input.total());
+    let (boxes, total, rounds) = (answer.palette.len(), input.total(), answer.rounds);
+    println!("boxes {boxes} total {total} rounds {rounds}");
     for (i, ([r, g, b], n)) in answer.palette.iter().zip(&answer.counts).enumerate() {
         println!("{i} {r} {g} {b} {n}");
     }

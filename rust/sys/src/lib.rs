@@ -17,6 +17,7 @@ compile_error!("seluvava links an archive of proved code that exists for Linux o
 pub struct CutAnswer {
     pub number: u8,
     pub boxes: usize,
+    pub rounds: usize,
 }
 
 // SAFETY: types and order are those of the header.

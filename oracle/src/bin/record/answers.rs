@@ -1,7 +1,7 @@
 //! What has to come of a case: the original's answer and, where a call is refused, that of the rules (Rules, Answers).
 use crate::{
     cases::Case,
-    lists::{self, Boxes, Call, Lists, front, write_cut},
+    lists::{self, Call, Lists, Record, front, write_cut},
     script::Script,
 };
 use oracle::{
@@ -67,7 +67,7 @@ impl Loaded {
 
 /// What the original says of a cut, in all that it is lent, and what of the case's colours, mapped and painted.
 struct Told {
-    boxes: Boxes,
+    record: Record,
     indices: Vec<u8>,
     painted: Vec<u8>,
 }
@@ -76,14 +76,14 @@ struct Told {
 /// of the rules answers, which the judge's tests hold to the original.
 fn told(case: &Case, input: &Input, l: &mut Lists) -> Told {
     let Some(judge) = original(case.grid) else {
-        let (_, boxes) = lists::cut(case.grid, case.k, l);
+        let record = lists::cut(case.grid, case.k, l);
         let index = |c: &[u8; 3]| l.map[numbers::place(case.grid, *c)];
         let indices: Vec<u8> = case.colors.iter().map(index).collect();
         let painted = indices
             .iter()
             .flat_map(|&i| l.palette.as_chunks::<3>().0[usize::from(i)]);
         return Told {
-            boxes,
+            record,
             painted: painted.collect(),
             indices,
         };
@@ -102,8 +102,13 @@ fn told(case: &Case, input: &Input, l: &mut Lists) -> Told {
         [r[0], r[1], g[0], g[1], b[0], b[1]]
     };
     let boxes = told.answer.boxes.iter();
-    Told {
+    let record = Record {
+        number: 0,
+        rounds: told.answer.rounds,
         boxes: boxes.map(|x| (ends(x), x.spread.to_bits())).collect(),
+    };
+    Told {
+        record,
         indices: told.frame.indices,
         painted: told.frame.painted.into_flattened(),
     }
@@ -129,9 +134,9 @@ fn write_answer(s: &mut Script, case: &Case, input: &Input, l: &mut Lists) -> Op
     };
     let number = numbers::cut(case.grid, case.k, &l.table, lent);
     let told = (number == 0).then(|| told(case, input, l));
-    let none = Vec::new();
-    let boxes = told.as_ref().map_or(&none, |t| &t.boxes);
-    write_cut(s, case.grid, case.k, number, boxes);
+    let none = Record::refused(number);
+    let record = told.as_ref().map_or(&none, |t| &t.record);
+    write_cut(s, case.grid, case.k, record);
     s.held("table", &l.table);
     s.held("second", &l.second);
     s.held("palette", &l.palette);
@@ -147,7 +152,7 @@ pub fn write(s: &mut Script, case: &Case) {
     let l = &mut lists;
     let told = write_answer(s, case, &input, l);
     let (boxes, pixels) = (
-        told.as_ref().map_or(0, |t| t.boxes.len()),
+        told.as_ref().map_or(0, |t| t.record.boxes.len()),
         case.colors.len(),
     );
     l.frame = case.colors.as_flattened().to_vec();

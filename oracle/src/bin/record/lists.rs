@@ -28,14 +28,32 @@ pub enum Call {
     Paint { band: Band },
 }
 
-/// The record of a cut: the boxes, each with the bits of its spread.
+/// The boxes of a cut, each with the bits of its spread.
 pub type Boxes = Vec<([u8; 6], u64)>;
+
+/// The record of a cut.
+pub struct Record {
+    pub number: u8,
+    pub rounds: usize,
+    pub boxes: Boxes,
+}
+
+impl Record {
+    /// That of a refusal.
+    pub fn refused(number: u8) -> Self {
+        Self {
+            number,
+            rounds: 0,
+            boxes: Vec::new(),
+        }
+    }
+}
 
 /// How many places the record of a cut has.
 const PLACES: usize = 256;
 
-/// Makes a cut, and answers its number and its boxes.
-pub fn cut(grid: Grid, k: usize, l: &mut Lists) -> (u8, Boxes) {
+/// Makes a cut, and answers its record.
+pub fn cut(grid: Grid, k: usize, l: &mut Lists) -> Record {
     let (mut boxes, mut spreads) = ([0; 6 * PLACES], [0; PLACES]);
     let lent = Lent {
         work: &mut l.second,
@@ -45,31 +63,32 @@ pub fn cut(grid: Grid, k: usize, l: &mut Lists) -> (u8, Boxes) {
         boxes: &mut boxes,
         spreads: &mut spreads,
     };
-    let (number, found) = Model.cut(grid, k, &l.table, lent);
+    let answer = Model.cut(grid, k, &l.table, lent);
     let boxes = boxes.as_chunks().0.iter().copied().zip(spreads);
-    (number, boxes.take(found).collect())
+    Record {
+        number: answer.number,
+        rounds: answer.rounds,
+        boxes: boxes.take(answer.boxes).collect(),
+    }
 }
 
-/// The record of a cut as a list: how many boxes there are, and each of the 256 places as seven numbers, zeros past the
-/// last box.
-fn record(boxes: &Boxes) -> Vec<u64> {
-    let mut list = vec![boxes.len() as u64];
-    for (ends, spread) in boxes {
+/// The record of a cut as a list: how many boxes there are, how many rounds there were, and each of the 256 places as
+/// seven numbers, zeros past the last box.
+fn list_of(r: &Record) -> Vec<u64> {
+    let mut list = vec![r.boxes.len() as u64, r.rounds as u64];
+    for (ends, spread) in &r.boxes {
         list.extend(ends.map(u64::from));
         list.push(*spread);
     }
-    list.resize(1 + 7 * PLACES, 0);
+    list.resize(2 + 7 * PLACES, 0);
     list
 }
 
 /// The line of a cut, and the one of its record.
-pub fn write_cut(s: &mut Script, grid: Grid, k: usize, number: u8, boxes: &Boxes) {
-    let [b1, b2, b3] = grid;
-    s.call(
-        Kind::Cut,
-        &format!("table {b1} {b2} {b3} k {k} -> {number}"),
-    );
-    s.whole("record", &record(boxes));
+pub fn write_cut(s: &mut Script, [b1, b2, b3]: Grid, k: usize, r: &Record) {
+    let line = format!("table {b1} {b2} {b3} k {k} -> {}", r.number);
+    s.call(Kind::Cut, &line);
+    s.whole("record", &list_of(r));
 }
 
 impl Call {
@@ -117,9 +136,9 @@ impl Call {
                 number
             }
             Self::Cut { k } => {
-                let (number, boxes) = cut(grid, k, l);
-                write_cut(s, grid, k, number, &boxes);
-                number
+                let record = cut(grid, k, l);
+                write_cut(s, grid, k, &record);
+                record.number
             }
             Self::Map { colours, band } => {
                 let number = Model.map(grid, &l.map, colours, &l.frame, &mut l.indices, band);

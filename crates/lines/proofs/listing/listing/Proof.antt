@@ -12,11 +12,11 @@ use Rattle.lines.proofs.listing.listing.Statement.{statement}
 use Rattle.lines.proofs.listing.listing.Tie as tie
 
 abbrev Inv-loop : tie.InvT-loop
-Inv-loop boxes palette counts out₀ at₀ i₀ out at i =
+Inv-loop boxes rounds palette counts out₀ at₀ i₀ out at i =
     Put out₀ at₀ (linesOf palette counts i) out at × (at ≤ 128 * (i + 1)) × (i ≤ boxes)
 
 abbrev μ-loop : tie.MeasureT-loop
-μ-loop boxes palette counts out₀ at₀ i₀ out at i = boxes - i
+μ-loop boxes rounds palette counts out₀ at₀ i₀ out at i = boxes - i
 
 total-requires : tie.Need-total-requires Inv-loop μ-loop
 total-requires c κs = search needs

@@ -1,4 +1,4 @@
--- `lines::listing::refused` meets its contract: its three parts one behind the other, each with its room.
+-- `lines::listing::refused` meets its contract: its two parts one behind the other, each with its room.
 -- Assumes nothing.
 use native.Mathlib.Omega.{arith}
 use Rattle.lines.specs.Text.{refusedOf, refusedWord, newline}
@@ -7,14 +7,11 @@ use borrow.Author.Needs.{needs}
 use Rattle.lines.proofs.listing.refused.Statement.{statement}
 use Rattle.lines.proofs.listing.refused.Tie as tie
 
-slice-aggregate-word : tie.Need-slice-aggregate-word
-slice-aggregate-word c = search needs
+slice-aggregate-named : tie.Need-slice-aggregate-named
+slice-aggregate-named c = search needs
 
-word-requires : tie.Need-word-requires
-word-requires c κs = search needs
-
-number-requires : tie.Need-number-requires
-number-requires c κs = search needs
+named-requires : tie.Need-named-requires
+named-requires c κs = search needs
 
 byte-requires : tie.Need-byte-requires
 byte-requires c κs = search needs
@@ -27,11 +24,8 @@ unfolding refusedOf refusedWord newline
 returns c =
     let end = c .before .before in
     let number = end .before .before .before .before in
-    let first = number .before .before .before .before in
-    let all = put-more (put-more (first .word .ensures) (number .number .ensures .0)) (end .byte .ensures) in
-    put-whole all (omega (arith, end .byte .ensures .ends, number .number .ensures .1, first .word .ensures .ends))
+    let all = put-more (number .named .ensures .0) (end .byte .ensures) in
+    put-whole all (omega (arith, end .byte .ensures .ends, number .named .ensures .1))
 
 pub refused-spec : {M : Type 1} → statement M
-refused-spec =
-    tie.close
-    (tie.spec slice-aggregate-word word-requires number-requires byte-requires same-length returns)
+refused-spec = tie.close (tie.spec slice-aggregate-named named-requires byte-requires same-length returns)

@@ -57,6 +57,15 @@ mul-m-2 c = omega arith
 element-write-m-3 : tie.Need-element-write-m-3 Inv-loop μ-loop
 element-write-m-3 c = omega arith
 
+add-m-4 : tie.Need-add-m-4 Inv-loop μ-loop
+add-m-4 c = omega arith
+
+mul-m-3 : tie.Need-mul-m-3 Inv-loop μ-loop
+mul-m-3 c = omega arith
+
+element-write-m-4 : tie.Need-element-write-m-4 Inv-loop μ-loop
+element-write-m-4 c = omega arith
+
 returns : tie.Need-returns Inv-loop μ-loop
 returns c = search needs
 
@@ -81,4 +90,7 @@ put-record-spec =
     add-m-3
     mul-m-2
     element-write-m-3
+    add-m-4
+    mul-m-3
+    element-write-m-4
     returns)

@@ -44,7 +44,7 @@ all-rounds-requires c κs =
 gathered-requires : tie.Need-gathered-requires
 gathered-requires c κs =
     let s = c .before .before .before .before .before .before .before .before .before in (
-      c .before .before .all-rounds .ensures .1 .1,
+      c .before .before .all-rounds .ensures .1 .1 .1,
       rw (c .before .before .all-rounds .ensures .0)
           (heap-in-use (s .args .g) (viewOf (now (s .args .table))) (s .args .k) (s .pre .1) .most),
     )
@@ -56,7 +56,8 @@ returns c =
     λ i.
     record {
       boxes = e .0 i;
-      places = (c .gathered .ensures ∙ (λ j. placesOf (e .1 .0 j) (e .0 j))) i;
+      rounds = e .1 .0 i;
+      places = (c .gathered .ensures ∙ (λ j. placesOf (e .1 .1 .0 j) (e .0 j))) i;
     }
 
 pub cut-boxes-spec : {M : Type 1} → statement M

@@ -17,18 +17,19 @@ use Rattle.rounds.specs.Inner.{roomIn}
 use Rattle.rounds.proofs.Packing.{room-in-spread}
 use Rattle.boxes.proofs.Whole.{whole-within}
 use Rattle.rounds.proofs.Filled.{Each, OfGrid, of-grid-kept, each-round, start-each}
-use Rattle.rounds.proofs.Fuel.{need, need-less, ToCome, come-start, come-full, come-stop, come-round}
+use Rattle.rounds.proofs.Fuel.{need, need-less, ToCome, come-start, come-full, come-few, come-stop}
+use Rattle.rounds.proofs.Fuel.{come-round}
 use Rattle.rounds.proofs.rounds.all_rounds.Statement.{statement}
 use Rattle.rounds.proofs.rounds.all_rounds.Tie as tie
 
 abbrev Inv-loop : tie.InvT-loop
-Inv-loop table work g k spreads₀ boxes₀ len₀ spreads boxes len =
+Inv-loop table work g k spreads₀ boxes₀ len₀ rounds₀ spreads boxes len rounds =
     TwoArrays spreads boxes
     × Each (OfGrid g) (roomIn spreads boxes) len
-    × ToCome g (viewOf table) k (roomIn spreads boxes) len
+    × ToCome g (viewOf table) k (roomIn spreads boxes) len rounds
 
 abbrev μ-loop : tie.MeasureT-loop
-μ-loop table work g k spreads₀ boxes₀ len₀ spreads boxes len = need k (roomIn spreads boxes) len
+μ-loop table work g k spreads₀ boxes₀ len₀ rounds₀ spreads boxes len rounds = need k (roomIn spreads boxes) len
 
 loop-holds : tie.Need-loop-holds Inv-loop μ-loop
 loop-holds c =
@@ -56,6 +57,12 @@ round-requires c κs =
       ),
     )
 
+add-rounds : tie.Need-add-rounds Inv-loop μ-loop
+add-rounds c =
+    let s = c .before .before .before .before .before .before .before .before in
+    let l = c .before .before .before .before .before .loop in
+    omega (arith, come-few (l .inv .2) (c .before .before .before .before .loop-test .taken), s .pre .0 .1)
+
 returns : tie.Need-returns Inv-loop μ-loop
 unfolding ofBits
 returns c =
@@ -63,7 +70,7 @@ returns c =
     let e = c .before .round .ensures in
     let end = come-stop (l .inv .2) (c .before .before .before .before .before .loop-test .taken)
     (ap (lt zeroOf) (room-in-spread (l .inv .0) 0) ∙ not-true _ (c .if1 .taken)) in
-    (e .0 ∙ end .boxes, (e .1 .0 ∙ end .room, e .1 .1))
+    (e .0 ∙ end .boxes, (end .rounds, (e .1 .0 ∙ end .room, e .1 .1)))
 
 loop-less : tie.Need-loop-less Inv-loop μ-loop
 unfolding ofBits
@@ -97,7 +104,7 @@ returns-2 : tie.Need-returns-2 Inv-loop μ-loop
 returns-2 c =
     let l = c .before .loop in
     let end = come-full (l .inv .2) (omega arith) in
-    (end .boxes, (end .room, l .inv .0))
+    (end .boxes, (end .rounds, (end .room, l .inv .0)))
 
 pub all-rounds-spec : {M : Type 1} → statement M
 all-rounds-spec =
@@ -108,6 +115,7 @@ all-rounds-spec =
     loop-holds
     element-copy-out-more
     round-requires
+    add-rounds
     returns
     loop-less
     loop-again
