@@ -1,0 +1,138 @@
+-- `compare::bins::put_differences` meets its contract: five differences, written where they stand.
+-- Assumes nothing.
+use mathlib.Core.Path.{_≡_, _∙_}
+use Prim.Native.Nat.{_+_, _*_, _^_, _<_}
+use native.Mathlib.Omega.{arith}
+use borrow.Author.Needs.{needs}
+use lib.Dec.{lit<}
+use lib.IntN.{ℤ}
+use lib.ListN.{set, length-set}
+use lib.Signed.{mag}
+use denote.Ref.{now}
+use mir.Syntax.{w64}
+use mir.Val.{hbits, toZ, ofZ}
+use mir.ValLaws.{toZ-ofZ}
+use Rattle.table.specs.Cell.{numberOf}
+use Rattle.compare.specs.Inner.{less, withDifferences}
+use Rattle.compare.proofs.bins.put_differences.Statement.{statement}
+use Rattle.compare.proofs.bins.put_differences.Tie as tie
+
+-- the machine reads back what it holds
+read : {x y : ℤ} → mag x < 2 ^ hbits w64 → x ≡ y → toZ w64 (ofZ w64 x) ≡ y
+read {x} h e = toZ-ofZ w64 x (record { sfits = h }) ∙ e
+
+mul-at : tie.Need-mul-at
+mul-at c = search needs
+
+taken-from-requires : tie.Need-taken-from-requires
+unfolding numberOf
+taken-from-requires c κs = (c .pre .1 .below 0 (lit< tt), c .pre .2 .below 0 (lit< tt))
+
+taken-from-requires-2 : tie.Need-taken-from-requires-2
+unfolding numberOf
+taken-from-requires-2 c κs = (c .before .pre .1 .below 1 (lit< tt), c .before .pre .2 .below 1 (lit< tt))
+
+taken-from-requires-3 : tie.Need-taken-from-requires-3
+unfolding numberOf
+taken-from-requires-3 c κs = (c .before .before .pre .1 .below 2 (lit< tt), c .before .before .pre .2 .below 2 (lit< tt))
+
+taken-from-requires-4 : tie.Need-taken-from-requires-4
+unfolding numberOf
+taken-from-requires-4 c κs = (c .before .before .before .pre .1 .below 3 (lit< tt), c .before .before .before .pre .2 .below 3 (lit< tt))
+
+taken-from-requires-5 : tie.Need-taken-from-requires-5
+unfolding numberOf
+taken-from-requires-5 c κs = (c .before .before .before .before .pre .1 .below 4 (lit< tt), c .before .before .before .before .pre .2 .below 4 (lit< tt))
+
+mul-weight : tie.Need-mul-weight
+mul-weight c = search needs
+
+slice-set-from-weight : tie.Need-slice-set-from-weight
+slice-set-from-weight c = search needs
+
+add-sum1 : tie.Need-add-sum1
+add-sum1 c = search needs
+
+mul-sum1 : tie.Need-mul-sum1
+mul-sum1 c = search needs
+
+slice-set-from-sum1 : tie.Need-slice-set-from-sum1
+slice-set-from-sum1 c = simp length-set (omega arith)
+
+add-sum2 : tie.Need-add-sum2
+add-sum2 c = search needs
+
+mul-sum2 : tie.Need-mul-sum2
+mul-sum2 c = search needs
+
+slice-set-from-sum2 : tie.Need-slice-set-from-sum2
+slice-set-from-sum2 c = simp length-set (omega arith)
+
+add-sum3 : tie.Need-add-sum3
+add-sum3 c = search needs
+
+mul-sum3 : tie.Need-mul-sum3
+mul-sum3 c = search needs
+
+slice-set-from-sum3 : tie.Need-slice-set-from-sum3
+slice-set-from-sum3 c = simp length-set (omega arith)
+
+add-squares : tie.Need-add-squares
+add-squares c = search needs
+
+mul-squares : tie.Need-mul-squares
+mul-squares c = search needs
+
+slice-set-from-squares : tie.Need-slice-set-from-squares
+slice-set-from-squares c = simp length-set (omega arith)
+
+same-length : tie.Need-same-length
+same-length c = search needs
+
+returns : tie.Need-returns
+unfolding withDifferences less numberOf
+returns c =
+    let start = c .before .before .before .before .before in
+    let at = 5 * start .args .place in
+    λ i.
+    set
+    (set
+    (set
+    (set
+    (set (now (start .args .differences)) at
+    (read (c .before .before .before .before .taken-from .ok) (c .before .before .before .before .taken-from .ensures) i))
+    (at + 1)
+    (read (c .before .before .before .taken-from2 .ok) (c .before .before .before .taken-from2 .ensures) i))
+    (at + 2)
+    (read (c .before .before .taken-from3 .ok) (c .before .before .taken-from3 .ensures) i))
+    (at + 3)
+    (read (c .before .taken-from4 .ok) (c .before .taken-from4 .ensures) i))
+    (at + 4)
+    (read (c .taken-from5 .ok) (c .taken-from5 .ensures) i)
+
+pub put-differences-spec : {M : Type 1} → statement M
+put-differences-spec =
+    tie.close
+    (tie.spec
+    mul-at
+    taken-from-requires
+    taken-from-requires-2
+    taken-from-requires-3
+    taken-from-requires-4
+    taken-from-requires-5
+    mul-weight
+    slice-set-from-weight
+    add-sum1
+    mul-sum1
+    slice-set-from-sum1
+    add-sum2
+    mul-sum2
+    slice-set-from-sum2
+    add-sum3
+    mul-sum3
+    slice-set-from-sum3
+    add-squares
+    mul-squares
+    slice-set-from-squares
+    same-length
+    returns)
