@@ -16,7 +16,7 @@ use Rattle.table.specs.Cell.{View}
 use Rattle.table.specs.Table.{Table, tableLen, Sized, viewOf}
 use Rattle.table.specs.Sound.{limit, sound}
 use Rattle.table.proofs.Tables.{sized-test, not-sized-test}
-use Rattle.compare.specs.declared.bins.Compared.{Compared}
+use Rattle.compare.specs.declared.call.Compared.{Compared}
 use Rattle.compare.specs.Compare.{differing, firstDiffering, differencesOf, compareNumberOn, allSized, compareOn}
 use Rattle.compare.specs.Compare.{compareNumber, compared, compareRecord, compareLater}
 
@@ -25,11 +25,11 @@ abbrev pub refusal : ℕ → Compared
 refusal n = record { number = n; differ = 0; first = 0 }
 
 module _ (b1 b2 b3 : ℕ) (t s : Table) (l : List ℤ) where
-  abbrev Ends : Compared → List ℤ → Type 0
+  abbrev pub Ends : Compared → List ℤ → Type 0
   Ends r x = (r ≡ compareRecord b1 b2 b3 t s l) × (x ≡ compareLater b1 b2 b3 t s l)
 
   -- what comes of the tables on a grid
-  abbrev on : {A : Type 0} → (ℕ → View → View → A) → Grid → A
+  abbrev pub on : {A : Type 0} → (ℕ → View → View → A) → Grid → A
   on f g = f (binsOf g) (viewOf t) (viewOf s)
 
   pub no-grid : gridOf b1 b2 b3 ≡ chosen.Refused → Ends (refusal 1) l

@@ -8,7 +8,7 @@ use native.Mathlib.Nat.{add-zero, zero-add}
 use native.Mathlib.Decide.{ℕ-discrete}
 use native.Mathlib.Omega.{arith}
 use lib.Dec.{eqb, ltb}
-use lib.IntN.{ℤ, pos, negsuc, subℕ, negℤ, _-ℤ_}
+use lib.IntN.{ℤ, pos, negsuc, natAbs, _-ℤ_}
 use lib.ListN.{length, getD, set, length-set}
 use lib.Seq.{getD-set-same, getD-set-other}
 use lib.Signed.{mag}
@@ -26,13 +26,18 @@ use Rattle.compare.specs.Compare.{difference, differs, differencesOf}
 use Rattle.compare.specs.Inner.{less, cellsDiffer, withDifferences, Small}
 
 -- ---- the size of a difference
-pub less-small : (most x y : ℕ) → x < most → y < most → mag (pos y -ℤ pos x) < most
+pub less-small : (most x y : ℕ) → x < most → y < most → natAbs (pos y -ℤ pos x) < most
 less-small most zero y h k = omega arith
 less-small most (suc x) y h k = by-sign (ltb y (suc x)) (suc x - suc y) (y - suc x) (omega arith) (omega arith)
   where
-    by-sign : (b : Bool) (m n : ℕ) → m < most → n < most → mag (cond b (negsuc m) (pos n)) < most
+    by-sign : (b : Bool) (m n : ℕ) → suc m < most → n < most → natAbs (cond b (negsuc m) (pos n)) < most
     by-sign true m n h k = h
     by-sign false m n h k = k
+
+-- as the machine measures it
+pub mag-small : (most : ℕ) (z : ℤ) → natAbs z < most → mag z < most
+mag-small most (pos n) h = h
+mag-small most (negsuc n) h = omega arith
 
 -- no number of a sound table is 2^50 or more
 pub cell-small : {g : Grid} (v : View) → Accepted g → sound limit g v ≡ true → (p : ℕ) → p < binsOf g

@@ -13,7 +13,7 @@ use Rattle.grid.specs.Grid.{gridOf, onGrid, numberOn, binsOf}
 use Rattle.table.specs.Cell.{View}
 use Rattle.table.specs.Table.{Table, tableLen, isSized, viewOf}
 use Rattle.table.specs.Sound.{limit, sound, unsoundNumber}
-use Rattle.compare.specs.declared.bins.Compared.{Compared}
+use Rattle.compare.specs.declared.call.Compared.{Compared}
 
 -- ---- what is compared: a first and a second view
 -- "the five differences, second minus first"

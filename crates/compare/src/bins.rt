@@ -1,4 +1,5 @@
 // Two sound tables, compared bin by bin.
+use crate::call::Compared;
 use grid::place::Grid;
 use grid::place::bins;
 use table::cell::Cell;
@@ -14,14 +15,6 @@ ghost use Rattle.table.specs.Table.{viewOf};
 ghost use Rattle.table.specs.Sound.{limit};
 ghost use Rattle.compare.specs.Compare.{differing, firstDiffering, differencesOf};
 ghost use Rattle.compare.specs.Inner.{less, cellsDiffer, withDifferences, Small, Comparable};
-
-// What a comparison hands back: its answer, how many bins differ, and the place of the first that does.
-#[repr(C)]
-pub struct Compared {
-    pub number: u8,
-    pub differ: usize,
-    pub first: usize,
-}
 
 // One number taken from another.
 fn taken_from(first: u64, second: u64) -> i64
@@ -83,7 +76,12 @@ fn first_so_far(differ: usize, at: usize, p: usize, x: bool) -> usize
 }
 
 // Writes all differences, and counts the bins that differ.
-pub(crate) fn compare_bins(g: Grid, first: &[u64], second: &[u64], differences: &mut [i64]) -> Compared
+pub(crate) fn compare_bins(
+    g: Grid,
+    first: &[u64],
+    second: &[u64],
+    differences: &mut [i64],
+) -> Compared
     requires { ⌜ Comparable limit g (now first) (now second) (now differences) ⌝ }
     ensures record { λ r. ⌜ r
         ≡ record {

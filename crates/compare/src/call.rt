@@ -1,5 +1,4 @@
 // Comparing: for each bin of two tables the five differences, and which bins differ.
-use crate::bins::Compared;
 use crate::bins::compare_bins;
 use grid::place::Chosen;
 use grid::place::grid_of;
@@ -8,6 +7,14 @@ use table::sound::SoundTotal;
 use table::sound::sound_total;
 ghost use mathlib.Core.Path.{_≡_};
 ghost use Rattle.compare.specs.Compare.{compareRecord, compareLater};
+
+// What a comparison hands back: its answer, how many bins differ, and the place of the first that does.
+#[repr(C)]
+pub struct Compared {
+    pub number: u8,
+    pub differ: usize,
+    pub first: usize,
+}
 
 // What a refusal hands back.
 fn refused(number: u8) -> Compared

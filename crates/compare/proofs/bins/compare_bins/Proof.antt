@@ -30,10 +30,10 @@ bins-requires c κs = c .before .before .pre .first .accepted
 
 loop-holds : tie.Need-loop-holds Inv-loop μ-loop
 loop-holds c = (
-      omega arith,
-      none-written _ _ _ _ (rw (c .bins .ensures) (c .before .before .before .pre .list)),
-      none-found _ _,
-    )
+  omega arith,
+  none-written _ _ _ _ (rw (c .bins .ensures) (c .before .before .before .pre .list)),
+  none-found _ _,
+)
 
 cell-at-requires : tie.Need-cell-at-requires Inv-loop μ-loop
 cell-at-requires c κs =

@@ -10,7 +10,7 @@ use lib.IntN.{ℤ, pos, _-ℤ_}
 use mir.Syntax.{w64}
 use mir.Val.{SFits, toZ}
 use mir.ValLaws.{toZ-ofZ}
-use Rattle.compare.proofs.Differences.{less-small}
+use Rattle.compare.proofs.Differences.{less-small, mag-small}
 use Rattle.compare.proofs.bins.taken_from.Statement.{statement}
 use Rattle.compare.proofs.bins.taken_from.Tie as tie
 
@@ -23,7 +23,10 @@ module _ (x y : ℕ) (h : (x < 2 ^ 50) × (y < 2 ^ 50)) where
   is = λ i. read-back y (h .1) i -ℤ read-back x (h .0) i
 
   fits : SFits w64 (pos y -ℤ pos x)
-  fits = record { sfits = lt-trans (less-small (2 ^ 50) x y (h .0) (h .1)) (lit< tt) }
+  fits =
+      record {
+        sfits = lt-trans (mag-small (2 ^ 50) (pos y -ℤ pos x) (less-small (2 ^ 50) x y (h .0) (h .1))) (lit< tt);
+      }
 
 cast-x : tie.Need-cast-x
 cast-x c = search needs
