@@ -12,7 +12,8 @@ use lib.IntN.{ℤ, pos, negsuc, natAbs, _-ℤ_}
 use lib.ListN.{length, getD, set, length-set}
 use lib.Seq.{getD-set-same, getD-set-other}
 use lib.Signed.{mag}
-use Rattle.basics.proofs.Range.{all-same, list-is}
+use Rattle.basics.specs.Range.{listFrom}
+use Rattle.basics.proofs.Range.{all-same, length-list, list-at, list-is}
 use Rattle.grid.specs.declared.place.Grid.{Grid}
 use Rattle.grid.specs.Grid.{Accepted, binsOf}
 use Rattle.table.specs.declared.cell.Cell.{Cell}
@@ -156,3 +157,27 @@ all-written {n} v u {l} w =
   where
     split : (k : ℕ) → k ≡ 5 * (k / 5) + k % 5
     split k = omega arith
+
+-- ---- the list of differences
+pub differences-at : (n : ℕ) (v u : View) (p j : ℕ) → p < n → j < 5
+    → getD (differencesOf n v u) (5 * p + j) (pos 0) ≡ difference v u p j
+unfolding differencesOf
+differences-at n v u p j h k =
+    list-at 0 (tableLen n) (λ i. difference v u (i / 5) (i % 5)) (5 * p + j) (pos 0) (omega (arith, wide-len n))
+    ∙ (λ i. difference v u (quotient i) (rest i))
+  where
+    quotient : (0 + (5 * p + j)) / 5 ≡ p
+    quotient = omega arith
+
+    rest : (0 + (5 * p + j)) % 5 ≡ j
+    rest = omega arith
+
+pub differences-length : (n : ℕ) (v u : View) → length (differencesOf n v u) ≡ tableLen n
+unfolding differencesOf
+differences-length n v u = length-list 0 (tableLen n) (λ i. difference v u (i / 5) (i % 5))
+
+-- in the order of a table's numbers
+pub differences-are : (n : ℕ) (v u : View)
+    → differencesOf n v u ≡ listFrom 0 (tableLen n) (λ i. difference v u (i / 5) (i % 5))
+unfolding differencesOf
+differences-are n v u = refl

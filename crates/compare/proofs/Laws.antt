@@ -3,7 +3,7 @@
 -- sound, and each number is known.
 -- Assumes nothing.
 use mathlib.Core.Path.{_≡_, refl, sym, ap, _∙_}
-use mathlib.Core.Bool.{Bool, true, not, _&&_}
+use mathlib.Core.Bool.{Bool, true, false, not, _&&_}
 use mathlib.Core.List.{List}
 use Prim.Native.Nat.{ℕ, suc}
 use borrow.Author.Tests.{eqb-true, not-false}
@@ -26,6 +26,7 @@ use Rattle.compare.specs.declared.call.Compared.{Compared}
 use Rattle.compare.specs.Compare.{differing, firstDiffering, differencesOf, compareNumberOn, allSized, compareOn}
 use Rattle.compare.specs.Compare.{compareNumber, compared, compareRecord, compareLater}
 use Rattle.compare.proofs.Calls.{refusal, on, all-done}
+use Rattle.compare.proofs.Views.{differing-other, first-other}
 
 module _ (b1 b2 b3 : ℕ) (t s : Table) (l : List ℤ) where
   abbrev number : ℕ
@@ -71,7 +72,7 @@ module _ (b1 b2 b3 : ℕ) (t s : Table) (l : List ℤ) where
     pub written : later ≡ differencesOf (binsOf g) (viewOf t) (viewOf s)
 
   -- what comes of it
-  comes : {A : Type 0} {g : Grid} → gridOf b1 b2 b3 ≡ chosen.Accepted g → compareOn t s l g ≡ 0
+  pub comes : {A : Type 0} {g : Grid} → gridOf b1 b2 b3 ≡ chosen.Accepted g → compareOn t s l g ≡ 0
       → (f : ℕ → View → View → A) (refused : A)
       → compared b1 b2 b3 t s l f refused ≡ f (binsOf g) (viewOf t) (viewOf s)
   unfolding compared onGrid whenDone
@@ -111,3 +112,38 @@ module _ (b1 b2 b3 : ℕ) (t s : Table) (l : List ℤ) where
   compare-accepts e first second list one two =
       sym (ap (λ (c : Compared). c .number) (all-done b1 b2 b3 t s l e first second list one two refl refl .0)
       ∙ compare-answer)
+
+-- ---- the two tables in the other order
+and-turned : (a b : Bool) → (a && b) ≡ (b && a)
+and-turned true true = refl
+and-turned true false = refl
+and-turned false true = refl
+and-turned false false = refl
+
+module _ (t s : Table) (l : List ℤ) (g : Grid) where
+  on-other : compareOn s t l g ≡ compareOn t s l g
+  unfolding compareOn compareNumberOn allSized
+  on-other =
+      λ i. refuse
+      (not (and-turned (isSized s (binsOf g)) (isSized t (binsOf g)) i && eqb (length l) (tableLen (binsOf g)))) 5
+      (refuse (not (and-turned (sound limit g (viewOf s)) (sound limit g (viewOf t)) i)) 6 0)
+
+module _ (b1 b2 b3 : ℕ) (t s : Table) (l : List ℤ) where
+  pub record-other : compareRecord b1 b2 b3 s t l ≡ compareRecord b1 b2 b3 t s l
+  unfolding compareRecord compareNumber compared
+  record-other =
+      λ i. record {
+        number = numberOn (gridOf b1 b2 b3) (λ g. on-other t s l g i);
+        differ = onGrid (gridOf b1 b2 b3) 0
+            (λ g. whenDone (on-other t s l g i) (differing-other (binsOf g) (viewOf t) (viewOf s) i) 0);
+        first = onGrid (gridOf b1 b2 b3) 0
+            (λ g. whenDone (on-other t s l g i) (first-other (binsOf g) (viewOf t) (viewOf s) i) 0);
+      }
+
+  -- what it leaves, where the comparison is done
+  pub later-other : compareNumber b1 b2 b3 t s l ≡ 0
+      → {g : Grid} → gridOf b1 b2 b3 ≡ chosen.Accepted g
+      → compareLater b1 b2 b3 s t l ≡ differencesOf (binsOf g) (viewOf s) (viewOf t)
+  unfolding compareNumber compareLater numberOn onGrid
+  later-other e {g} p =
+      comes b1 b2 b3 s t l p (on-other t s l g ∙ (rw p at e)) differencesOf l

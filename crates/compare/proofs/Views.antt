@@ -12,7 +12,8 @@ use lib.IntN.{ℤ, pos, negsuc, negℤ, natAbs, _+ℤ_, _-ℤ_, negℤ-+ℤ, neg
 use lib.IntN.{+ℤ-idr}
 use Rattle.grid.specs.declared.place.Grid.{Grid}
 use Rattle.basics.specs.Range.{sumFrom, allFrom}
-use Rattle.basics.proofs.Range.{sum-same, sum-zero, all-same, all-at, all-true, tests-same}
+use Rattle.basics.proofs.Range.{sum-same, sum-zero, all-same, all-at, all-true, tests-same, never-true}
+use Rattle.basics.proofs.Range.{term-le}
 use Rattle.grid.specs.Grid.{Accepted, binsOf}
 use Rattle.table.specs.Cell.{View}
 use Rattle.table.specs.Sound.{limit}
@@ -141,6 +142,14 @@ differing-never n v =
 pub first-never : (n : ℕ) (v : View) → firstDiffering n v v ≡ n
 unfolding firstDiffering differing
 first-never n v = first-none 0 n (differs v v) (differing-never n v) ∙ zero-add n
+
+-- where none is counted, none differs
+pub none-differs : (n : ℕ) (v u : View) → differing n v u ≡ 0 → (p : ℕ) → p < n → differs v u p ≡ false
+unfolding differing
+none-differs n v u e p h = never-true (differs v u p) (λ d. too-many (ap one d))
+  where
+    too-many : one (differs v u p) ≡ 1 → ⊥
+    too-many d = omega (arith, d, e, term-le 0 n (λ q. one (differs v u q)) p (omega arith) (omega arith))
 
 -- ---- their size
 pub difference-small : {g : Grid} {v u : View} → Accepted g → Sound limit g v → Sound limit g u → (p : ℕ) → p < binsOf g
