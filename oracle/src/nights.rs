@@ -19,7 +19,7 @@ struct Nights {
     list: usize,
 }
 
-/// What is to be told: "for each bin the five differences, second minus first", "how many bins differ and the place of
+/// What is to be told: "the five differences, second minus first" of each bin, "how many bins differ, and the place of
 /// the first that does. If none differs, the place is the number of bins."
 fn told(first: &[u64], second: &[u64]) -> (Vec<i64>, usize, usize) {
     let differences = first.iter().zip(second).map(|(&x, &y)| {

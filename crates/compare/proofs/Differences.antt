@@ -1,26 +1,26 @@
 -- Laws of differences: their size, and a list that they are written into, five at a place.
 -- Assumes nothing.
 use mathlib.Core.Path.{_≡_, refl, sym, ap, _∙_}
-use mathlib.Core.Bool.{Bool, true, false, not, cond}
+use mathlib.Core.Bool.{Bool, true, false, not, cond, _&&_}
 use mathlib.Core.List.{List}
 use Prim.Native.Nat.{ℕ, zero, suc, _+_, _-_, _*_, _/_, _%_, _^_, _≤_, _<_}
 use native.Mathlib.Nat.{add-zero, zero-add}
 use native.Mathlib.Decide.{ℕ-discrete}
 use native.Mathlib.Omega.{arith}
-use lib.Dec.{eqb, ltb}
+use lib.Dec.{eqb, ltb, lit<}
 use lib.IntN.{ℤ, pos, negsuc, natAbs, _-ℤ_}
 use lib.ListN.{length, getD, set, length-set}
 use lib.Seq.{getD-set-same, getD-set-other}
 use lib.Signed.{mag}
-use Rattle.basics.specs.Range.{listFrom}
-use Rattle.basics.proofs.Range.{all-same, length-list, list-at, list-is}
+use Rattle.basics.specs.Range.{listFrom, allFrom}
+use Rattle.basics.proofs.Range.{length-list, list-at, list-is}
 use Rattle.grid.specs.declared.place.Grid.{Grid}
 use Rattle.grid.specs.Grid.{Accepted, binsOf}
 use Rattle.table.specs.declared.cell.Cell.{Cell}
-use Rattle.table.specs.Cell.{View, numberOf, cellOf}
+use Rattle.table.specs.Cell.{View, cellOf}
 use Rattle.table.specs.Table.{tableLen}
 use Rattle.table.specs.Sound.{limit, sound}
-use Rattle.table.proofs.Cells.{number-cell}
+use Rattle.table.proofs.Cells.{cell-fields}
 use Rattle.table.proofs.Tables.{wide-len}
 use Rattle.table.proofs.Soundness.{number-below}
 use Rattle.compare.specs.Compare.{difference, differs, differencesOf}
@@ -44,10 +44,14 @@ mag-small most (negsuc n) h = omega arith
 pub cell-small : {g : Grid} (v : View) → Accepted g → sound limit g v ≡ true → (p : ℕ) → p < binsOf g
     → {c : Cell} → c ≡ cellOf (v p) → Small c
 cell-small v a s p h e =
+    let below = number-below a (record { holds = s }) p h (omega arith) in
+    let f = cell-fields (v p) e in
     record {
-      below = λ j k.
-          rw (ap (λ (x : Cell). numberOf x j) e ∙ number-cell (v p) j k)
-          (number-below a (record { holds = s }) p h (omega arith) j k);
+      weight = rw (f .weight) (below 0 (lit< tt));
+      sum1 = rw (f .sum1) (below 1 (lit< tt));
+      sum2 = rw (f .sum2) (below 2 (lit< tt));
+      sum3 = rw (f .sum3) (below 3 (lit< tt));
+      squares = rw (f .squares) (below 4 (lit< tt));
     }
 
 -- ---- five differences written at a place
@@ -122,9 +126,13 @@ module _ {n : ℕ} (v u : View) (p : ℕ) {l : List ℤ} (w : Written n v u p l)
   module _ {a b : Cell} (d : a ≡ cellOf (v p)) (e : b ≡ cellOf (u p)) where
     these : (j : ℕ) → j < 5 → less a b j ≡ difference v u p j
     unfolding less difference
-    these j k =
-        λ i. pos ((ap (λ (x : Cell). numberOf x j) e ∙ number-cell (u p) j k) i)
-        -ℤ pos ((ap (λ (x : Cell). numberOf x j) d ∙ number-cell (v p) j k) i)
+    these zero k = λ i. pos (cell-fields (u p) e .weight i) -ℤ pos (cell-fields (v p) d .weight i)
+    these (suc zero) k = λ i. pos (cell-fields (u p) e .sum1 i) -ℤ pos (cell-fields (v p) d .sum1 i)
+    these (suc (suc zero)) k = λ i. pos (cell-fields (u p) e .sum2 i) -ℤ pos (cell-fields (v p) d .sum2 i)
+    these (suc (suc (suc zero))) k = λ i. pos (cell-fields (u p) e .sum3 i) -ℤ pos (cell-fields (v p) d .sum3 i)
+    these (suc (suc (suc (suc zero)))) k =
+        λ i. pos (cell-fields (u p) e .squares i) -ℤ pos (cell-fields (v p) d .squares i)
+    these (suc (suc (suc (suc (suc j))))) k = absurd (omega arith)
 
     pub one-written : Written n v u (p + 1) (withDifferences l p (less a b))
     one-written =
@@ -140,13 +148,19 @@ module _ {n : ℕ} (v u : View) (p : ℕ) {l : List ℤ} (w : Written n v u p l)
 
     -- and whether the bin differs
     pub cells-tell : cellsDiffer a b ≡ differs v u p
-    unfolding cellsDiffer differs
+    unfolding cellsDiffer differs allFrom
     cells-tell =
-        ap not
-        (all-same 0 5 (λ j. eqb (numberOf a j) (numberOf b j)) (λ j. eqb (v p j) (u p j))
-        (λ j i k.
-        (λ m. eqb ((ap (λ (x : Cell). numberOf x j) d ∙ number-cell (v p) j (omega arith)) m)
-        ((ap (λ (x : Cell). numberOf x j) e ∙ number-cell (u p) j (omega arith)) m))))
+        let f = cell-fields (v p) d in
+        let h = cell-fields (u p) e in
+        (λ i. not
+        (eqb (f .weight i) (h .weight i)
+        && (eqb (f .sum1 i) (h .sum1 i)
+        && (eqb (f .sum2 i) (h .sum2 i)
+        && (eqb (f .sum3 i) (h .sum3 i) && last (eqb (f .squares i) (h .squares i)) i)))))
+      where
+        last : (b : Bool) → b ≡ (b && true)
+        last true = refl
+        last false = refl
 
 pub all-written : {n : ℕ} (v u : View) {l : List ℤ} → Written n v u n l → l ≡ differencesOf n v u
 unfolding differencesOf

@@ -60,19 +60,13 @@ unfolding binsFor onGrid
 bins-are b1 b2 b3 e = rw e refl
 
 module _ (b1 b2 b3 : ℕ) (t s : List ℕ) (l : List ℤ) where
-  abbrev back : Compared
-  back = compareRecord b1 b2 b3 t s l
-
-  abbrev later : List ℤ
-  later = compareLater b1 b2 b3 t s l
-
   -- ---- the other order: the same answer, number and place, refused or done
-  pub other-order : compareRecord b1 b2 b3 s t l ≡ back
+  pub other-order : compareRecord b1 b2 b3 s t l ≡ compareRecord b1 b2 b3 t s l
   other-order = record-other b1 b2 b3 t s l
 
   module _ (done : compareNumber b1 b2 b3 t s l ≡ 0) where
     -- and every difference negated
-    pub other-differences : compareLater b1 b2 b3 s t l ≡ map negℤ later
+    pub other-differences : compareLater b1 b2 b3 s t l ≡ map negℤ (compareLater b1 b2 b3 t s l)
     other-differences =
         let d = compare-says b1 b2 b3 t s l done in
         let n = binsOf (d .g) in
@@ -84,7 +78,7 @@ module _ (b1 b2 b3 : ℕ) (t s : List ℕ) (l : List ℤ) where
         ∙ ap (map negℤ) (sym (d .written ∙ differences-are n v u))
 
     -- ---- added to the first table they give the second
-    pub differences-added : plusEach (map pos t) later ≡ map pos s
+    pub differences-added : plusEach (map pos t) (compareLater b1 b2 b3 t s l) ≡ map pos s
     differences-added =
         let d = compare-says b1 b2 b3 t s l done in
         let n = binsOf (d .g) in
@@ -96,7 +90,7 @@ module _ (b1 b2 b3 : ℕ) (t s : List ℕ) (l : List ℤ) where
         ∙ sym (signed-list (d .lent .1))
 
     -- ---- tables that differ nowhere are the same
-    pub differ-nowhere : back .differ ≡ 0 → t ≡ s
+    pub differ-nowhere : compareRecord b1 b2 b3 t s l .differ ≡ 0 → t ≡ s
     differ-nowhere z =
         let d = compare-says b1 b2 b3 t s l done in
         let n = binsOf (d .g) in
@@ -111,7 +105,7 @@ module _ (b1 b2 b3 : ℕ) (t s : List ℕ) (l : List ℤ) where
         (none-differs n v u (sym (d .differ) ∙ z) (k / 5) (omega (arith, b, wide-len n))) (k % 5) (omega arith))))
 
     -- ---- which bins are counted
-    told : (p : ℕ) → p < binsFor b1 b2 b3 → differs (viewOf t) (viewOf s) p ≡ changed later p
+    told : (p : ℕ) → p < binsFor b1 b2 b3 → differs (viewOf t) (viewOf s) p ≡ changed (compareLater b1 b2 b3 t s l) p
     unfolding changed
     told p h =
         let d = compare-says b1 b2 b3 t s l done in
@@ -127,7 +121,8 @@ module _ (b1 b2 b3 : ℕ) (t s : List ℕ) (l : List ℤ) where
         ∙ differences-at n v u p j (rw (bins-are b1 b2 b3 (d .chosen)) at h) (omega arith)))))
 
     -- as many as have a difference that is not 0
-    pub counts-changed : back .differ ≡ sumFrom 0 (binsFor b1 b2 b3) (λ p. cond (changed later p) 1 0)
+    pub counts-changed : compareRecord b1 b2 b3 t s l .differ
+        ≡ sumFrom 0 (binsFor b1 b2 b3) (λ p. cond (changed (compareLater b1 b2 b3 t s l) p) 1 0)
     unfolding differing
     counts-changed =
         let d = compare-says b1 b2 b3 t s l done in
@@ -135,7 +130,8 @@ module _ (b1 b2 b3 : ℕ) (t s : List ℕ) (l : List ℤ) where
         ∙ sum-same 0 (binsFor b1 b2 b3) _ _ (λ p a b. ap (λ (c : Bool). cond c 1 0) (told p (omega arith)))
 
     -- and the place is the first of them
-    pub first-changed : IsFirst (binsFor b1 b2 b3) (changed later) (back .first)
+    pub first-changed :
+        IsFirst (binsFor b1 b2 b3) (changed (compareLater b1 b2 b3 t s l)) (compareRecord b1 b2 b3 t s l .first)
     unfolding firstDiffering
     first-changed =
         let d = compare-says b1 b2 b3 t s l done in
@@ -145,14 +141,16 @@ module _ (b1 b2 b3 : ℕ) (t s : List ℕ) (l : List ℤ) where
         let high = first-high 0 n f in
         record {
           within = omega (arith, d .first, high, bins);
-          here = λ h. sym (told (back .first) h) ∙ ap f (d .first) ∙ first-holds 0 n f (omega (arith, h, d .first, bins));
+          here = λ h. sym (told (compareRecord b1 b2 b3 t s l .first) h)
+              ∙ ap f (d .first)
+              ∙ first-holds 0 n f (omega (arith, h, d .first, bins));
           none-before = λ p h. sym (told p (omega (arith, h, d .first, high, bins)))
               ∙ none-before 0 n f p (omega arith) (omega (arith, h, d .first));
         }
 
     -- ---- no difference is 2^50 or more in size
     pub differences-small : (p j : ℕ) → p < binsFor b1 b2 b3 → j < 5
-        → natAbs (getD later (5 * p + j) (pos 0)) < 2 ^ 50
+        → natAbs (getD (compareLater b1 b2 b3 t s l) (5 * p + j) (pos 0)) < 2 ^ 50
     differences-small p j h k =
         let d = compare-says b1 b2 b3 t s l done in
         let n = binsOf (d .g) in

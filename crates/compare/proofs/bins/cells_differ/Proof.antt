@@ -4,36 +4,34 @@ use mathlib.Core.Path.{_≡_, refl}
 use mathlib.Core.Bool.{Bool, true, false, not, _&&_}
 use borrow.Author.Tests.{eq-eqb, ne-eqb}
 use lib.Dec.{eqb}
-use Rattle.basics.specs.Range.{allFrom}
-use Rattle.table.specs.Cell.{numberOf}
 use Rattle.compare.specs.Inner.{cellsDiffer}
 use Rattle.compare.proofs.bins.cells_differ.Statement.{statement}
 use Rattle.compare.proofs.bins.cells_differ.Tie as tie
 
 -- the last number tells, where the others are the same
 last : {a b c d : Bool} (e : Bool) → a ≡ true → b ≡ true → c ≡ true → d ≡ true
-    → not e ≡ not (a && (b && (c && (d && (e && true)))))
+    → not e ≡ not (a && (b && (c && (d && e))))
 last true p q r s = rw (p, q, r, s) refl
 last false p q r s = rw (p, q, r, s) refl
 
 returns : tie.Need-returns
-unfolding cellsDiffer allFrom numberOf
+unfolding cellsDiffer
 returns c = simp (ne-eqb _ _ (c .if1 .taken))
 
 returns-2 : tie.Need-returns-2
-unfolding cellsDiffer allFrom numberOf
+unfolding cellsDiffer
 returns-2 c = simp (eq-eqb _ _ (c .before .before .before .if1 .left), ne-eqb _ _ (c .if2 .taken))
 
 returns-3 : tie.Need-returns-3
-unfolding cellsDiffer allFrom numberOf
+unfolding cellsDiffer
 returns-3 c = simp (eq-eqb _ _ (c .before .before .before .before .before .before .if1 .left), eq-eqb _ _ (c .before .before .before .if2 .left), ne-eqb _ _ (c .if3 .taken))
 
 returns-4 : tie.Need-returns-4
-unfolding cellsDiffer allFrom numberOf
+unfolding cellsDiffer
 returns-4 c = simp (eq-eqb _ _ (c .before .before .before .before .before .before .before .before .before .if1 .left), eq-eqb _ _ (c .before .before .before .before .before .before .if2 .left), eq-eqb _ _ (c .before .before .before .if3 .left), ne-eqb _ _ (c .if4 .taken))
 
 returns-5 : tie.Need-returns-5
-unfolding cellsDiffer allFrom numberOf
+unfolding cellsDiffer
 returns-5 c =
     let third = c .before .before .before .before .before in
     let second = third .before .before .before in

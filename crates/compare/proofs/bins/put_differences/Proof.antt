@@ -4,7 +4,6 @@ use mathlib.Core.Path.{_≡_, _∙_}
 use Prim.Native.Nat.{_+_, _*_, _^_, _<_}
 use native.Mathlib.Omega.{arith}
 use borrow.Author.Needs.{needs}
-use lib.Dec.{lit<}
 use lib.IntN.{ℤ}
 use lib.ListN.{set, length-set}
 use lib.Signed.{mag}
@@ -12,7 +11,6 @@ use denote.Ref.{now}
 use mir.Syntax.{w64}
 use mir.Val.{hbits, toZ, ofZ}
 use mir.ValLaws.{toZ-ofZ}
-use Rattle.table.specs.Cell.{numberOf}
 use Rattle.compare.specs.Inner.{less, withDifferences}
 use Rattle.compare.proofs.bins.put_differences.Statement.{statement}
 use Rattle.compare.proofs.bins.put_differences.Tie as tie
@@ -25,24 +23,19 @@ mul-at : tie.Need-mul-at
 mul-at c = search needs
 
 taken-from-requires : tie.Need-taken-from-requires
-unfolding numberOf
-taken-from-requires c κs = (c .pre .1 .below 0 (lit< tt), c .pre .2 .below 0 (lit< tt))
+taken-from-requires c κs = (c .pre .1 .weight, c .pre .2 .weight)
 
 taken-from-requires-2 : tie.Need-taken-from-requires-2
-unfolding numberOf
-taken-from-requires-2 c κs = (c .before .pre .1 .below 1 (lit< tt), c .before .pre .2 .below 1 (lit< tt))
+taken-from-requires-2 c κs = (c .before .pre .1 .sum1, c .before .pre .2 .sum1)
 
 taken-from-requires-3 : tie.Need-taken-from-requires-3
-unfolding numberOf
-taken-from-requires-3 c κs = (c .before .before .pre .1 .below 2 (lit< tt), c .before .before .pre .2 .below 2 (lit< tt))
+taken-from-requires-3 c κs = (c .before .before .pre .1 .sum2, c .before .before .pre .2 .sum2)
 
 taken-from-requires-4 : tie.Need-taken-from-requires-4
-unfolding numberOf
-taken-from-requires-4 c κs = (c .before .before .before .pre .1 .below 3 (lit< tt), c .before .before .before .pre .2 .below 3 (lit< tt))
+taken-from-requires-4 c κs = (c .before .before .before .pre .1 .sum3, c .before .before .before .pre .2 .sum3)
 
 taken-from-requires-5 : tie.Need-taken-from-requires-5
-unfolding numberOf
-taken-from-requires-5 c κs = (c .before .before .before .before .pre .1 .below 4 (lit< tt), c .before .before .before .before .pre .2 .below 4 (lit< tt))
+taken-from-requires-5 c κs = (c .before .before .before .before .pre .1 .squares, c .before .before .before .before .pre .2 .squares)
 
 mul-weight : tie.Need-mul-weight
 mul-weight c = search needs
@@ -90,7 +83,7 @@ same-length : tie.Need-same-length
 same-length c = search needs
 
 returns : tie.Need-returns
-unfolding withDifferences less numberOf
+unfolding withDifferences less
 returns c =
     let start = c .before .before .before .before .before in
     let at = 5 * start .args .place in
