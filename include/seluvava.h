@@ -112,8 +112,8 @@ uint8_t seluvava_merge(size_t b1, size_t b2, size_t b3,
                        const uint64_t *second, size_t second_len);
 
 /*
- * What a comparison answers: its number, how many bins differ, and the place of the first that does, which is the number
- * of bins where none differs. A refusal has zeros beside its number.
+ * What a comparison answers: its number, how many bins differ, and the place of the first that does, which is the
+ * number of bins where none differs. A refusal has zeros beside its number.
  */
 struct seluvava_compare_answer {
     uint8_t number;
@@ -123,8 +123,8 @@ struct seluvava_compare_answer {
 
 /*
  * Compare: writes for each bin the five differences, second minus first. A bin differs where one of its five numbers
- * does. In the other order every difference has the other sign, and the answer is the same. Added to the first table the
- * differences give the second. None is 2^50 or more in size.
+ * does. In the other order every difference has the other sign, and the answer is the same. Added to the first table
+ * the differences give the second. None is 2^50 or more in size.
  *
  *   first         5 * bins numbers, sound.
  *   second        5 * bins numbers, sound. It may be the first itself.

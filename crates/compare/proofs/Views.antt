@@ -85,7 +85,8 @@ module _ (v u : View) (p : ℕ) where
       (all-at 0 5 (λ k. eqb (v p k) (u p k)) (not-false _ e) j (omega arith) (omega arith))
 
 -- ---- which of them is the first
-pub first-same : (i n : ℕ) (f g : ℕ → Bool) → ((p : ℕ) → i ≤ p → p < i + n → f p ≡ g p) → firstFrom i n f ≡ firstFrom i n g
+pub first-same : (i n : ℕ) (f g : ℕ → Bool) → ((p : ℕ) → i ≤ p → p < i + n → f p ≡ g p)
+    → firstFrom i n f ≡ firstFrom i n g
 unfolding firstFrom
 first-same i zero f g h = refl
 first-same i (suc n) f g h =

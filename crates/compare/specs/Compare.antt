@@ -1,5 +1,5 @@
--- Comparing two tables (Rules, Compare; Rules, Answers), over what they hold. Signed numbers are the library's integers.
--- Definitions only.
+-- Comparing two tables (Rules, Compare; Rules, Answers), over what they hold. Signed numbers are the library's
+-- integers. Definitions only.
 use mathlib.Core.Bool.{Bool, not, _&&_, cond}
 use mathlib.Core.List.{List}
 use Prim.Native.Nat.{ℕ, zero, suc, _/_, _%_}
@@ -42,8 +42,8 @@ unfoldable pub differencesOf : ℕ → View → View → List ℤ
 differencesOf bins v u = listFrom 0 (tableLen bins) (λ i. difference v u (i / 5) (i % 5))
 
 -- ---- the call
--- the answer on an accepted grid: a limit, whether all lengths are right, and what the tables hold; "either table unsound
--- is 6"
+-- the answer on an accepted grid: a limit, whether all lengths are right, and what the tables hold; "either table
+-- unsound is 6"
 unfoldable pub compareNumberOn : ℕ → Grid → Bool → View → View → ℕ
 compareNumberOn most g sized v u =
     refuse (not sized) 5

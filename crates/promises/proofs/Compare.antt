@@ -157,7 +157,8 @@ module _ (b1 b2 b3 : ℕ) (t s : List ℕ) (l : List ℤ) where
         let inside : p < n = rw (bins-are b1 b2 b3 (d .chosen)) at h in
         rw (ap (λ (x : List ℤ). getD x (5 * p + j) (pos 0)) (d .written)
         ∙ differences-at n (viewOf t) (viewOf s) p j inside k)
-        (difference-small (chose b1 b2 b3 (d .g) (d .chosen) .accepted) (d .are-sound .0) (d .are-sound .1) p inside j k)
+        (difference-small (chose b1 b2 b3 (d .g) (d .chosen) .accepted) (d .are-sound .0) (d .are-sound .1) p inside j
+        k)
 
 -- ---- equal tables differ nowhere, and the place is the number of bins
 pub equal-tables : (b1 b2 b3 : ℕ) (t : List ℕ) (l : List ℤ) → compareNumber b1 b2 b3 t t l ≡ 0

@@ -35,7 +35,9 @@ taken-from-requires-4 : tie.Need-taken-from-requires-4
 taken-from-requires-4 c κs = (c .before .before .before .pre .1 .sum3, c .before .before .before .pre .2 .sum3)
 
 taken-from-requires-5 : tie.Need-taken-from-requires-5
-taken-from-requires-5 c κs = (c .before .before .before .before .pre .1 .squares, c .before .before .before .before .pre .2 .squares)
+taken-from-requires-5 c κs =
+    let pre = c .before .before .before .before .pre in
+    (pre .1 .squares, pre .2 .squares)
 
 mul-weight : tie.Need-mul-weight
 mul-weight c = search needs
@@ -85,21 +87,24 @@ same-length c = search needs
 returns : tie.Need-returns
 unfolding withDifferences less
 returns c =
-    let start = c .before .before .before .before .before in
-    let at = 5 * start .args .place in
+    let four = c .before in
+    let three = four .before in
+    let two = three .before in
+    let one = two .before in
+    let a = one .before .args in
+    let at = 5 * a .place in
     λ i.
     set
     (set
     (set
     (set
-    (set (now (start .args .differences)) at
-    (read (c .before .before .before .before .taken-from .ok) (c .before .before .before .before .taken-from .ensures) i))
+    (set (now (a .differences)) at (read (one .taken-from .ok) (one .taken-from .ensures) i))
     (at + 1)
-    (read (c .before .before .before .taken-from2 .ok) (c .before .before .before .taken-from2 .ensures) i))
+    (read (two .taken-from2 .ok) (two .taken-from2 .ensures) i))
     (at + 2)
-    (read (c .before .before .taken-from3 .ok) (c .before .before .taken-from3 .ensures) i))
+    (read (three .taken-from3 .ok) (three .taken-from3 .ensures) i))
     (at + 3)
-    (read (c .before .taken-from4 .ok) (c .before .taken-from4 .ensures) i))
+    (read (four .taken-from4 .ok) (four .taken-from4 .ensures) i))
     (at + 4)
     (read (c .taken-from5 .ok) (c .taken-from5 .ensures) i)
 

@@ -1,5 +1,5 @@
--- `compare::bins::taken_from` meets its contract: both numbers and their difference fit an i64, so that the casts and the
--- subtraction lose nothing.
+-- `compare::bins::taken_from` meets its contract: both numbers and their difference fit an i64, so that the casts and
+-- the subtraction lose nothing.
 -- Assumes nothing.
 use mathlib.Core.Path.{_≡_, sym, subst, _∙_}
 use Prim.Native.Nat.{ℕ, _^_, _<_}

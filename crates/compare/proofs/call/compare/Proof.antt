@@ -163,7 +163,8 @@ returns-5 c =
     let a = entry (on k) .args in
     let e = first-unsound (a .b1) (a .b2) (a .b3) (first k) (second k) (list k) (on-grid (on k))
     (first-table k .lent) (second-table k .lent) (list-long k)
-    (unsound-says limit _ _ (sym (c .before .before .before .sound-total .ensures) ∙ c .before .enum-told2 .given .1)) in
+    (unsound-says limit _ _
+    (sym (c .before .before .before .sound-total .ensures) ∙ c .before .enum-told2 .given .1)) in
     (c .refused5 .ensures ∙ e .0, e .1)
 
 sound-total-requires-2 : tie.Need-sound-total-requires-2
@@ -185,7 +186,8 @@ returns-6 c =
     let a = entry (on k) .args in
     let e = second-unsound (a .b1) (a .b2) (a .b3) (first k) (second k) (list k) (on-grid (on k))
     (first-table k .lent) (second-table k .lent) (list-long k) (first-sound f)
-    (unsound-says limit _ _ (sym (c .before .before .before .sound-total2 .ensures) ∙ c .before .enum-told3 .given .1)) in
+    (unsound-says limit _ _
+    (sym (c .before .before .before .sound-total2 .ensures) ∙ c .before .enum-told3 .given .1)) in
     (c .refused6 .ensures ∙ e .0, e .1)
 
 compare-bins-requires : tie.Need-compare-bins-requires
