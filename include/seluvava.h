@@ -8,8 +8,9 @@
  * go by them, and the archive exports just these names. WHAT A CALLER SEES TO stands under LENT BUFFERS and ROUNDING:
  * no call can test it.
  *
- * load counts colours into a table, merge adds a second table into a first, cut makes of a table a palette of at
- * most 256 colours and a map to it, and map and paint take the pixels of a frame to that palette.
+ * load counts colours into a table, merge adds a second table into a first, compare tells where two tables differ, cut
+ * makes of a table a palette of at most 256 colours and a map to it, and map and paint take the pixels of a frame to
+ * that palette.
  * docs/CHOOSING.md has what to know first: which grid, what comes back inexactly, how to save a table.
  *
  * GRID. Each call is told three sizes, one for each component of a colour, each from 2, 4, 8, 16, 32, 64, 128.
@@ -38,7 +39,7 @@
  * enough for each, as tests/stack.c measures. Of a C library the archive takes memcpy and memset and nothing else; a
  * program without one brings these two.
  *
- * ANSWERS. What load, merge, map and paint hand back, and a cut in `number`:
+ * ANSWERS. What load, merge, map and paint hand back, and compare and cut in `number`:
  *
  *   0  done
  *   1  a grid size not among the seven
@@ -109,6 +110,33 @@ uint8_t seluvava_load(size_t b1, size_t b2, size_t b3,
 uint8_t seluvava_merge(size_t b1, size_t b2, size_t b3,
                        uint64_t *table, size_t table_len,
                        const uint64_t *second, size_t second_len);
+
+/*
+ * What a comparison answers: its number, how many bins differ, and the place of the first that does, which is the
+ * number of bins where none differs. A refusal has zeros beside its number.
+ */
+struct seluvava_compare_answer {
+    uint8_t number;
+    size_t differ;
+    size_t first;
+};
+
+/*
+ * Compare: writes for each bin the five differences, second minus first. A bin differs where one of its five numbers
+ * does. In the other order every difference has the other sign, and the answer is the same. Added to the first table
+ * the differences give the second. None is 2^50 or more in size.
+ *
+ *   first         5 * bins numbers, sound.
+ *   second        5 * bins numbers, sound. It may be the first itself.
+ *   differences   5 * bins numbers, whatever they are. Afterwards the differences, from 5 * place on those of a bin.
+ *
+ * Answers 0, 1, 5, 6.
+ */
+struct seluvava_compare_answer
+seluvava_compare(size_t b1, size_t b2, size_t b3,
+                 const uint64_t *first, size_t first_len,
+                 const uint64_t *second, size_t second_len,
+                 int64_t *differences, size_t differences_len);
 
 /*
  * What a cut answers: its number, how many boxes there are, and in how many rounds they were found. A refusal has none

@@ -17,13 +17,16 @@
 
 /* ---- What a call is asked with */
 
-enum buffer { TABLE, SECOND, WORK, COLOURS, WEIGHTS, PALETTE, COUNTS, MAP, BOXES, SPREADS, FRAME, INDICES, BUFFERS };
+enum buffer {
+    TABLE, SECOND, DIFFERENCES, WORK, COLOURS, WEIGHTS, PALETTE, COUNTS, MAP, BOXES, SPREADS, FRAME, INDICES, BUFFERS
+};
 
 /* Numbers, and the length and content of each buffer. Grids have at most 64 bins here. */
 struct asked {
     size_t b1, b2, b3, k, weighted, told, first, pixels;
     size_t length[BUFFERS];
     uint64_t table[321], second[321], work[321];
+    int64_t differences[321];
     uint8_t colours[3 * PIXELS];
     uint32_t weights[PIXELS];
     uint8_t palette[780];
@@ -40,15 +43,16 @@ static const struct {
     size_t at, room, element;
 } buffers[] = {
     [TABLE] = {"table", AT(table), 8},       [SECOND] = {"second", AT(second), 8},
-    [WORK] = {"work", AT(work), 8},          [COLOURS] = {"colours", AT(colours), 1},
-    [WEIGHTS] = {"weights", AT(weights), 4}, [PALETTE] = {"palette", AT(palette), 1},
-    [COUNTS] = {"counts", AT(counts), 4},    [MAP] = {"map", AT(map), 1},
-    [BOXES] = {"boxes", AT(boxes), 1},       [SPREADS] = {"spreads", AT(spreads), 8},
-    [FRAME] = {"frame", AT(frame), 1},       [INDICES] = {"indices", AT(indices), 1},
+    [WORK] = {"work", AT(work), 8},          [DIFFERENCES] = {"differences", AT(differences), 8},
+    [COLOURS] = {"colours", AT(colours), 1}, [WEIGHTS] = {"weights", AT(weights), 4},
+    [PALETTE] = {"palette", AT(palette), 1}, [COUNTS] = {"counts", AT(counts), 4},
+    [MAP] = {"map", AT(map), 1},             [BOXES] = {"boxes", AT(boxes), 1},
+    [SPREADS] = {"spreads", AT(spreads), 8}, [FRAME] = {"frame", AT(frame), 1},
+    [INDICES] = {"indices", AT(indices), 1},
 };
 
 /* Which buffers a call is lent, and which of them it may change. */
-enum call { LOAD, MERGE, CUT, MAPPING, PAINT, CALLS };
+enum call { LOAD, MERGE, COMPARE, CUT, MAPPING, PAINT, CALLS };
 #define BIT(n) (1u << (n))
 
 static const struct {
@@ -57,15 +61,22 @@ static const struct {
 } calls[] = {
     [LOAD] = {"load", BIT(TABLE) | BIT(COLOURS) | BIT(WEIGHTS), BIT(TABLE)},
     [MERGE] = {"merge", BIT(TABLE) | BIT(SECOND), BIT(TABLE)},
+    [COMPARE] = {"compare", BIT(TABLE) | BIT(SECOND) | BIT(DIFFERENCES), BIT(DIFFERENCES)},
     [CUT] = {"cut", BIT(TABLE) | BIT(WORK) | BIT(PALETTE) | BIT(COUNTS) | BIT(MAP) | BIT(BOXES) | BIT(SPREADS),
              BIT(WORK) | BIT(PALETTE) | BIT(COUNTS) | BIT(MAP) | BIT(BOXES) | BIT(SPREADS)},
     [MAPPING] = {"map", BIT(MAP) | BIT(FRAME) | BIT(INDICES), BIT(INDICES)},
     [PAINT] = {"paint", BIT(MAP) | BIT(PALETTE) | BIT(FRAME), BIT(FRAME)},
 };
 
-static struct seluvava_cut_answer answer_of(enum call call, const struct asked *q, void *const *at)
+/* What a call hands back, of whatever it has. */
+struct answer {
+    unsigned number;
+    size_t boxes, rounds, differ, first;
+};
+
+static struct answer answer_of(enum call call, const struct asked *q, void *const *at)
 {
-    struct seluvava_cut_answer answer = {0, 0, 0};
+    struct answer answer = {0, 0, 0, 0, 0};
     const size_t b1 = q->b1, b2 = q->b2, b3 = q->b3, *length = q->length;
     switch (call) {
     case LOAD:
@@ -75,11 +86,21 @@ static struct seluvava_cut_answer answer_of(enum call call, const struct asked *
     case MERGE:
         answer.number = seluvava_merge(b1, b2, b3, at[TABLE], length[TABLE], at[SECOND], length[SECOND]);
         break;
-    case CUT:
-        answer = seluvava_cut(b1, b2, b3, q->k, at[TABLE], length[TABLE], at[WORK], length[WORK],
-                              at[PALETTE], length[PALETTE], at[COUNTS], length[COUNTS], at[MAP], length[MAP],
-                              at[BOXES], length[BOXES], at[SPREADS], length[SPREADS]);
+    case COMPARE: {
+        const struct seluvava_compare_answer compared =
+            seluvava_compare(b1, b2, b3, at[TABLE], length[TABLE], at[SECOND], length[SECOND], at[DIFFERENCES],
+                             length[DIFFERENCES]);
+        answer = (struct answer){compared.number, 0, 0, compared.differ, compared.first};
         break;
+    }
+    case CUT: {
+        const struct seluvava_cut_answer cut =
+            seluvava_cut(b1, b2, b3, q->k, at[TABLE], length[TABLE], at[WORK], length[WORK],
+                         at[PALETTE], length[PALETTE], at[COUNTS], length[COUNTS], at[MAP], length[MAP],
+                         at[BOXES], length[BOXES], at[SPREADS], length[SPREADS]);
+        answer = (struct answer){cut.number, cut.boxes, cut.rounds, 0, 0};
+        break;
+    }
     case MAPPING:
         answer.number = seluvava_map(b1, b2, b3, at[MAP], length[MAP], q->told, at[FRAME], length[FRAME],
                                      at[INDICES], length[INDICES], q->first, q->pixels);
@@ -114,6 +135,18 @@ static void loaded(struct asked *q)
 static void merged(struct asked *q)
 {
     for (size_t i = 0; i < q->length[TABLE]; i++) q->table[i] += q->second[i];
+}
+
+/* The differences, and what is told of them. */
+static void compared(struct asked *q, size_t differ, size_t first)
+{
+    const size_t bins = q->length[TABLE] / 5;
+    size_t differing = 0, place = bins;
+    for (size_t p = bins; p-- > 0;)
+        if (memcmp(q->table + 5 * p, q->second + 5 * p, 5 * sizeof *q->table) != 0) differing++, place = p;
+    for (size_t i = 0; i < 5 * bins; i++) q->differences[i] = (int64_t)q->second[i] - (int64_t)q->table[i];
+    check(differ == differing, "%zu bins differ and not %zu", differing, differ);
+    check(first == place, "the first that differs is at place %zu and not %zu", place, first);
 }
 
 /* The sum over the bins of a box. */
@@ -151,7 +184,7 @@ static size_t box_cut(struct asked *q, size_t i)
 }
 
 /* All that follows from the boxes. Which they are, and whose spread is 0.0, the worked ones tell. */
-static void cut(struct asked *q, struct seluvava_cut_answer answer, const uint8_t *bounds, const double *spreads)
+static void cut(struct asked *q, struct answer answer, const uint8_t *bounds, const double *spreads)
 {
     const size_t boxes = answer.boxes, rounds = answer.rounds;
     size_t bins = 0;
@@ -221,12 +254,11 @@ static void *lend(size_t buffer, const void *content, size_t size, bool changes)
 }
 
 /* Asks a call, which must answer the number, and holds every lent byte to what must be there then: on a refusal what
- * was there before. What was asked with becomes what is there then. Hands on what a cut answers. */
-static struct seluvava_cut_answer ask(enum call call, struct asked *q, unsigned number, const char *what,
-                                      const char *and)
+ * was there before. What was asked with becomes what is there then. Hands on what the call handed back. */
+static struct answer ask(enum call call, struct asked *q, unsigned number, const char *what, const char *and)
 {
     void *at[BUFFERS] = {NULL};
-    struct seluvava_cut_answer answer;
+    struct answer answer;
     now("%s, %s%s%s, %s", calls[call].name, what, *and ? " and " : "", and, ways[way]);
     for (size_t b = 0; b < BUFFERS; b++)
         if (calls[call].lent & BIT(b))
@@ -234,9 +266,11 @@ static struct seluvava_cut_answer ask(enum call call, struct asked *q, unsigned 
                          number == 0 && (calls[call].changed & BIT(b)));
     answer = answer_of(call, q, at);
     check(answer.number == number, "answered %u and not %u", answer.number, number);
-    if (number != 0) check(answer.boxes == 0 && answer.rounds == 0, "a refusal answered boxes or rounds");
+    if (number != 0)
+        check(!answer.boxes && !answer.rounds && !answer.differ && !answer.first, "a refusal told more than its number");
     else if (call == LOAD) loaded(q);
     else if (call == MERGE) merged(q);
+    else if (call == COMPARE) compared(q, answer.differ, answer.first);
     else if (call == CUT) cut(q, answer, at[BOXES], at[SPREADS]);
     else if (call == MAPPING) mapped(q);
     else painted(q);
@@ -331,7 +365,7 @@ static void ask_worked(const struct worked *w)
         memcpy(q.weights, batch->weights, q.length[WEIGHTS] * sizeof *q.weights);
         ask(LOAD, &q, batch->number, w->name, "");
     }
-    const struct seluvava_cut_answer answer = ask(CUT, &q, w->number, w->name, "");
+    const struct answer answer = ask(CUT, &q, w->number, w->name, "");
     const size_t boxes = answer.boxes;
     check(boxes == w->boxes, "%zu boxes and not %zu", boxes, w->boxes);
     check(answer.rounds == w->rounds, "%zu rounds and not %zu", answer.rounds, w->rounds);
@@ -365,7 +399,7 @@ static struct asked good(void)
     memcpy(q.frame, q.colours, sizeof q.frame);
     for (size_t i = 0; i < COUNT(q.map); i++) q.map[i] = (uint8_t)(i % 3);
     for (size_t i = 0; i < COUNT(q.palette); i++) q.palette[i] = (uint8_t)(7 * i);
-    q.length[TABLE] = q.length[SECOND] = q.length[WORK] = 320;
+    q.length[TABLE] = q.length[SECOND] = q.length[DIFFERENCES] = q.length[WORK] = 320;
     q.length[MAP] = 64;
     q.length[COLOURS] = q.length[FRAME] = 15;
     q.length[WEIGHTS] = q.length[INDICES] = 5;
@@ -380,7 +414,8 @@ static struct asked good(void)
 
 #define PUT(member, value) AT(member), value
 #define ALL (BIT(CALLS) - 1)
-#define TABLES (BIT(LOAD) | BIT(MERGE) | BIT(CUT))
+#define TWO (BIT(MERGE) | BIT(COMPARE))
+#define TABLES (BIT(LOAD) | TWO | BIT(CUT))
 #define FRAMES (BIT(MAPPING) | BIT(PAINT))
 
 /* Who looks at 32 bits alone takes it for n. */
@@ -416,9 +451,12 @@ static const struct change {
     {TABLES, 5, "table one short", PUT(length[TABLE], 319)},
     {TABLES, 5, "table one long", PUT(length[TABLE], 321)},
     {TABLES, 5, "no table", PUT(length[TABLE], 0)},
-    {BIT(MERGE), 5, "second table one short", PUT(length[SECOND], 319)},
-    {BIT(MERGE), 5, "second table one long", PUT(length[SECOND], 321)},
-    {BIT(MERGE), 5, "no second table", PUT(length[SECOND], 0)},
+    {TWO, 5, "second table one short", PUT(length[SECOND], 319)},
+    {TWO, 5, "second table one long", PUT(length[SECOND], 321)},
+    {TWO, 5, "no second table", PUT(length[SECOND], 0)},
+    {BIT(COMPARE), 5, "differences one short", PUT(length[DIFFERENCES], 319)},
+    {BIT(COMPARE), 5, "differences one long", PUT(length[DIFFERENCES], 321)},
+    {BIT(COMPARE), 5, "no differences", PUT(length[DIFFERENCES], 0)},
     {BIT(CUT), 5, "work table one short", PUT(length[WORK], 319)},
     {BIT(CUT), 5, "work table one long", PUT(length[WORK], 321)},
     {BIT(CUT), 5, "no work table", PUT(length[WORK], 0)},
@@ -457,9 +495,9 @@ static const struct change {
     {TABLES, 6, "empty bin with a sum", PUT(table[6], 1)},
     {TABLES, 6, "weights past the limit", PUT(table[0], LIMIT - 9)},
     {TABLES, 6, "weight far too large", PUT(table[0], UINT64_MAX)},
-    {BIT(MERGE), 6, "sum of the second table above n * high", PUT(second[81], 255)},
-    {BIT(MERGE), 6, "squares of the second table 0 beside a weight", PUT(second[84], 0)},
-    {BIT(MERGE), 6, "weights of the second table past the limit", PUT(second[0], LIMIT - 9)},
+    {TWO, 6, "sum of the second table above n * high", PUT(second[81], 255)},
+    {TWO, 6, "squares of the second table 0 beside a weight", PUT(second[84], 0)},
+    {TWO, 6, "weights of the second table past the limit", PUT(second[0], LIMIT - 9)},
     {BIT(LOAD), 7, "total one past the limit", PUT(weights[2], LIMIT - 18)},
     {BIT(LOAD), 7, "weight that is the limit", PUT(weights[4], LIMIT)},
     {BIT(LOAD) | BIT(MERGE), 7, "full table", PUT(table[0], LIMIT - 10)},
@@ -472,7 +510,10 @@ static const struct change {
     {TABLES, 0, "sum at n * high", PUT(table[81], 254)},
     {TABLES, 0, "squares at n * the squared lows", PUT(table[84], 8192)},
     {TABLES, 0, "squares at n * the squared highs", PUT(table[84], 66438)},
-    {BIT(CUT), 0, "full table", PUT(table[0], LIMIT - 10)},
+    {BIT(COMPARE) | BIT(CUT), 0, "full table", PUT(table[0], LIMIT - 10)},
+    {BIT(COMPARE), 0, "full second table", PUT(second[0], LIMIT - 10)},
+    {BIT(COMPARE), 0, "another sum in the second table", PUT(second[81], 201)},
+    {BIT(COMPARE), 0, "other squares in the second table", PUT(second[84], 20001)},
     {BIT(LOAD), 0, "total at the limit", PUT(weights[2], LIMIT - 19)},
     {BIT(MERGE), 0, "total at the limit", PUT(second[0], LIMIT - 23)},
     {BIT(CUT), 0, "k 1", PUT(k, 1)},
@@ -556,11 +597,45 @@ static void ask_squares(void)
                 memcpy(q.table + 5 * at, cell, sizeof cell);
                 ask(call, &q, tried[i].number, "squares of a bin alone", tried[i].what);
             }
-            q = good();
-            memset(q.second, 0, sizeof q.second);
-            memcpy(q.second + 5 * at, cell, sizeof cell);
-            ask(MERGE, &q, tried[i].number, "squares of the second table's bin", tried[i].what);
+            for (enum call call = MERGE; call <= COMPARE; call++) {
+                q = good();
+                memset(q.second, 0, sizeof q.second);
+                memcpy(q.second + 5 * at, cell, sizeof cell);
+                ask(call, &q, tried[i].number, "squares of the second table's bin", tried[i].what);
+            }
         }
+    }
+}
+
+/* Two tables that differ in bins chosen by the bits of a number, the first and the last of the grid among them, and one
+ * of the largest differences that there are, either way round. */
+static void ask_compared(void)
+{
+    static const size_t chosen[] = {0, 1, 16, 31, 62, 63};
+    for (unsigned which = 0; which < BIT(COUNT(chosen)); which++) {
+        struct asked q = good();
+        memset(q.table, 0, sizeof q.table);
+        memset(q.second, 0, sizeof q.second);
+        for (size_t i = 0; i < COUNT(chosen); i++) {
+            const size_t sizes[] = {4, 2, 8}, bins[] = {chosen[i] / 16, chosen[i] / 8 % 2, chosen[i] % 8};
+            uint64_t *cell = (i % 2 ? q.table : q.second) + 5 * chosen[i];
+            if (!(which & BIT(i))) continue;
+            cell[0] = 1 + i;
+            for (size_t d = 0; d < 3; d++) {
+                const uint64_t low = bins[d] * 256 / sizes[d];
+                cell[1 + d] = cell[0] * low;
+                cell[4] += cell[0] * low * low;
+            }
+        }
+        ask(COMPARE, &q, 0, "tables that differ in chosen bins", "");
+    }
+    for (unsigned turned = 0; turned < 2; turned++) {
+        const uint64_t white[] = {LIMIT, 255 * LIMIT, 255 * LIMIT, 255 * LIMIT, 195075 * LIMIT};
+        struct asked q = good();
+        memset(q.table, 0, sizeof q.table);
+        memset(q.second, 0, sizeof q.second);
+        memcpy((turned ? q.table : q.second) + 315, white, sizeof white);
+        ask(COMPARE, &q, 0, "white as often as can be", turned ? "nothing" : "nothing before");
     }
 }
 
@@ -667,6 +742,7 @@ static void ask_all(void)
     for (enum call call = LOAD; call < CALLS; call++) ask_changed(call);
     ask_empty();
     ask_squares();
+    ask_compared();
     ask_plain();
     for (size_t i = 0; i < COUNT(bands); i++)
         ask_band(bands[i].frame, bands[i].first, bands[i].pixels, bands[i].number);

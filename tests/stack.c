@@ -21,6 +21,7 @@
 /* All that is lent, and the last answer. */
 struct lent {
     uint64_t table[5 * BINS], second[5 * BINS], work[5 * BINS];
+    int64_t differences[5 * BINS];
     uint8_t frame[3 * PIXELS], indices[PIXELS];
     uint32_t weights[PIXELS], counts[K];
     uint8_t palette[3 * K], map[BINS], boxes[6 * K];
@@ -58,6 +59,14 @@ static void merge(struct lent *l)
     l->answer = seluvava_merge(B1, B2, B3, l->table, COUNT(l->table), l->second, COUNT(l->second));
 }
 
+static void compare(struct lent *l)
+{
+    const struct seluvava_compare_answer answer =
+        seluvava_compare(B1, B2, B3, l->table, COUNT(l->table), l->second, COUNT(l->second), l->differences,
+                         COUNT(l->differences));
+    l->answer = answer.number;
+}
+
 static void cut(struct lent *l)
 {
     const struct seluvava_cut_answer answer =
@@ -86,7 +95,8 @@ static const struct call {
     size_t answer;
 } calls[] = {
     {"bins", bins, BINS}, {"numbers", numbers, 5 * BINS}, {"load", load, 0}, {"load with weights", load_weighted, 0},
-    {"merge", merge, 0},  {"cut", cut, 0},                {"map", map, 0},   {"paint", paint, 0},
+    {"merge", merge, 0},  {"compare", compare, 0},        {"cut", cut, 0},   {"map", map, 0},
+    {"paint", paint, 0},
 };
 
 /* ---- The small stack */

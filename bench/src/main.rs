@@ -7,6 +7,8 @@ mod inputs;
 mod measure;
 mod ours;
 mod page;
+#[cfg(feature = "original")]
+mod plain;
 mod report;
 mod side;
 #[cfg(feature = "original")]

@@ -1,8 +1,8 @@
 //! Our side: the calls of the archive, on tables that stay from run to run.
 use crate::side::{Answer, Lent, MOST, Operation, Side, Sizes, touch};
 use seluvava_sys::{
-    seluvava_bins, seluvava_cut, seluvava_load, seluvava_map, seluvava_merge, seluvava_paint,
-    seluvava_table_len,
+    seluvava_bins, seluvava_compare, seluvava_cut, seluvava_load, seluvava_map, seluvava_merge,
+    seluvava_paint, seluvava_table_len,
 };
 
 /// Adds a frame to a table, with weights where any are given.
@@ -39,6 +39,30 @@ fn merge([b1, b2, b3]: Sizes, table: &mut [u64], second: &[u64]) {
         )
     };
     assert_eq!(number, 0, "merge");
+}
+
+/// Writes the differences of two tables; how many bins differ, and the place of the first that does.
+fn compare(
+    [b1, b2, b3]: Sizes,
+    first: &[u64],
+    second: &[u64],
+    differences: &mut [i64],
+) -> (usize, usize) {
+    let answer = unsafe {
+        seluvava_compare(
+            b1,
+            b2,
+            b3,
+            first.as_ptr(),
+            first.len(),
+            second.as_ptr(),
+            second.len(),
+            differences.as_mut_ptr(),
+            differences.len(),
+        )
+    };
+    assert_eq!(answer.number, 0, "compare");
+    (answer.differ, answer.first)
 }
 
 /// What a cut writes.
@@ -159,8 +183,10 @@ pub struct Ours {
     table: Vec<u64>,
     /// What is cut: the frame's table.
     loaded: Vec<u64>,
-    /// What is merged into that: the table of the frame with weights.
+    /// What is merged into that, or compared with it: the table of the frame with weights.
     second: Vec<u64>,
+    differences: Vec<i64>,
+    told: (usize, usize),
     cut: Cut,
     /// What maps and paints read.
     kept: Cut,
@@ -178,6 +204,8 @@ impl Ours {
         Self {
             sizes,
             table,
+            differences: vec![0; loaded.len()],
+            told: (0, 0),
             loaded,
             second,
             cut,
@@ -202,6 +230,11 @@ impl Side for Ours {
                 touch(&self.second);
                 self.table.copy_from_slice(&self.loaded);
             }
+            Operation::Compare => {
+                self.differences.fill(i64::MIN);
+                touch(&self.loaded);
+                touch(&self.second);
+            }
             Operation::Moments | Operation::Cut(_) => {
                 self.cut.reset();
                 touch(&self.loaded);
@@ -223,6 +256,9 @@ impl Side for Ours {
                 load(sizes, &mut self.table, &lent.frame, Some(&lent.weights));
             }
             Operation::Merge => merge(sizes, &mut self.table, &self.second),
+            Operation::Compare => {
+                self.told = compare(sizes, &self.loaded, &self.second, &mut self.differences);
+            }
             Operation::Moments => self.cut.run(sizes, 1, &self.loaded),
             Operation::Cut(k) => self.cut.run(sizes, k, &self.loaded),
             Operation::Map => self.kept.map(sizes, lent),
@@ -245,6 +281,7 @@ impl Side for Ours {
             Operation::Load | Operation::LoadWeighted | Operation::Merge => {
                 answer.numbers.extend(&self.table);
             }
+            Operation::Compare => answer.compared(&self.differences, self.told),
             Operation::Moments => answer.numbers.extend(&self.cut.work),
             Operation::Cut(_) | Operation::Whole { .. } => {
                 let counts = &self.cut.counts[..self.cut.found];

@@ -9,6 +9,7 @@ pub enum Operation {
     Load,
     LoadWeighted,
     Merge,
+    Compare,
     Moments,
     Cut(usize),
     Map,
@@ -19,10 +20,11 @@ pub enum Operation {
     },
 }
 
-pub const OPERATIONS: [Operation; 10] = [
+pub const OPERATIONS: [Operation; 11] = [
     Operation::Load,
     Operation::LoadWeighted,
     Operation::Merge,
+    Operation::Compare,
     Operation::Moments,
     Operation::Cut(16),
     Operation::Cut(256),
@@ -41,6 +43,7 @@ impl fmt::Display for Operation {
             Operation::Load => f.write_str("load"),
             Operation::LoadWeighted => f.write_str("load with weights"),
             Operation::Merge => f.write_str("merge"),
+            Operation::Compare => f.write_str("compare"),
             Operation::Moments => f.write_str("moments (ours: cut, k = 1)"),
             Operation::Cut(k) => write!(f, "cut, k = {k}"),
             Operation::Map => f.write_str("map"),
@@ -86,7 +89,7 @@ impl Lent {
                 self.indices.fill(0xa5);
             }
             Operation::Paint => self.painted.copy_from_slice(&self.frame),
-            Operation::Merge | Operation::Moments | Operation::Cut(_) => {}
+            Operation::Merge | Operation::Compare | Operation::Moments | Operation::Cut(_) => {}
         }
     }
 
@@ -118,6 +121,12 @@ impl Answer {
     pub fn clear(&mut self) {
         self.numbers.clear();
         self.bytes.clear();
+    }
+
+    /// Adds what a comparison wrote and told.
+    pub fn compared(&mut self, differences: &[i64], (differ, first): (usize, usize)) {
+        self.numbers.extend(differences.iter().map(|&d| d as u64));
+        self.numbers.extend([differ as u64, first as u64]);
     }
 }
 

@@ -1,5 +1,8 @@
 //! The other side: the original's text, on histograms that stay from run to run.
-use crate::side::{Answer, Lent, MOST, Operation, Side, Sizes, touch};
+use crate::{
+    plain::Plain,
+    side::{Answer, Lent, MOST, Operation, Side, Sizes, touch},
+};
 use oracle::{
     original::u8::{BinnerU8x3, WuU8x3, WuU8x3ColorMap, parts::Narrow},
     stand_ins::{
@@ -27,6 +30,8 @@ struct Theirs<const B1: usize, const B2: usize, const B3: usize> {
     loaded: Narrow<B1, B2, B3>,
     /// What is merged into that: the histogram of the frame with weights.
     second: Narrow<B1, B2, B3>,
+    /// The two as tables.
+    plain: Plain,
     cut: Option<Colours<B1, B2, B3>>,
     /// What maps and paints read.
     kept: WuU8x3ColorMap<[u8; 3], B1, B2, B3>,
@@ -52,6 +57,18 @@ fn map<const B1: usize, const B2: usize, const B3: usize>(
     }
 }
 
+/// The five numbers of each bin.
+fn numbers<const B1: usize, const B2: usize, const B3: usize>(
+    histogram: &Narrow<B1, B2, B3>,
+) -> Vec<u64> {
+    let mut numbers = Vec::with_capacity(5 * B1 * B2 * B3);
+    for bin in histogram.as_flattened() {
+        let [c1, c2, c3] = bin.components.map(u64::from);
+        numbers.extend([bin.count, c1, c2, c3, bin.sum_squared as u64]);
+    }
+    numbers
+}
+
 impl<const B1: usize, const B2: usize, const B3: usize> Theirs<B1, B2, B3> {
     fn new(moments: Moments, lent: &Lent) -> Self {
         let run = run(&lent.frame);
@@ -59,11 +76,13 @@ impl<const B1: usize, const B2: usize, const B3: usize> Theirs<B1, B2, B3> {
         loaded.load(&lent.frame);
         second.load_weighted(&lent.frame, &lent.weights);
         let kept = run.color_map(most(MOST));
+        let plain = Plain::new([B1, B2, B3], numbers(&loaded), numbers(&second));
         Self {
             moments,
             run,
             loaded,
             second,
+            plain,
             cut: None,
             kept,
         }
@@ -85,16 +104,6 @@ impl<const B1: usize, const B2: usize, const B3: usize> Theirs<B1, B2, B3> {
         }
         self.run.narrow().calc_cumulative_moments();
     }
-
-    /// The five numbers of each bin.
-    fn numbers(&mut self, answer: &mut Answer) {
-        for bin in self.run.narrow().as_flattened() {
-            let [c1, c2, c3] = bin.components.map(u64::from);
-            answer
-                .numbers
-                .extend([bin.count, c1, c2, c3, bin.sum_squared as u64]);
-        }
-    }
 }
 
 impl<const B1: usize, const B2: usize, const B3: usize> Side for Theirs<B1, B2, B3> {
@@ -106,6 +115,7 @@ impl<const B1: usize, const B2: usize, const B3: usize> Side for Theirs<B1, B2, 
                 touch(self.second.as_flattened());
                 self.load_again();
             }
+            Operation::Compare => self.plain.prepare(),
             Operation::Moments | Operation::Cut(_) if self.moments == Moments::OnACopy => {
                 self.clear();
                 touch(self.loaded.as_flattened());
@@ -123,6 +133,7 @@ impl<const B1: usize, const B2: usize, const B3: usize> Side for Theirs<B1, B2, 
                 self.run.narrow().load_weighted(&lent.frame, &lent.weights);
             }
             Operation::Merge => self.run.narrow().merge(&self.second),
+            Operation::Compare => self.plain.run(),
             Operation::Moments => self.make_moments(),
             Operation::Cut(k) => {
                 self.make_moments();
@@ -142,8 +153,9 @@ impl<const B1: usize, const B2: usize, const B3: usize> Side for Theirs<B1, B2, 
     fn answer(&mut self, operation: Operation, answer: &mut Answer) {
         match operation {
             Operation::Load | Operation::LoadWeighted | Operation::Merge | Operation::Moments => {
-                self.numbers(answer);
+                answer.numbers.extend(numbers(self.run.narrow()));
             }
+            Operation::Compare => self.plain.answer(answer),
             Operation::Cut(_) | Operation::Whole { .. } => {
                 let (colours, counts) = self.cut.as_ref().expect("a cut");
                 answer.numbers.extend(counts.iter().map(|&n| u64::from(n)));

@@ -26,7 +26,7 @@ macro_rules! place {
     };
 }
 
-place!(u8 u32 u64);
+place!(u8 u32 u64 i64);
 
 /// How many places stand before and after what is lent.
 const ABOUT: usize = 8;

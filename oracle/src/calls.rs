@@ -13,7 +13,7 @@ use crate::{
 };
 
 /// The table of colours and weights, by Rules, Load; totals may be any.
-fn table_of(grid: Grid, colors: &[[u8; 3]], weights: &[u32]) -> Vec<u64> {
+pub fn table_of(grid: Grid, colors: &[[u8; 3]], weights: &[u32]) -> Vec<u64> {
     let mut table = vec![0; 5 * numbers::bins(grid)];
     add(grid, &mut table, colors, weights);
     table
@@ -48,11 +48,11 @@ struct Calls {
 }
 
 /// A length off by so much, but not below 0.
-fn off(length: usize, by: i64) -> usize {
+pub fn off(length: usize, by: i64) -> usize {
     length.saturating_add_signed(by as isize)
 }
 
-fn resize<T: Place>(list: &mut Vec<T>, by: i64, r: &mut Random) {
+pub fn resize<T: Place>(list: &mut Vec<T>, by: i64, r: &mut Random) {
     list.resize_with(off(list.len(), by), || T::of(r.draw()));
 }
 

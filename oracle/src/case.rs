@@ -9,6 +9,12 @@ pub enum Kind {
     Whole { by_pixels: bool, batches: usize },
     /// The five calls one by one: the first `split` colours are in the table and the others are loaded or merged.
     Calls { split: usize, damages: Vec<Damage> },
+    /// Two tables compared: the first holds the first `split` colours, the second those from `from` on.
+    Nights {
+        from: usize,
+        split: usize,
+        damages: Vec<Damage>,
+    },
 }
 
 /// One case. `seed` decides what stands in lent buffers, and how an input is shuffled and split.
@@ -49,6 +55,15 @@ fn write_colors(
     Ok(())
 }
 
+fn write_damages(f: &mut fmt::Formatter<'_>, split: usize, damages: &[Damage]) -> fmt::Result {
+    write!(f, "; split {split}; damages")?;
+    for (i, d) in damages.iter().enumerate() {
+        let comma = if i == 0 { "" } else { "," };
+        write!(f, "{comma} {d}")?;
+    }
+    Ok(())
+}
+
 impl fmt::Display for Case {
     fn fmt(&self, f: &mut fmt::Formatter<'_>) -> fmt::Result {
         let [b1, b2, b3] = self.grid;
@@ -63,13 +78,14 @@ impl fmt::Display for Case {
             Kind::Whole { by_pixels, batches } => {
                 write!(f, "; pixels {}; batches {batches}", u8::from(*by_pixels))
             }
-            Kind::Calls { split, damages } => {
-                write!(f, "; split {split}; damages")?;
-                for (i, d) in damages.iter().enumerate() {
-                    let comma = if i == 0 { "" } else { "," };
-                    write!(f, "{comma} {d}")?;
-                }
-                Ok(())
+            Kind::Calls { split, damages } => write_damages(f, *split, damages),
+            Kind::Nights {
+                from,
+                split,
+                damages,
+            } => {
+                write!(f, "; from {from}")?;
+                write_damages(f, *split, damages)
             }
         }
     }
@@ -103,15 +119,21 @@ impl Case {
             .map(|(c, w)| (c, w as u32))
             .unzip();
         let [first, pixels] = numbers(field("band")?).try_into().ok()?;
-        let kind = match one("split") {
-            Some(split) => Kind::Calls {
+        let damages = || {
+            let list = field("damages")?.split(',');
+            Some(list.filter_map(Damage::of_text).collect())
+        };
+        let kind = match (one("split"), one("from")) {
+            (Some(split), None) => Kind::Calls {
                 split: split as usize,
-                damages: field("damages")?
-                    .split(',')
-                    .filter_map(Damage::of_text)
-                    .collect(),
+                damages: damages()?,
             },
-            None => Kind::Whole {
+            (Some(split), Some(from)) => Kind::Nights {
+                from: from as usize,
+                split: split as usize,
+                damages: damages()?,
+            },
+            _ => Kind::Whole {
                 by_pixels: one("pixels")? != 0,
                 batches: one("batches")? as usize,
             },

@@ -28,7 +28,7 @@ const fn class(name: &'static str, cases: Cases) -> Class {
 }
 
 /// The classes; README.md says what their cases are.
-pub const CLASSES: [Class; 19] = [
+pub const CLASSES: [Class; 20] = [
     class("tiny", Cases::Random(tiny)),
     class("few", Cases::Random(few)),
     class("equal", Cases::Random(equal)),
@@ -44,6 +44,7 @@ pub const CLASSES: [Class; 19] = [
     class("batches", Cases::Random(in_batches)),
     class("calls", Cases::Random(sound_calls)),
     class("damaged", Cases::Random(damaged)),
+    class("nights", Cases::Random(nights)),
     class("width", Cases::Listed(width)),
     class("known", Cases::Listed(known)),
     class("corners", Cases::Listed(corners)),
@@ -396,6 +397,38 @@ fn damaged(m: &mut Maker<'_>, _: usize) -> Case {
     let count = m.r.one_of(&[1, 1, 1, 2, 3]);
     let made = (0..count).map(|_| damages::one(&case, &mut m.r)).collect();
     if let Kind::Calls { damages, .. } = &mut case.kind {
+        *damages = made;
+    }
+    case
+}
+
+/// Two tables compared, that share some colours, all or none, at any of the 343 grids, those of at most 4,096 bins more
+/// often; one time in two with something damaged.
+fn nights(m: &mut Maker<'_>, i: usize) -> Case {
+    let n = m.r.from(0, 24);
+    let most = m.r.one_of(&[1, 3, 1000, 100_000_000, 4_294_967_295]);
+    let color = m.r.one_of(&[Random::color, Random::lattice_color]);
+    let input = m.input(n, color, |r| r.from(0, most) as u32);
+    let every = Grids::all();
+    let grid = match i % 8 {
+        0 => every.all[i / 8 % every.all.len()],
+        _ => every.light[i % every.light.len()],
+    };
+    let split = m.r.from(0, n);
+    let (from, split) = match m.r.from(0, 3) {
+        0 => (0, n),
+        1 => (split, split),
+        _ => (m.r.from(0, n), split),
+    };
+    let kind = Kind::Nights {
+        from,
+        split,
+        damages: Vec::new(),
+    };
+    let mut case = m.case(grid, 1, input, kind);
+    let count = m.r.one_of(&[0, 0, 0, 1, 1, 2]);
+    let made = (0..count).map(|_| damages::one(&case, &mut m.r)).collect();
+    if let Kind::Nights { damages, .. } = &mut case.kind {
         *damages = made;
     }
     case

@@ -1,8 +1,9 @@
-//! Runs one case, whole or call by call.
+//! Runs one case: whole, call by call, or two tables compared.
 use crate::{
     buffer::Differs,
     calls::calls,
     case::{Case, Kind},
+    nights::nights,
     port::Port,
     tally::Tally,
     whole::whole,
@@ -25,6 +26,11 @@ pub fn check(port: &dyn Port, case: &Case, tally: &mut Tally) -> Result<(), Diff
     let run = AssertUnwindSafe(|| match &case.kind {
         Kind::Whole { by_pixels, batches } => whole(port, case, *by_pixels, *batches, tally),
         Kind::Calls { split, damages } => calls(port, case, *split, damages, tally),
+        Kind::Nights {
+            from,
+            split,
+            damages,
+        } => nights(port, case, *from, *split, damages, tally),
     });
     catch_unwind(run).unwrap_or_else(|panic| Err(said(panic)))
 }

@@ -10,7 +10,17 @@ pub struct Damage {
     pub value: i64,
 }
 
-/// What can be damaged.
+/// What can be damaged where two tables are compared.
+pub const OF_NIGHTS: [&str; 6] = [
+    "number",
+    "second-number",
+    "size",
+    "table",
+    "second",
+    "differences",
+];
+
+/// What can be damaged in the calls one by one.
 pub const DAMAGES: [&str; 22] = [
     "number",
     "second-number",
@@ -48,7 +58,7 @@ impl Damage {
         let mut words = text.split_whitespace();
         let name = words.next()?;
         Some(Self {
-            what: DAMAGES.into_iter().find(|d| *d == name)?,
+            what: DAMAGES.into_iter().chain(OF_NIGHTS).find(|d| *d == name)?,
             place: words.next()?.parse().ok()?,
             value: words.next()?.parse().ok()?,
         })

@@ -291,4 +291,30 @@ impl Port for Model {
         }
         number
     }
+
+    fn compare(
+        &self,
+        grid: Grid,
+        first: &[u64],
+        second: &[u64],
+        differences: &mut [i64],
+    ) -> (u8, usize, usize) {
+        let number = numbers::compare(grid, first, second, differences.len());
+        if number != 0 {
+            return (number, 0, 0);
+        }
+        let (mut differ, mut place) = (0, bins(grid));
+        for p in 0..bins(grid) {
+            let mut differs = false;
+            for i in 5 * p..5 * p + 5 {
+                differences[i] = second[i] as i64 - first[i] as i64;
+                differs |= differences[i] != 0;
+            }
+            if differs {
+                differ += 1;
+                place = place.min(p);
+            }
+        }
+        (0, differ, place)
+    }
 }

@@ -106,6 +106,17 @@ pub fn merge(grid: Grid, table: &[u64], second: &[u64]) -> u8 {
     ])
 }
 
+pub fn compare(grid: Grid, first: &[u64], second: &[u64], differences: usize) -> u8 {
+    lowest(&[
+        (&|| !is_grid(grid), 1),
+        (&|| first.len() != 5 * bins(grid), 5),
+        (&|| second.len() != 5 * bins(grid), 5),
+        (&|| differences != 5 * bins(grid), 5),
+        (&|| sound(grid, first).is_none(), 6),
+        (&|| sound(grid, second).is_none(), 6),
+    ])
+}
+
 /// The lengths of what a cut is lent to write.
 #[derive(Clone, Copy, Debug)]
 pub struct Lengths {

@@ -38,7 +38,8 @@ impl CutAnswer {
     }
 }
 
-/// Each call answers its number, and a cut its boxes and rounds too.
+/// Each call answers its number; a cut its boxes and rounds too, a comparison how many bins differ and the place of the
+/// first that does.
 pub trait Port {
     /// How many bins a grid has and how many numbers its table, or twice 0 where a size is refused.
     fn sizes(&self, grid: Grid) -> (usize, usize);
@@ -53,6 +54,14 @@ pub trait Port {
     ) -> u8;
 
     fn merge(&self, grid: Grid, table: &mut [u64], second: &[u64]) -> u8;
+
+    fn compare(
+        &self,
+        grid: Grid,
+        first: &[u64],
+        second: &[u64],
+        differences: &mut [i64],
+    ) -> (u8, usize, usize);
 
     fn cut(&self, grid: Grid, k: usize, table: &[u64], lent: Lent<'_>) -> CutAnswer;
 

@@ -109,7 +109,7 @@ fn report(name: &str, ran: &Ran, seconds: f64) {
             t.too_heavy
         );
     }
-    for (call, numbers) in ["load", "merge", "cut", "map", "paint"]
+    for (call, numbers) in ["load", "merge", "cut", "map", "paint", "compare"]
         .iter()
         .zip(t.numbers)
     {

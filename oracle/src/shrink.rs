@@ -49,16 +49,17 @@ pub fn shrink(case: &Case, differs: &dyn Fn(&Case) -> bool) -> Case {
     }
 }
 
-/// Whether the judge has the grid, k is in its bounds and the band in the frame.
+/// Whether the judge has the grid, k is in its bounds and the band in the frame. A comparison asks no original.
 fn is_fit(case: &Case) -> bool {
     let pixels: usize = case.frame.iter().map(|f| f.1).sum();
     let colours = case.input.colors.len();
-    original(case.grid).is_some()
+    (original(case.grid).is_some() || matches!(case.kind, Kind::Nights { .. }))
         && (1..=256).contains(&case.k)
         && case.band.first + case.band.pixels <= pixels
         && match case.kind {
             Kind::Whole { by_pixels, .. } => !by_pixels || case.input.total() > 0,
             Kind::Calls { split, .. } => split <= colours,
+            Kind::Nights { from, split, .. } => from.max(split) <= colours,
         }
 }
 
@@ -68,8 +69,14 @@ fn without(case: &Case, at: usize, count: usize) -> Case {
     let end = (at + count).min(other.input.colors.len());
     other.input.colors.drain(at..end);
     other.input.weights.drain(at..end);
-    if let Kind::Calls { split, .. } = &mut other.kind {
-        *split -= (*split).clamp(at, end) - at;
+    let fewer = |split: &mut usize| *split -= (*split).clamp(at, end) - at;
+    match &mut other.kind {
+        Kind::Whole { .. } => {}
+        Kind::Calls { split, .. } => fewer(split),
+        Kind::Nights { from, split, .. } => {
+            fewer(from);
+            fewer(split);
+        }
     }
     other
 }
@@ -133,6 +140,29 @@ fn kinds(case: &Case) -> Vec<Case> {
                     ..case.clone()
                 });
             }
+        }
+        Kind::Nights {
+            from,
+            split,
+            damages,
+        } => {
+            for i in 0..damages.len() {
+                let mut other = case.clone();
+                if let Kind::Nights { damages, .. } = &mut other.kind {
+                    damages.remove(i);
+                }
+                list.push(other);
+            }
+            list.extend(with(case, *from, |c, n| {
+                if let Kind::Nights { from, .. } = &mut c.kind {
+                    *from = n;
+                }
+            }));
+            list.extend(with(case, *split, |c, n| {
+                if let Kind::Nights { split, .. } = &mut c.kind {
+                    *split = n;
+                }
+            }));
         }
     }
     list.retain(|c| c.kind != case.kind);

@@ -13,6 +13,6 @@ pub struct Tally {
     pub negative: usize,
     pub put_back: usize,
     pub falsely_positive: usize,
-    /// Of the calls made one by one, how many answered each number: load, merge, cut, map, paint.
-    pub numbers: [[usize; 10]; 5],
+    /// Of the calls made one by one, how many answered each number: load, merge, cut, map, paint, compare.
+    pub numbers: [[usize; 10]; 6],
 }

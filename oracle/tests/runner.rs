@@ -63,6 +63,16 @@ impl Port for Faulty {
         Model.merge(grid, table, second)
     }
 
+    fn compare(
+        &self,
+        grid: Grid,
+        first: &[u64],
+        second: &[u64],
+        differences: &mut [i64],
+    ) -> (u8, usize, usize) {
+        Model.compare(grid, first, second, differences)
+    }
+
     fn cut(&self, grid: Grid, k: usize, table: &[u64], lent: Lent<'_>) -> CutAnswer {
         let Lent {
             work,

@@ -2,7 +2,7 @@
 //!
 //! Colours are counted into a [`Table`] over a [`Grid`], batch by batch; tables of many workers are merged; and a
 //! table is cut down to at most 256 colours. The [`Cut`] has a palette, the count of each colour and a [`ColourMap`],
-//! which maps frames to indices or paints them. The answer depends on the colours and their weights only: in any order,
+//! which maps frames to indices or paints them. Two tables are [compared](Table::compare) bin by bin. A cut depends on the colours and their weights only: in any order,
 //! any batches and any merge tree, as long as nothing is refused, they give the same palette in the same order.
 //!
 //! The work is done by code in Rattle, a language in which every function is proved to meet its contract: that it
@@ -67,6 +67,7 @@
 #![warn(missing_docs)]
 
 mod colour_map;
+mod comparison;
 mod cut;
 mod grid;
 mod refused;
@@ -75,6 +76,7 @@ mod sys;
 mod table;
 
 pub use colour_map::ColourMap;
+pub use comparison::{BinDifference, Comparison};
 pub use cut::{ColourBox, Cut, WorkTable};
 pub use grid::Grid;
 pub use refused::Refused;

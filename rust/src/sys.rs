@@ -9,8 +9,8 @@
 //! - Nobody else writes to a buffer, or reads one that is not const, before the call returns: so long lasts the borrow.
 use crate::{Grid, Refused};
 use seluvava_sys::{
-    seluvava_bins, seluvava_cut, seluvava_load, seluvava_map, seluvava_merge, seluvava_paint,
-    seluvava_table_len,
+    seluvava_bins, seluvava_compare, seluvava_cut, seluvava_load, seluvava_map, seluvava_merge,
+    seluvava_paint, seluvava_table_len,
 };
 
 /// The bins of a grid, or 0 where it is refused.
@@ -69,6 +69,32 @@ pub fn merge(grid: Grid, table: &mut [u64], second: &[u64]) -> Result<(), Refuse
         )
     };
     Refused::unless_done(number)
+}
+
+/// Writes the differences of two tables, and answers how many bins differ and the place of the first that does.
+pub fn compare(
+    grid: Grid,
+    first: &[u64],
+    second: &[u64],
+    differences: &mut [i64],
+) -> Result<(usize, usize), Refused> {
+    let [b1, b2, b3] = grid.sizes();
+    // SAFETY: pointers and lengths are those of slices, and `differences` is the only one that is written.
+    let answer = unsafe {
+        seluvava_compare(
+            b1,
+            b2,
+            b3,
+            first.as_ptr(),
+            first.len(),
+            second.as_ptr(),
+            second.len(),
+            differences.as_mut_ptr(),
+            differences.len(),
+        )
+    };
+    Refused::unless_done(answer.number)?;
+    Ok((answer.differ, answer.first))
 }
 
 /// What a cut writes.

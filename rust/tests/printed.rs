@@ -9,12 +9,14 @@ fn printed_without_the_numbers() -> Result<(), Refused> {
     let cut = table.cut_with(&mut work, 16)?;
     let printed = [
         format!("{table:?}"),
+        format!("{:?}", table.compare(&Table::new(table.grid()))?),
         format!("{work:?}"),
         format!("{cut:?}"),
         format!("{:?}", cut.colour_map()),
     ];
     let expected = [
         "Table { grid: [128, 128, 128], total: 3, .. }",
+        "Comparison { grid: [128, 128, 128], differing: 2, .. }",
         "WorkTable { numbers: 10485760 }",
         "Cut { grid: [128, 128, 128], boxes: 2, rounds: 2, .. }",
         "ColourMap { grid: [128, 128, 128], colours: 2, .. }",

@@ -144,6 +144,22 @@ fn merge() {
 }
 
 #[test]
+fn compare() {
+    let compared = |first: &Table, second: &Table| first.compare(second).map(|_| ());
+    // The same number of bins, and not the same grid.
+    let long = Table::new(Grid::new(4, 2, 2).unwrap());
+    let other = Table::new(Grid::new(2, 4, 2).unwrap());
+    refuses(5, &long, |t| compared(t, &other));
+    refuses(5, &table(), |t| compared(t, &long));
+    refuses(6, &unsound(), |t| compared(t, &table()));
+    refuses(6, &table(), |t| compared(t, &unsound()));
+    refuses(6, &unsound(), |t| compared(t, &unsound()));
+    // The lowest number that applies.
+    refuses(5, &unsound(), |t| compared(t, &long));
+    assert!(compared(&full(), &full()).is_ok());
+}
+
+#[test]
 fn cut() {
     let empty = Table::new(grid());
     let cut = |table: &Table, k| table.cut(k).map(|_| ());

@@ -5,6 +5,7 @@
 use mathlib.Core.Path.{_≡_}
 use mathlib.Core.List.{List}
 use Prim.Native.Nat.{ℕ}
+use lib.IntN.{ℤ}
 use lib.Ieee.{Float}
 use denote.Ref.{now}
 use Rattle.basics.proofs.Determined.{determined}
@@ -28,6 +29,8 @@ use Rattle.table.proofs.cell.minus as minus
 use Rattle.table.proofs.sound.sound_total as sound-total
 use Rattle.loader.proofs.load.load as load
 use Rattle.loader.proofs.merge.merge as merge
+use Rattle.compare.specs.declared.call.Compared.{Compared}
+use Rattle.compare.proofs.call.compare as compare
 use Rattle.sums.proofs.moments.moments as moments
 use Rattle.sums.proofs.box_sums.in_float as in-float
 use Rattle.sums.proofs.box_sums.stats_of as stats-of
@@ -64,6 +67,7 @@ use Rattle.seluvava.proofs.sizes.seluvava_bins as exported-bins
 use Rattle.seluvava.proofs.tables.seluvava_table_len as exported-table-len
 use Rattle.seluvava.proofs.tables.seluvava_load as exported-load
 use Rattle.seluvava.proofs.tables.seluvava_merge as exported-merge
+use Rattle.seluvava.proofs.tables.seluvava_compare as exported-compare
 use Rattle.seluvava.proofs.cut.seluvava_cut as exported-cut
 use Rattle.seluvava.proofs.frames.seluvava_map as exported-map
 use Rattle.seluvava.proofs.frames.seluvava_paint as exported-paint
@@ -158,6 +162,11 @@ load-determined κs a r s x y p q = both (determined (p .0) (q .0)) (determined 
 pub merge-determined : Determines {A = ℕ × List ℕ} 2 merge.Kinds.ps merge.Kinds.r merge.Reads.Learnt
     (λ κs r e. (r, now (e .1 .1 .1 .0)))
 merge-determined κs a r s x y p q = both (determined (p .0) (q .0)) (determined (p .1) (q .1))
+
+-- ---- compare
+pub compare-determined : Determines {A = Compared × List ℤ} 3 compare.Kinds.ps compare.Kinds.r compare.Reads.Learnt
+    (λ κs r e. (r, now (e .1 .1 .1 .1 .1 .0)))
+compare-determined κs a r s x y p q = both (determined (p .0) (q .0)) (determined (p .1) (q .1))
 
 -- ---- sums
 pub moments-determined : Determines 2 moments.Kinds.ps moments.Kinds.r moments.Reads.Learnt (λ κs r e. now (e .1 .1 .0))
@@ -261,6 +270,10 @@ exported-load-determined κs a r s x y p q = both (determined (p .0) (q .0)) (de
 pub exported-merge-determined : Determines {A = ℕ × List ℕ} 2 exported-merge.Kinds.ps exported-merge.Kinds.r
     exported-merge.Reads.Learnt (λ κs r e. (r, now (e .1 .1 .1 .0)))
 exported-merge-determined κs a r s x y p q = both (determined (p .0) (q .0)) (determined (p .1) (q .1))
+
+pub exported-compare-determined : Determines {A = Compared × List ℤ} 3 exported-compare.Kinds.ps
+    exported-compare.Kinds.r exported-compare.Reads.Learnt (λ κs r e. (r, now (e .1 .1 .1 .1 .1 .0)))
+exported-compare-determined κs a r s x y p q = both (determined (p .0) (q .0)) (determined (p .1) (q .1))
 
 pub exported-cut-determined : Determines {A = CutAnswer × Lent} 7 exported-cut.Kinds.ps exported-cut.Kinds.r
     exported-cut.Reads.Learnt

@@ -2,6 +2,7 @@ pub mod Each
 pub mod Worked
 pub mod Answers
 pub mod Numbers
+pub mod Compare
 pub mod Loading
 pub mod Tiling
 pub mod Call

@@ -11,6 +11,7 @@ use native.Mathlib.Nat.{eq-or-lt-of-le}
 use native.Mathlib.Omega.{arith}
 use borrow.Author.Tests.{eqb-true, eq-eqb, ne-eqb, leb-true, leb-false, le-leb, lt-leb}
 use lib.Dec.{eqb, leb, ltb}
+use lib.IntN.{ℤ}
 use lib.ListN.{length}
 use Rattle.grid.specs.declared.place.Chosen.{Chosen}
 use Rattle.grid.specs.declared.place.Chosen.the-variants as chosen
@@ -18,13 +19,17 @@ use Rattle.basics.specs.Answer.{refuse}
 use Rattle.grid.specs.Grid.{gridOf, gridAnswer, onGrid, numberOn, binsOf}
 use Rattle.grid.proofs.Ends.{call-done}
 use Rattle.basics.proofs.Range.{and-left, and-right}
-use Rattle.table.specs.Table.{isSized, viewOf}
+use Rattle.table.specs.Table.{tableLen, isSized, viewOf}
 use Rattle.table.specs.Sound.{limit, total, sound, unsoundNumber}
 use Rattle.loader.specs.Load.{loadNumber, loadLater}
 use Rattle.loader.specs.Merge.{mergeNumber, mergeLater}
 use Rattle.loader.proofs.Calls.{load-no-grid, merge-no-grid}
 use Rattle.loader.proofs.Laws.{load-refused, load-tests, load-says, load-accepts, merge-refused, merge-tests}
 use Rattle.loader.proofs.Laws.{merge-says, merge-accepts}
+use Rattle.compare.specs.declared.call.Compared.{Compared}
+use Rattle.compare.specs.Compare.{compareNumber, compareRecord, compareLater}
+use Rattle.compare.proofs.Calls.{no-grid}
+use Rattle.compare.proofs.Laws.{compare-answer, compare-refused, compare-tests, compare-says, compare-accepts}
 use Rattle.cutter.specs.Cut.{LengthsFit, lengthsRight, Buffers, lengthsOf, longEnough, cutNumberOn, cutNumber}
 use Rattle.cutter.specs.Cut.{refusedRecord, cutRecord, cutLater}
 use Rattle.cutter.specs.Cut.{CanCut}
@@ -37,7 +42,8 @@ use Rattle.painter.proofs.Laws.{paint-refused, paint-says, paint-accepts}
 use Rattle.seluvava.specs.Cut.{Lent, hasRoom, allLong, callNumberOn, callNumber, cutAnswer}
 use Rattle.promises.specs.Numbers.{Tests, applies, lowestFrom, lowestOf, noGrid, onBins, loadTests, loadApplies}
 use Rattle.promises.specs.Numbers.{mergeTests, mergeApplies, cutTests, cutApplies, callApplies, bandTests}
-use Rattle.promises.specs.Numbers.{mapApplies, paintApplies, OnGrid, CanLoad, CanMerge}
+use Rattle.promises.specs.Numbers.{compareTests, compareApplies, mapApplies, paintApplies, OnGrid, CanLoad}
+use Rattle.promises.specs.Numbers.{CanMerge, CanCompare}
 
 -- ---- a chain of refusals whose answers do not descend gives the lowest that applies
 unfoldable chain : Tests → ℕ
@@ -136,6 +142,30 @@ module _ (b1 b2 b3 : ℕ) where
           (sound limit g (viewOf s)) _
           ∙ rw e refl
       go chosen.Refused e = sym (merge-no-grid b1 b2 b3 t s e .0) ∙ rw e refl
+
+  pub compare-lowest : (t s : List ℕ) (l : List ℤ)
+      → compareNumber b1 b2 b3 t s l ≡ lowestOf (compareApplies b1 b2 b3 t s l)
+  unfolding compareApplies compareTests chain ascends noGrid onBins onGrid gridAnswer refuse
+  compare-lowest t s l =
+      go (gridOf b1 b2 b3) refl ∙ lowest (compareTests (gridOf b1 b2 b3) t s l) 1 (omega arith) refl
+    where
+      all : (a b c d e : Bool) (rest : ℕ)
+          → refuse (not ((a && b) && c)) 5 (refuse (not (d && e)) 6 rest)
+          ≡ refuse (not a) 5 (refuse (not b) 5 (refuse (not c) 5 (refuse (not d) 6 (refuse (not e) 6 rest))))
+      all a b c d e rest =
+          ap (refuse (not ((a && b) && c)) 5) (both d e 6 rest) ∙ both (a && b) c 5 _ ∙ both a b 5 _
+
+      go : (c : Chosen) → gridOf b1 b2 b3 ≡ c
+          → compareNumber b1 b2 b3 t s l ≡ chain (compareTests (gridOf b1 b2 b3) t s l)
+      go (chosen.Accepted g) e =
+          compare-tests b1 b2 b3 t s l e
+          ∙ all (isSized t (binsOf g)) (isSized s (binsOf g)) (eqb (length l) (tableLen (binsOf g)))
+          (sound limit g (viewOf t)) (sound limit g (viewOf s)) 0
+          ∙ rw e refl
+      go chosen.Refused e =
+          sym (compare-answer b1 b2 b3 t s l)
+          ∙ sym (ap (λ (c : Compared). c .number) (no-grid b1 b2 b3 t s l e .0))
+          ∙ rw e refl
 
   pub cut-lowest : (k : ℕ) (t : List ℕ) (b : Buffers) → cutNumber b1 b2 b3 k t b ≡ lowestOf (cutApplies b1 b2 b3 k t b)
   unfolding cutNumber cutNumberOn cutApplies cutTests chain ascends noGrid onBins numberOn onGrid gridAnswer refuse
@@ -274,6 +304,22 @@ module _ (b1 b2 b3 : ℕ) where
         merge-accepts b1 b2 b3 t s (o .chosen) (c .lent .0) (c .lent .1) (c .are-sound .0) (c .are-sound .1) (c .fits),
   )
 
+  pub compare-exactly : (t s : List ℕ) (l : List ℤ)
+      → (compareNumber b1 b2 b3 t s l ≡ 0) ↔ OnGrid b1 b2 b3 (CanCompare t s l)
+  compare-exactly t s l = (
+    λ e.
+        let d = compare-says b1 b2 b3 t s l e in
+        record {
+          g = d .g;
+          chosen = d .chosen;
+          can = record
+              { lent = d .lent; list = d .list; are-sound = (d .are-sound .0 .holds, d .are-sound .1 .holds) };
+        },
+    λ o. let c = o .can in
+        compare-accepts b1 b2 b3 t s l (o .chosen) (c .lent .0) (c .lent .1) (c .list) (c .are-sound .0)
+        (c .are-sound .1),
+  )
+
   pub cut-exactly : (k : ℕ) (t : List ℕ) (b : Buffers)
       → (cutNumber b1 b2 b3 k t b ≡ 0) ↔ OnGrid b1 b2 b3
       (λ g. CanCut limit g k (viewOf t) × LengthsFit g k (length t) (lengthsOf b))
@@ -314,6 +360,11 @@ module _ (b1 b2 b3 : ℕ) where
 
     pub refused-merge : (t s : List ℕ) → mergeNumber b1 b2 b3 t s ≡ suc n → mergeLater b1 b2 b3 t s ≡ t
     refused-merge t s e = merge-refused b1 b2 b3 t s e
+
+    pub refused-compare : (t s : List ℕ) (l : List ℤ) → compareNumber b1 b2 b3 t s l ≡ suc n
+        → (compareRecord b1 b2 b3 t s l ≡ record { number = suc n; differ = 0; first = 0 })
+        × (compareLater b1 b2 b3 t s l ≡ l)
+    refused-compare t s l e = compare-refused b1 b2 b3 t s l e
 
     pub refused-cut : (k : ℕ) (t : List ℕ) (b : Buffers) → cutNumber b1 b2 b3 k t b ≡ suc n
         → (cutRecord b1 b2 b3 k t b ≡ refusedRecord (suc n)) × (cutLater b1 b2 b3 k t b ≡ b)

@@ -4,12 +4,13 @@ use mathlib.Core.Bool.{Bool, true, false, not, _&&_, _||_, cond}
 use mathlib.Core.List.{List, [], _∷_}
 use Prim.Native.Nat.{ℕ, zero, suc, _+_, _*_, _/_, _%_, _≤_}
 use lib.Dec.{eqb, leb, ltb}
+use lib.IntN.{ℤ}
 use lib.ListN.{length}
 use Rattle.grid.specs.declared.place.Grid.{Grid}
 use Rattle.grid.specs.declared.place.Chosen.{Chosen}
 use Rattle.grid.specs.declared.place.Chosen.the-variants as chosen
 use Rattle.grid.specs.Grid.{gridOf, gridAnswer, onGrid, binsOf}
-use Rattle.table.specs.Table.{Sized, isSized, viewOf}
+use Rattle.table.specs.Table.{tableLen, Sized, isSized, viewOf}
 use Rattle.table.specs.Sound.{limit, total, sound}
 use Rattle.loader.specs.Load.{weightOf, batchOf}
 use Rattle.cutter.specs.Cut.{Buffers, lengthsOf, longEnough}
@@ -70,6 +71,20 @@ mergeTests c t s =
 
 unfoldable pub mergeApplies : ℕ → ℕ → ℕ → List ℕ → List ℕ → ℕ → Bool
 mergeApplies b1 b2 b3 t s = applies (mergeTests (gridOf b1 b2 b3) t s)
+
+-- "compare 1, 5, 6 (likewise)"
+unfoldable pub compareTests : Chosen → List ℕ → List ℕ → List ℤ → Tests
+compareTests c t s l =
+    (1, noGrid c)
+    ∷ (5, onBins c (λ g. not (isSized t (binsOf g))))
+    ∷ (5, onBins c (λ g. not (isSized s (binsOf g))))
+    ∷ (5, onBins c (λ g. not (eqb (length l) (tableLen (binsOf g)))))
+    ∷ (6, onBins c (λ g. not (sound limit g (viewOf t))))
+    ∷ (6, onBins c (λ g. not (sound limit g (viewOf s))))
+    ∷ []
+
+unfoldable pub compareApplies : ℕ → ℕ → ℕ → List ℕ → List ℕ → List ℤ → ℕ → Bool
+compareApplies b1 b2 b3 t s l = applies (compareTests (gridOf b1 b2 b3) t s l)
 
 -- "cut 1, 2, 5, 6, 8"; `room` is what only the call for C and Rust is lent besides
 unfoldable pub cutTests : Chosen → ℕ → List ℕ → Buffers → Bool → Tests
@@ -135,3 +150,9 @@ pub record CanMerge (t s : List ℕ) (g : Grid) : Type 0 where
   pub lent : Sized t (binsOf g) × Sized s (binsOf g)
   pub are-sound : (sound limit g (viewOf t) ≡ true) × (sound limit g (viewOf s) ≡ true)
   pub fits : total g (viewOf t) + total g (viewOf s) ≤ limit
+
+-- of a comparison, no 5, 6
+pub record CanCompare (t s : List ℕ) (l : List ℤ) (g : Grid) : Type 0 where
+  pub lent : Sized t (binsOf g) × Sized s (binsOf g)
+  pub list : length l ≡ tableLen (binsOf g)
+  pub are-sound : (sound limit g (viewOf t) ≡ true) × (sound limit g (viewOf s) ≡ true)

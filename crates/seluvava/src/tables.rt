@@ -1,8 +1,10 @@
-// Tables: how long one is, loading and merging.
+// Tables: how long one is, loading, merging and comparing.
+use compare::call::Compared;
 use grid::place::Chosen;
 use grid::place::grid_of;
 use table::layout::table_len;
 ghost use mathlib.Core.Path.{_≡_};
+ghost use Rattle.compare.specs.Compare.{compareRecord, compareLater};
 ghost use Rattle.loader.specs.Load.{loadNumber, loadLater};
 ghost use Rattle.loader.specs.Merge.{mergeNumber, mergeLater};
 ghost use Rattle.seluvava.specs.Sizes.{tableLenFor};
@@ -50,4 +52,22 @@ pub extern "C" fn seluvava_merge(
     ensures later { λ r. ⌜ now (table .exit) ≡ mergeLater b1 b2 b3 (now (table .entry)) (now (second .entry)) ⌝ }
 {
     loader::merge::merge(b1, b2, b3, table, second)
+}
+
+// Compares a second table with a first.
+#[no_mangle]
+pub extern "C" fn seluvava_compare(
+    b1: usize,
+    b2: usize,
+    b3: usize,
+    first: &[u64],
+    second: &[u64],
+    differences: &mut [i64],
+) -> Compared
+    ensures record { λ r. ⌜ r
+        ≡ compareRecord b1 b2 b3 (now (first .entry)) (now (second .entry)) (now (differences .entry)) ⌝ }
+    ensures later { λ r. ⌜ now (differences .exit)
+        ≡ compareLater b1 b2 b3 (now (first .entry)) (now (second .entry)) (now (differences .entry)) ⌝ }
+{
+    compare::call::compare(b1, b2, b3, first, second, differences)
 }

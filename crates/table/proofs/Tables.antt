@@ -45,6 +45,10 @@ module _ {t : Table} {n : ℕ} where
   has-cell s p h = record { fits = omega (arith, s .numbers) }
 
 -- in the wide layout, for who lends a table of a known length
+pub wide-len : (n : ℕ) → tableLen n ≡ 5 * n
+unfolding tableLen
+wide-len n = refl
+
 pub wide-empty : (n : ℕ) → emptyOf n ≡ replicate (5 * n) 0
 unfolding emptyOf tableLen
 wide-empty n = refl

@@ -1,8 +1,8 @@
 //! The port: the exported calls of the static library.
 use oracle::port::{Band, CutAnswer, Grid, Lent, Port};
 use seluvava_sys::{
-    seluvava_bins, seluvava_cut, seluvava_load, seluvava_map, seluvava_merge, seluvava_paint,
-    seluvava_table_len,
+    seluvava_bins, seluvava_compare, seluvava_cut, seluvava_load, seluvava_map, seluvava_merge,
+    seluvava_paint, seluvava_table_len,
 };
 use std::ptr;
 
@@ -67,6 +67,29 @@ impl Port for Library {
                 second.len(),
             )
         }
+    }
+
+    fn compare(
+        &self,
+        [b1, b2, b3]: Grid,
+        first: &[u64],
+        second: &[u64],
+        differences: &mut [i64],
+    ) -> (u8, usize, usize) {
+        let answer = unsafe {
+            seluvava_compare(
+                b1,
+                b2,
+                b3,
+                start(first),
+                first.len(),
+                start(second),
+                second.len(),
+                start_mut(differences),
+                differences.len(),
+            )
+        };
+        (answer.number, answer.differ, answer.first)
     }
 
     fn cut(&self, [b1, b2, b3]: Grid, k: usize, table: &[u64], lent: Lent<'_>) -> CutAnswer {

@@ -1,7 +1,7 @@
 //! Makes the damages of a case.
 use crate::{
     case::{Case, Kind},
-    damage::{DAMAGES, Damage},
+    damage::{DAMAGES, Damage, OF_NIGHTS},
     numbers::{added, place},
     random::Random,
 };
@@ -11,7 +11,10 @@ const HUGE: [i64; 6] = [1 << 32, (1 << 32) + 2, -1, -2, i64::MIN, i64::MAX];
 
 /// One damage to a case.
 pub fn one(case: &Case, r: &mut Random) -> Damage {
-    let what = r.one_of(&DAMAGES);
+    let what = match case.kind {
+        Kind::Nights { .. } => r.one_of(&OF_NIGHTS),
+        _ => r.one_of(&DAMAGES),
+    };
     let at = match what {
         "number" | "second-number" => number_place(case, r),
         "entry" => r.from(0, case.bins() - 1),
@@ -55,12 +58,15 @@ fn number_place(case: &Case, r: &mut Random) -> usize {
 
 /// The five numbers of a bin in the first table or in the second.
 fn numbers_of(case: &Case, first: bool, bin: usize) -> [i64; 5] {
-    let Kind::Calls { split, .. } = case.kind else {
-        return [0; 5];
+    let (from, split) = match case.kind {
+        Kind::Whole { .. } => return [0; 5],
+        Kind::Calls { split, .. } => (split, split),
+        Kind::Nights { from, split, .. } => (from, split),
     };
     let mut numbers = [0; 5];
     for (i, &color) in case.input.colors.iter().enumerate() {
-        if (i < split) == first && place(case.grid, color) == bin {
+        let there = if first { i < split } else { i >= from };
+        if there && place(case.grid, color) == bin {
             let more = added(color, case.input.weights[i]);
             (0..5).for_each(|j| numbers[j] += more[j] as i64);
         }

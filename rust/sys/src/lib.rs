@@ -20,6 +20,14 @@ pub struct CutAnswer {
     pub rounds: usize,
 }
 
+/// What a comparison answers.
+#[repr(C)]
+pub struct CompareAnswer {
+    pub number: u8,
+    pub differ: usize,
+    pub first: usize,
+}
+
 // SAFETY: types and order are those of the header.
 unsafe extern "C" {
     pub fn seluvava_bins(b1: usize, b2: usize, b3: usize) -> usize;
@@ -48,6 +56,18 @@ unsafe extern "C" {
         second: *const u64,
         second_len: usize,
     ) -> u8;
+
+    pub fn seluvava_compare(
+        b1: usize,
+        b2: usize,
+        b3: usize,
+        first: *const u64,
+        first_len: usize,
+        second: *const u64,
+        second_len: usize,
+        differences: *mut i64,
+        differences_len: usize,
+    ) -> CompareAnswer;
 
     pub fn seluvava_cut(
         b1: usize,

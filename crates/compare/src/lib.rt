@@ -1,0 +1,3 @@
+// The call that compares two tables.
+mod bins;
+pub mod call;
