@@ -322,8 +322,7 @@ static const struct worked {
     {"P3", 2, 2, 2, PLAIN(1, 10, 20, 30), .k = 4, .boxes = 1, .rounds = 2, .palette = {10, 20, 30}, .counts = {1},
      .bounds = {0, 2, 0, 2, 0, 2}, .map = "00000000"},
     {"P4", 2, 2, 2, PLAIN(2, 1, 0, 0, 2, 0, 0), .k = 256, .boxes = 1, .rounds = 2, .palette = {1, 0, 0}, .counts = {2},
-     .remainders = {1, 0, 0},
-     .bounds = {0, 2, 0, 2, 0, 2}, .map = "00000000"},
+     .remainders = {1, 0, 0}, .bounds = {0, 2, 0, 2, 0, 2}, .map = "00000000"},
     {"P5", 2, 2, 2, PLAIN(2, 0, 0, 0, 0, 128, 128), .k = 2, .boxes = 2, .rounds = 1, .palette = {0, 0, 0, 0, 128, 128},
      .counts = {1, 1}, .bounds = {0, 2, 0, 1, 0, 2, 0, 2, 1, 2, 0, 2}, .map = "00110011"},
     {"P6", 4, 4, 4, PLAIN(2, 0, 0, 0, 192, 0, 0), .k = 2, .boxes = 2, .rounds = 1, .palette = {0, 0, 0, 192, 0, 0},
@@ -370,6 +369,11 @@ static void ask_worked(const struct worked *w)
         memcpy(q.colours, batch->bytes, q.length[COLOURS]);
         memcpy(q.weights, batch->weights, q.length[WEIGHTS] * sizeof *q.weights);
         ask(LOAD, &q, batch->number, w->name, "");
+    }
+    if (w->number == 0) {
+        q.length[REMAINDERS] = 3 * w->k - 1;
+        ask(CUT, &q, 5, w->name, "remainders one short");
+        q.length[REMAINDERS] = 3 * (w->k + 1);
     }
     const struct answer answer = ask(CUT, &q, w->number, w->name, "");
     const size_t boxes = answer.boxes;
@@ -470,6 +474,8 @@ static const struct change {
     {BIT(CUT), 5, "palette one byte short", PUT(length[PALETTE], 8)},
     {BIT(CUT), 5, "counts one short", PUT(length[COUNTS], 2)},
     {BIT(CUT), 5, "no counts", PUT(length[COUNTS], 0)},
+    {BIT(CUT), 5, "remainders one short", PUT(length[REMAINDERS], 8)},
+    {BIT(CUT), 5, "no remainders", PUT(length[REMAINDERS], 0)},
     {BIT(CUT), 5, "boxes one byte short", PUT(length[BOXES], 17)},
     {BIT(CUT), 5, "no boxes", PUT(length[BOXES], 0)},
     {BIT(CUT), 5, "spreads one short", PUT(length[SPREADS], 2)},
@@ -527,6 +533,7 @@ static const struct change {
     {BIT(CUT) | BIT(PAINT), 0, "palette of 256 colours", PUT(length[PALETTE], 768)},
     {BIT(CUT), 0, "palette one byte long", PUT(length[PALETTE], 10)},
     {BIT(CUT), 0, "counts one long", PUT(length[COUNTS], 4)},
+    {BIT(CUT), 0, "remainders one long", PUT(length[REMAINDERS], 10)},
     {BIT(CUT), 0, "boxes one byte long", PUT(length[BOXES], 19)},
     {BIT(CUT), 0, "spreads one long", PUT(length[SPREADS], 4)},
     {BIT(MAPPING), 0, "256 colours", PUT(told, 256)},
@@ -724,6 +731,9 @@ static void ask_length(size_t pixels)
     q.length[PALETTE] = 3 * q.k;
     q.length[COUNTS] = q.length[SPREADS] = q.k;
     q.length[BOXES] = 6 * q.k;
+    q.length[REMAINDERS] = 3 * q.k - 1;
+    ask(CUT, &q, 5, words, "remainders one short");
+    q.length[REMAINDERS] = 3 * q.k;
     ask(CUT, &q, 0, words, "k one more");
 }
 
