@@ -6,7 +6,7 @@ ghost use lib.ListN.{length};
 
 // A number of the list at a place.
 fn item(m: &[u64; 389158], at: usize, i: usize) -> u64
-    requires { ⌜ at + i < 385061 ⌝ }
+    requires { ⌜ at + i < 389157 ⌝ }
 {
     m[at + 1 + i]
 }
@@ -99,7 +99,7 @@ pub(crate) fn put_counts(m: &mut [u64; 389158], at: usize, counts: &[u32])
 // ---- Tables
 
 fn copy_table(m: &[u64; 389158], at: usize, room: &mut [u64]) -> usize
-    requires { ⌜ at < 221221 ⌝ }
+    requires { ⌜ at < 225317 ⌝ }
     ensures { λ r. ⌜ r ≤ length (now (room .exit)) ⌝ }
 {
     let n = least(length_at(m, at, 163841), room.len());
@@ -119,7 +119,7 @@ fn table_room(line: &mut [u64]) -> &mut [u64] {
 
 // Copies the table at a place behind the numbers of a line, and answers the copy.
 pub(crate) fn table_at<'a>(m: &[u64; 389158], at: usize, line: &'a mut [u64]) -> &'a [u64]
-    requires { ⌜ at < 221221 ⌝ }
+    requires { ⌜ at < 225317 ⌝ }
 {
     let room = table_room(line);
     let n = copy_table(m, at, room);
