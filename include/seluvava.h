@@ -67,9 +67,9 @@ extern "C" {
 #endif
 
 /* The version of the calls, the crate for Rust and the pages. */
-#define SELUVAVA_VERSION "0.3.0"
+#define SELUVAVA_VERSION "0.4.0"
 #define SELUVAVA_VERSION_MAJOR 0
-#define SELUVAVA_VERSION_MINOR 3
+#define SELUVAVA_VERSION_MINOR 4
 #define SELUVAVA_VERSION_PATCH 0
 
 /* The three sizes for RGB, as every call takes them: 8,192 bins. */
@@ -140,8 +140,8 @@ seluvava_compare(size_t b1, size_t b2, size_t b3,
 
 /*
  * What a cut answers: its number, how many boxes there are, and in how many rounds they were found. A refusal has none
- * of either. `rounds` is new in version 0.3.0, and the structure is longer by it: what was compiled by the header of
- * 0.2.0 has to be compiled anew.
+ * of either. `rounds` is new in version 0.3.0, and the structure is longer by it: what was compiled by an older header
+ * has to be compiled anew.
  *
  * A round takes up the box with the largest spread: it divides the box, or finds that it can't be divided, or ends the
  * cut, since no box is left to divide. So there are at least boxes - 1 rounds, and never more than 2 * k - 2.
@@ -161,6 +161,10 @@ struct seluvava_cut_answer {
  *             with r, g and b at most its own.
  *   palette   at least 3 * k bytes. Box i's colour, from 3 * i on: each sum divided by n, rounded down.
  *   counts    at least k. Box i's weight n, at place i.
+ *   remainders
+ *             at least 3 * k. What each division of box i leaves, from 3 * i on: colour times count plus remainder is the
+ *             box's sum of that component, and each remainder is below the count. New in version 0.4.0: a call by an
+ *             older header has two arguments too few, and has to be changed.
  *   map       bins bytes. At the place of each bin the index i of its box.
  *   boxes     at least 6 * k bytes. Box i's bins, from 6 * i on: r0, r1, g0, g1, b0, b1, where r0 is the first bin in
  *             the first dimension and r1 the first that is not, and so on.
@@ -169,7 +173,7 @@ struct seluvava_cut_answer {
  *             further below, for a sound table that no colours gave); 0.0 for a box of one bin, or one found
  *             impossible to cut; infinity at k = 1.
  *
- * Of palette, counts, boxes and spreads, places past the last box stay as they were.
+ * Of palette, counts, remainders, boxes and spreads, places past the last box stay as they were.
  * Answers 0, 1, 2, 5, 6, 8.
  */
 struct seluvava_cut_answer
@@ -178,6 +182,7 @@ seluvava_cut(size_t b1, size_t b2, size_t b3, size_t k,
              uint64_t *work, size_t work_len,
              uint8_t *palette, size_t palette_len,
              uint32_t *counts, size_t counts_len,
+             uint32_t *remainders, size_t remainders_len,
              uint8_t *map, size_t map_len,
              uint8_t *boxes, size_t boxes_len,
              double *spreads, size_t spreads_len);

@@ -18,7 +18,8 @@
 /* ---- What a call is asked with */
 
 enum buffer {
-    TABLE, SECOND, DIFFERENCES, WORK, COLOURS, WEIGHTS, PALETTE, COUNTS, MAP, BOXES, SPREADS, FRAME, INDICES, BUFFERS
+    TABLE, SECOND, DIFFERENCES, WORK, COLOURS, WEIGHTS, PALETTE, COUNTS, REMAINDERS, MAP, BOXES, SPREADS, FRAME, INDICES,
+    BUFFERS
 };
 
 /* Numbers, and the length and content of each buffer. Grids have at most 64 bins here. */
@@ -30,7 +31,7 @@ struct asked {
     uint8_t colours[3 * PIXELS];
     uint32_t weights[PIXELS];
     uint8_t palette[780];
-    uint32_t counts[260];
+    uint32_t counts[260], remainders[780];
     uint8_t map[65], boxes[1560];
     double spreads[260];
     uint8_t frame[3 * PIXELS], indices[PIXELS];
@@ -46,14 +47,15 @@ static const struct {
     [WORK] = {"work", AT(work), 8},          [DIFFERENCES] = {"differences", AT(differences), 8},
     [COLOURS] = {"colours", AT(colours), 1}, [WEIGHTS] = {"weights", AT(weights), 4},
     [PALETTE] = {"palette", AT(palette), 1}, [COUNTS] = {"counts", AT(counts), 4},
-    [MAP] = {"map", AT(map), 1},             [BOXES] = {"boxes", AT(boxes), 1},
-    [SPREADS] = {"spreads", AT(spreads), 8}, [FRAME] = {"frame", AT(frame), 1},
-    [INDICES] = {"indices", AT(indices), 1},
+    [MAP] = {"map", AT(map), 1},             [REMAINDERS] = {"remainders", AT(remainders), 4},
+    [BOXES] = {"boxes", AT(boxes), 1},       [SPREADS] = {"spreads", AT(spreads), 8},
+    [FRAME] = {"frame", AT(frame), 1},       [INDICES] = {"indices", AT(indices), 1},
 };
 
 /* Which buffers a call is lent, and which of them it may change. */
 enum call { LOAD, MERGE, COMPARE, CUT, MAPPING, PAINT, CALLS };
 #define BIT(n) (1u << (n))
+#define RESULTS (BIT(PALETTE) | BIT(COUNTS) | BIT(REMAINDERS) | BIT(MAP) | BIT(BOXES) | BIT(SPREADS))
 
 static const struct {
     const char *name;
@@ -62,8 +64,7 @@ static const struct {
     [LOAD] = {"load", BIT(TABLE) | BIT(COLOURS) | BIT(WEIGHTS), BIT(TABLE)},
     [MERGE] = {"merge", BIT(TABLE) | BIT(SECOND), BIT(TABLE)},
     [COMPARE] = {"compare", BIT(TABLE) | BIT(SECOND) | BIT(DIFFERENCES), BIT(DIFFERENCES)},
-    [CUT] = {"cut", BIT(TABLE) | BIT(WORK) | BIT(PALETTE) | BIT(COUNTS) | BIT(MAP) | BIT(BOXES) | BIT(SPREADS),
-             BIT(WORK) | BIT(PALETTE) | BIT(COUNTS) | BIT(MAP) | BIT(BOXES) | BIT(SPREADS)},
+    [CUT] = {"cut", BIT(TABLE) | BIT(WORK) | RESULTS, BIT(WORK) | RESULTS},
     [MAPPING] = {"map", BIT(MAP) | BIT(FRAME) | BIT(INDICES), BIT(INDICES)},
     [PAINT] = {"paint", BIT(MAP) | BIT(PALETTE) | BIT(FRAME), BIT(FRAME)},
 };
@@ -96,7 +97,8 @@ static struct answer answer_of(enum call call, const struct asked *q, void *cons
     case CUT: {
         const struct seluvava_cut_answer cut =
             seluvava_cut(b1, b2, b3, q->k, at[TABLE], length[TABLE], at[WORK], length[WORK],
-                         at[PALETTE], length[PALETTE], at[COUNTS], length[COUNTS], at[MAP], length[MAP],
+                         at[PALETTE], length[PALETTE], at[COUNTS], length[COUNTS],
+                         at[REMAINDERS], length[REMAINDERS], at[MAP], length[MAP],
                          at[BOXES], length[BOXES], at[SPREADS], length[SPREADS]);
         answer = (struct answer){cut.number, cut.boxes, cut.rounds, 0, 0};
         break;
@@ -165,7 +167,7 @@ static double spread(const uint64_t *sum)
     return (double)sum[4] - (c1 * c1 + c2 * c2 + c3 * c3) / (double)sum[0];
 }
 
-/* Colour, count and map of box i; answers how many bins it has. */
+/* Colour, count, remainders and map of box i; answers how many bins it has. */
 static size_t box_cut(struct asked *q, size_t i)
 {
     const uint8_t *box = q->boxes + 6 * i;
@@ -175,7 +177,10 @@ static size_t box_cut(struct asked *q, size_t i)
     box_sum(q, box, sum);
     check(sum[0] > 0, "box %zu has no weight", i);
     check(q->spreads[i] == (q->k == 1 ? INFINITY : spread(sum)) || q->spreads[i] == 0, "box %zu has another spread", i);
-    for (size_t d = 0; d < 3; d++) q->palette[3 * i + d] = (uint8_t)(sum[1 + d] / sum[0]);
+    for (size_t d = 0; d < 3; d++) {
+        q->palette[3 * i + d] = (uint8_t)(sum[1 + d] / sum[0]);
+        q->remainders[3 * i + d] = (uint32_t)(sum[1 + d] % sum[0]);
+    }
     q->counts[i] = (uint32_t)sum[0];
     for (size_t r = box[0]; r < box[1]; r++)
         for (size_t g = box[2]; g < box[3]; g++)
@@ -305,7 +310,7 @@ static const struct worked {
     unsigned number;
     size_t boxes, rounds;
     uint8_t palette[9];
-    uint32_t counts[3];
+    uint32_t counts[3], remainders[9];
     uint8_t bounds[18];
     double spreads[3];
     const char *map;
@@ -317,7 +322,7 @@ static const struct worked {
     {"P3", 2, 2, 2, PLAIN(1, 10, 20, 30), .k = 4, .boxes = 1, .rounds = 2, .palette = {10, 20, 30}, .counts = {1},
      .bounds = {0, 2, 0, 2, 0, 2}, .map = "00000000"},
     {"P4", 2, 2, 2, PLAIN(2, 1, 0, 0, 2, 0, 0), .k = 256, .boxes = 1, .rounds = 2, .palette = {1, 0, 0}, .counts = {2},
-     .bounds = {0, 2, 0, 2, 0, 2}, .map = "00000000"},
+     .remainders = {1, 0, 0}, .bounds = {0, 2, 0, 2, 0, 2}, .map = "00000000"},
     {"P5", 2, 2, 2, PLAIN(2, 0, 0, 0, 0, 128, 128), .k = 2, .boxes = 2, .rounds = 1, .palette = {0, 0, 0, 0, 128, 128},
      .counts = {1, 1}, .bounds = {0, 2, 0, 1, 0, 2, 0, 2, 1, 2, 0, 2}, .map = "00110011"},
     {"P6", 4, 4, 4, PLAIN(2, 0, 0, 0, 192, 0, 0), .k = 2, .boxes = 2, .rounds = 1, .palette = {0, 0, 0, 192, 0, 0},
@@ -346,7 +351,7 @@ static void start_worked(const struct worked *w, struct asked *q)
     q->b1 = w->b1, q->b2 = w->b2, q->b3 = w->b3, q->k = w->k;
     q->length[TABLE] = q->length[WORK] = 5 * bins;
     q->length[MAP] = bins;
-    q->length[PALETTE] = 3 * (w->k + 1);
+    q->length[PALETTE] = q->length[REMAINDERS] = 3 * (w->k + 1);
     q->length[COUNTS] = q->length[SPREADS] = w->k + 1;
     q->length[BOXES] = 6 * (w->k + 1);
     memset(q->table, 0, sizeof q->table);
@@ -365,12 +370,18 @@ static void ask_worked(const struct worked *w)
         memcpy(q.weights, batch->weights, q.length[WEIGHTS] * sizeof *q.weights);
         ask(LOAD, &q, batch->number, w->name, "");
     }
+    if (w->number == 0) {
+        q.length[REMAINDERS] = 3 * w->k - 1;
+        ask(CUT, &q, 5, w->name, "remainders one short");
+        q.length[REMAINDERS] = 3 * (w->k + 1);
+    }
     const struct answer answer = ask(CUT, &q, w->number, w->name, "");
     const size_t boxes = answer.boxes;
     check(boxes == w->boxes, "%zu boxes and not %zu", boxes, w->boxes);
     check(answer.rounds == w->rounds, "%zu rounds and not %zu", answer.rounds, w->rounds);
     check(memcmp(q.palette, w->palette, 3 * boxes) == 0, "another palette");
     check(memcmp(q.counts, w->counts, boxes * sizeof *q.counts) == 0, "other counts");
+    check(memcmp(q.remainders, w->remainders, 3 * boxes * sizeof *q.remainders) == 0, "other remainders");
     check(memcmp(q.boxes, w->bounds, 6 * boxes) == 0, "other boxes");
     check(memcmp(q.spreads, w->spreads, boxes * sizeof *q.spreads) == 0, "other spreads");
     for (size_t p = 0; w->map && p < q.length[MAP]; p++)
@@ -403,7 +414,7 @@ static struct asked good(void)
     q.length[MAP] = 64;
     q.length[COLOURS] = q.length[FRAME] = 15;
     q.length[WEIGHTS] = q.length[INDICES] = 5;
-    q.length[PALETTE] = 9;
+    q.length[PALETTE] = q.length[REMAINDERS] = 9;
     q.length[COUNTS] = q.length[SPREADS] = 3;
     q.length[BOXES] = 18;
     memset(q.table, 0, 320 * sizeof *q.table);
@@ -463,6 +474,8 @@ static const struct change {
     {BIT(CUT), 5, "palette one byte short", PUT(length[PALETTE], 8)},
     {BIT(CUT), 5, "counts one short", PUT(length[COUNTS], 2)},
     {BIT(CUT), 5, "no counts", PUT(length[COUNTS], 0)},
+    {BIT(CUT), 5, "remainders one short", PUT(length[REMAINDERS], 8)},
+    {BIT(CUT), 5, "no remainders", PUT(length[REMAINDERS], 0)},
     {BIT(CUT), 5, "boxes one byte short", PUT(length[BOXES], 17)},
     {BIT(CUT), 5, "no boxes", PUT(length[BOXES], 0)},
     {BIT(CUT), 5, "spreads one short", PUT(length[SPREADS], 2)},
@@ -520,6 +533,7 @@ static const struct change {
     {BIT(CUT) | BIT(PAINT), 0, "palette of 256 colours", PUT(length[PALETTE], 768)},
     {BIT(CUT), 0, "palette one byte long", PUT(length[PALETTE], 10)},
     {BIT(CUT), 0, "counts one long", PUT(length[COUNTS], 4)},
+    {BIT(CUT), 0, "remainders one long", PUT(length[REMAINDERS], 10)},
     {BIT(CUT), 0, "boxes one byte long", PUT(length[BOXES], 19)},
     {BIT(CUT), 0, "spreads one long", PUT(length[SPREADS], 4)},
     {BIT(MAPPING), 0, "256 colours", PUT(told, 256)},
@@ -717,6 +731,9 @@ static void ask_length(size_t pixels)
     q.length[PALETTE] = 3 * q.k;
     q.length[COUNTS] = q.length[SPREADS] = q.k;
     q.length[BOXES] = 6 * q.k;
+    q.length[REMAINDERS] = 3 * q.k - 1;
+    ask(CUT, &q, 5, words, "remainders one short");
+    q.length[REMAINDERS] = 3 * q.k;
     ask(CUT, &q, 0, words, "k one more");
 }
 

@@ -17,7 +17,7 @@
 struct left {
     uint64_t work[5 * BINS];
     double spreads[256];
-    uint32_t counts[256];
+    uint32_t counts[256], remainders[3 * 256];
     uint8_t palette[3 * 256], map[BINS], boxes[6 * 256];
     uint8_t number;
     size_t found;
@@ -54,7 +54,8 @@ static void cut(size_t k, struct left *left)
     struct seluvava_cut_answer answer;
     memset(left, 0xa5, sizeof *left);
     answer = seluvava_cut(8, 8, 8, k, table, 5 * BINS, left->work, 5 * BINS, left->palette, sizeof left->palette,
-                          left->counts, 256, left->map, BINS, left->boxes, sizeof left->boxes, left->spreads, 256);
+                          left->counts, 256, left->remainders, 3 * 256, left->map, BINS, left->boxes, sizeof left->boxes,
+                          left->spreads, 256);
     left->number = answer.number;
     left->found = answer.boxes;
 }

@@ -23,7 +23,7 @@ struct lent {
     uint64_t table[5 * BINS], second[5 * BINS], work[5 * BINS];
     int64_t differences[5 * BINS];
     uint8_t frame[3 * PIXELS], indices[PIXELS];
-    uint32_t weights[PIXELS], counts[K];
+    uint32_t weights[PIXELS], counts[K], remainders[3 * K];
     uint8_t palette[3 * K], map[BINS], boxes[6 * K];
     double spreads[K];
     size_t answer, found;
@@ -71,8 +71,8 @@ static void cut(struct lent *l)
 {
     const struct seluvava_cut_answer answer =
         seluvava_cut(B1, B2, B3, K, l->table, COUNT(l->table), l->work, COUNT(l->work), l->palette, COUNT(l->palette),
-                     l->counts, COUNT(l->counts), l->map, COUNT(l->map), l->boxes, COUNT(l->boxes), l->spreads,
-                     COUNT(l->spreads));
+                     l->counts, COUNT(l->counts), l->remainders, COUNT(l->remainders), l->map, COUNT(l->map), l->boxes,
+                     COUNT(l->boxes), l->spreads, COUNT(l->spreads));
     l->answer = answer.number;
     l->found = answer.boxes;
 }

@@ -98,7 +98,7 @@ static uint8_t look(struct table t)
 struct lent {
     uint64_t *work;
     uint8_t *map, palette[3 * 256], boxes[6 * 256];
-    uint32_t counts[256];
+    uint32_t counts[256], remainders[3 * 256];
     double spreads[256];
 };
 
@@ -114,7 +114,7 @@ static struct seluvava_cut_answer cut_table(struct table t, size_t k, struct len
 {
     struct seluvava_cut_answer answer =
         seluvava_cut(t.b1, t.b2, t.b3, k, t.numbers, t.len, l->work, t.len, l->palette, sizeof l->palette, l->counts,
-                     256, l->map, t.len / 5, l->boxes, sizeof l->boxes, l->spreads, 256);
+                     256, l->remainders, 3 * 256, l->map, t.len / 5, l->boxes, sizeof l->boxes, l->spreads, 256);
     if (answer.number != 0) fail("cut");
     return answer;
 }

@@ -71,6 +71,7 @@ struct Cut {
     work: Vec<u64>,
     palette: Vec<u8>,
     counts: Vec<u32>,
+    remainders: Vec<u32>,
     map: Vec<u8>,
     boxes: Vec<u8>,
     spreads: Vec<f64>,
@@ -85,6 +86,7 @@ impl Cut {
             work: vec![0; numbers],
             palette: vec![0; 3 * MOST],
             counts: vec![0; MOST],
+            remainders: vec![0; 3 * MOST],
             map: vec![0; bins],
             boxes: vec![0; 6 * MOST],
             spreads: vec![0.0; MOST],
@@ -97,6 +99,7 @@ impl Cut {
         self.work.fill(u64::MAX);
         self.palette.fill(0xa5);
         self.counts.fill(u32::MAX);
+        self.remainders.fill(u32::MAX);
         self.map.fill(0xa5);
         self.boxes.fill(0xa5);
         self.spreads.fill(-1.0);
@@ -118,6 +121,8 @@ impl Cut {
                 self.palette.len(),
                 self.counts.as_mut_ptr(),
                 self.counts.len(),
+                self.remainders.as_mut_ptr(),
+                self.remainders.len(),
                 self.map.as_mut_ptr(),
                 self.map.len(),
                 self.boxes.as_mut_ptr(),

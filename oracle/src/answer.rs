@@ -22,7 +22,7 @@ impl PartialEq for BoxSpread {
     }
 }
 
-/// All that the original says of one input, and how many rounds its loop has.
+/// All that the original says of one input, with how many rounds its loop has and what its means leave of its sums.
 #[derive(Clone, Debug, PartialEq)]
 pub struct Answer {
     pub moments: Vec<u64>,
@@ -30,6 +30,7 @@ pub struct Answer {
     pub rounds: usize,
     pub palette: Vec<[u8; 3]>,
     pub counts: Vec<u32>,
+    pub remainders: Vec<[u32; 3]>,
     pub map: Vec<u8>,
 }
 
@@ -129,6 +130,7 @@ fn of_run<const B1: usize, const B2: usize, const B3: usize>(
         boxes,
         palette: palette.to_vec(),
         counts: counts.to_vec(),
+        remainders: run.remainders(k),
         map,
     };
     let indices = frame.iter().map(|c| color_map.palette_index(c)).collect();

@@ -114,6 +114,7 @@ pub struct Buffers {
     pub work: Buffer<u64>,
     pub palette: Buffer<u8>,
     pub counts: Buffer<u32>,
+    pub remainders: Buffer<u32>,
     pub map: Buffer<u8>,
     pub boxes: Buffer<u8>,
     pub spreads: Buffer<u64>,
@@ -125,6 +126,7 @@ impl Buffers {
             work: Buffer::random(lengths.work, r),
             palette: Buffer::random(lengths.palette, r),
             counts: Buffer::random(lengths.counts, r),
+            remainders: Buffer::random(lengths.remainders, r),
             map: Buffer::random(lengths.map, r),
             boxes: Buffer::random(lengths.boxes, r),
             spreads: Buffer::random(lengths.spreads, r),
@@ -136,6 +138,7 @@ impl Buffers {
             work: self.work.lend(),
             palette: self.palette.lend(),
             counts: self.counts.lend(),
+            remainders: self.remainders.lend(),
             map: self.map.lend(),
             boxes: self.boxes.lend(),
             spreads: self.spreads.lend(),
@@ -147,6 +150,8 @@ impl Buffers {
         self.work.unchanged("the work table of a refused cut")?;
         self.palette.unchanged("the palette of a refused cut")?;
         self.counts.unchanged("the counts of a refused cut")?;
+        self.remainders
+            .unchanged("the remainders of a refused cut")?;
         self.map.unchanged("the map of a refused cut")?;
         self.boxes.unchanged("the boxes of a refused cut")?;
         self.spreads.unchanged("the spreads of a refused cut")
@@ -163,6 +168,8 @@ impl Buffers {
         self.palette
             .expect("palette", 0, answer.palette.as_flattened())?;
         self.counts.expect("counts", 0, &answer.counts)?;
+        self.remainders
+            .expect("remainders", 0, answer.remainders.as_flattened())?;
         self.map.expect("map", 0, &answer.map)?;
         self.work.expect("work table", 0, &answer.moments)
     }
@@ -174,6 +181,7 @@ pub fn fitting(case: &Case) -> Lengths {
         work: 5 * case.bins(),
         palette: 3 * case.k + case.spare[0],
         counts: case.k + case.spare[1],
+        remainders: 3 * case.k + case.spare[1],
         map: case.bins(),
         boxes: 6 * case.k + case.spare[2],
         spreads: case.k + case.spare[3],

@@ -103,6 +103,7 @@ impl Calls {
             "work" => lengths.work = off(lengths.work, d.value),
             "palette" => lengths.palette = off(lengths.palette, d.value),
             "counts" => lengths.counts = off(lengths.counts, d.value),
+            "remainders" => lengths.remainders = off(lengths.remainders, d.value),
             "map" => {
                 resize(&mut self.map, d.value, r);
                 lengths.map = off(lengths.map, d.value);

@@ -26,7 +26,7 @@ pub struct Case {
     pub input: Input,
     pub frame: Vec<([u8; 3], usize)>,
     pub band: Band,
-    /// How many places too many are lent of palette, counts, boxes and spreads.
+    /// How many places too many are lent of palette, of counts and remainders, of boxes and of spreads.
     pub spare: [usize; 4],
     pub seed: u64,
 }

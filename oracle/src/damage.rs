@@ -21,7 +21,7 @@ pub const OF_NIGHTS: [&str; 6] = [
 ];
 
 /// What can be damaged in the calls one by one.
-pub const DAMAGES: [&str; 22] = [
+pub const DAMAGES: [&str; 23] = [
     "number",
     "second-number",
     "entry",
@@ -32,6 +32,7 @@ pub const DAMAGES: [&str; 22] = [
     "work",
     "palette",
     "counts",
+    "remainders",
     "map",
     "boxes",
     "spreads",

@@ -223,6 +223,7 @@ impl Port for Model {
             work: lent.work.len(),
             palette: lent.palette.len(),
             counts: lent.counts.len(),
+            remainders: lent.remainders.len(),
             map: lent.map.len(),
             boxes: lent.boxes.len(),
             spreads: lent.spreads.len(),
@@ -242,6 +243,7 @@ impl Port for Model {
             let [n, sums @ .., _] = cutting.sum(item.min, item.max);
             for (d, sum) in sums.into_iter().enumerate() {
                 lent.palette[3 * i + d] = (sum / n) as u8;
+                lent.remainders[3 * i + d] = (sum % n) as u32;
                 lent.boxes[6 * i + 2 * d] = item.min[d] as u8;
                 lent.boxes[6 * i + 2 * d + 1] = item.max[d] as u8;
             }

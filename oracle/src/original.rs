@@ -18,7 +18,7 @@ pub mod u8 {
 
     include!(env!("ORIGINAL_U8"));
 
-    use super::shared::CubeVar;
+    use super::shared::{CubeVar, InclusionExclusion as _};
 
     pub mod parts;
 
@@ -35,6 +35,12 @@ pub mod u8 {
             numbers.push(squares);
         }
         numbers
+    }
+
+    /// Each component sum modulo the weight.
+    fn left<Sum: Copy + Into<u64>, Count: Copy + Into<u64>>(s: Stats<Sum, 3, Count>) -> [u32; 3] {
+        let n: u64 = s.count.into();
+        s.components.map(|c| (c.into() % n) as u32)
     }
 
     impl<const B1: usize, const B2: usize, const B3: usize> WuU8x3<[u8; 3], B1, B2, B3> {
@@ -73,6 +79,15 @@ pub mod u8 {
             match &self.hist {
                 Hist::U32(hist) => numbers(hist.as_flattened()),
                 Hist::U64(hist) => numbers(hist.as_flattened()),
+            }
+        }
+
+        /// What the means of each box leave of the original's sums: the original divides and keeps no remainder.
+        pub fn remainders(&self, k: PaletteSize) -> Vec<[u32; 3]> {
+            let boxes = self.boxes(k).into_iter();
+            match &self.hist {
+                Hist::U32(hist) => boxes.map(|b| left(hist.volume(b.0))).collect(),
+                Hist::U64(hist) => boxes.map(|b| left(hist.volume(b.0))).collect(),
             }
         }
 

@@ -7,6 +7,7 @@ pub struct Lent<'a> {
     pub work: &'a mut [u64],
     pub palette: &'a mut [u8],
     pub counts: &'a mut [u32],
+    pub remainders: &'a mut [u32],
     pub map: &'a mut [u8],
     pub boxes: &'a mut [u8],
     pub spreads: &'a mut [u64],

@@ -58,11 +58,12 @@ impl ColourBox {
 
 /// What a cut makes of a table: boxes that cover the grid, with a colour and a count for each.
 ///
-/// Palette, counts and boxes have the same order and the same length, which is at least 1 and at most k.
+/// Palette, counts, remainders and boxes have the same order and the same length, which is at least 1 and at most k.
 #[derive(Clone, PartialEq)]
 pub struct Cut {
     rounds: usize,
     counts: Vec<u32>,
+    remainders: Vec<[u32; 3]>,
     boxes: Vec<ColourBox>,
     colour_map: ColourMap,
 }
@@ -89,6 +90,24 @@ impl Cut {
     #[must_use]
     pub fn counts(&self) -> &[u32] {
         &self.counts
+    }
+
+    /// What rounding down leaves of each box: of each component, colour times count plus remainder is the sum over the
+    /// colours in the box, and the remainder is below the count.
+    ///
+    /// ```
+    /// use seluvava::{Grid, Table};
+    ///
+    /// let mut table = Table::new(Grid::rgb());
+    /// table.load(&[[1, 0, 0], [2, 0, 0]])?;
+    /// let cut = table.cut(16)?;
+    /// assert_eq!((cut.palette(), cut.counts()), (&[[1, 0, 0]][..], &[2][..]));
+    /// assert_eq!(cut.remainders(), [[1, 0, 0]]);
+    /// # Ok::<(), seluvava::Refused>(())
+    /// ```
+    #[must_use]
+    pub fn remainders(&self) -> &[[u32; 3]] {
+        &self.remainders
     }
 
     /// The boxes with their spreads.
@@ -192,6 +211,7 @@ impl Table {
         let grid = self.grid();
         let mut palette = vec![[0; 3]; MOST_COLOURS];
         let mut counts = vec![0; MOST_COLOURS];
+        let mut remainders = vec![[0; 3]; MOST_COLOURS];
         let mut map = vec![0; grid.bins()];
         let mut bounds = vec![[0; 6]; MOST_COLOURS];
         let mut spreads = vec![0.0; MOST_COLOURS];
@@ -199,6 +219,7 @@ impl Table {
             work: work.for_grid(grid),
             palette: &mut palette,
             counts: &mut counts,
+            remainders: &mut remainders,
             map: &mut map,
             boxes: &mut bounds,
             spreads: &mut spreads,
@@ -206,10 +227,12 @@ impl Table {
         let sys::Done { boxes, rounds } = sys::cut(grid, k, self.numbers(), lent)?;
         palette.truncate(boxes);
         counts.truncate(boxes);
+        remainders.truncate(boxes);
         let boxes = bounds.into_iter().zip(spreads).take(boxes);
         Ok(Cut {
             rounds,
             counts,
+            remainders,
             boxes: boxes
                 .map(|(bounds, spread)| ColourBox::of(bounds, spread))
                 .collect(),

@@ -102,6 +102,7 @@ pub struct Lent<'a> {
     pub work: &'a mut [u64],
     pub palette: &'a mut [[u8; 3]],
     pub counts: &'a mut [u32],
+    pub remainders: &'a mut [[u32; 3]],
     pub map: &'a mut [u8],
     /// Of each box the first bin and the end of its bins, for red, green and blue.
     pub boxes: &'a mut [[u8; 6]],
@@ -118,6 +119,7 @@ pub struct Done {
 pub fn cut(grid: Grid, k: usize, table: &[u64], lent: Lent<'_>) -> Result<Done, Refused> {
     let [b1, b2, b3] = grid.sizes();
     let palette = lent.palette.as_flattened_mut();
+    let remainders = lent.remainders.as_flattened_mut();
     let boxes = lent.boxes.as_flattened_mut();
     // SAFETY: pointers and lengths are those of slices; `table` is not written, and each other one is borrowed mutably.
     let answer = unsafe {
@@ -134,6 +136,8 @@ pub fn cut(grid: Grid, k: usize, table: &[u64], lent: Lent<'_>) -> Result<Done, 
             palette.len(),
             lent.counts.as_mut_ptr(),
             lent.counts.len(),
+            remainders.as_mut_ptr(),
+            remainders.len(),
             lent.map.as_mut_ptr(),
             lent.map.len(),
             boxes.as_mut_ptr(),

@@ -23,15 +23,16 @@ fn holders(cut: &Cut, bins: [u8; 3]) -> Vec<usize> {
     (0..cut.boxes().len()).filter(holds).collect()
 }
 
-/// The means of some pixels, rounded down.
-fn mean(pixels: &[[u8; 3]]) -> [u8; 3] {
+/// The means of some pixels, rounded down, and what that leaves.
+fn mean(pixels: &[[u8; 3]]) -> ([u8; 3], [u32; 3]) {
     let sum = |i: usize| {
         pixels
             .iter()
             .map(|pixel| usize::from(pixel[i]))
             .sum::<usize>()
     };
-    [0, 1, 2].map(|i| (sum(i) / pixels.len()) as u8)
+    let means = [0, 1, 2].map(|i| (sum(i) / pixels.len()) as u8);
+    (means, [0, 1, 2].map(|i| (sum(i) % pixels.len()) as u32))
 }
 
 fn check(grid: Grid, pixels: &[[u8; 3]], k: usize) -> Result<(), Refused> {
@@ -67,8 +68,12 @@ fn check(grid: Grid, pixels: &[[u8; 3]], k: usize) -> Result<(), Refused> {
         .map(|pixels| pixels.len() as u32)
         .collect();
     assert_eq!(cut.counts(), counts);
-    let palette: Vec<[u8; 3]> = by_index.values().map(|pixels| mean(pixels)).collect();
-    assert_eq!(cut.palette(), palette);
+    let (palette, remainders): (Vec<_>, Vec<_>) =
+        by_index.values().map(|pixels| mean(pixels)).unzip();
+    assert_eq!(
+        (cut.palette(), cut.remainders()),
+        (&palette[..], &remainders[..])
+    );
     Ok(())
 }
 

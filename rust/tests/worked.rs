@@ -23,6 +23,7 @@ struct Answer {
     rounds: usize,
     palette: Vec<[u8; 3]>,
     counts: Vec<u32>,
+    remainders: Vec<[u32; 3]>,
     boxes: Vec<([[u8; 2]; 3], f64)>,
     map: Vec<u8>,
 }
@@ -37,6 +38,7 @@ fn answer_of(cut: &Cut) -> Answer {
         rounds: cut.rounds(),
         palette: cut.palette().to_vec(),
         counts: cut.counts().to_vec(),
+        remainders: cut.remainders().to_vec(),
         boxes: cut
             .boxes()
             .iter()
@@ -92,6 +94,7 @@ fn cases() -> Vec<Case> {
             rounds,
             palette: vec![[0, 0, 0], [255, 255, 255]],
             counts: vec![2, 1],
+            remainders: vec![[1, 0, 0], [0; 3]],
             boxes: vec![
                 ([[0, 1], [0, 2], [0, 2]], spread),
                 ([[1, 2], [0, 2], [0, 2]], 0.0),
@@ -116,6 +119,7 @@ fn cases() -> Vec<Case> {
                 rounds: 1,
                 palette: vec![[0, 0, 0], [255, 255, 255]],
                 counts: vec![1, 3],
+                remainders: vec![[0; 3]; 2],
                 boxes: vec![
                     ([[0, 1], [0, 2], [0, 2]], 0.0),
                     ([[1, 2], [0, 2], [0, 2]], 0.0),
@@ -132,6 +136,7 @@ fn cases() -> Vec<Case> {
                 rounds: 2,
                 palette: vec![[255, 255, 255], [0, 0, 0]],
                 counts: vec![3, 1],
+                remainders: vec![[0; 3]; 2],
                 boxes: vec![
                     ([[1, 2], [0, 2], [0, 2]], 0.0),
                     ([[0, 1], [0, 2], [0, 2]], 0.0),
@@ -148,6 +153,7 @@ fn cases() -> Vec<Case> {
                 rounds: 2,
                 palette: vec![[10, 20, 30]],
                 counts: vec![1],
+                remainders: vec![[0; 3]; 1],
                 boxes: vec![([[0, 2], [0, 2], [0, 2]], 0.0)],
                 map: entries(&[(0, 8)]),
             }),
@@ -161,6 +167,7 @@ fn cases() -> Vec<Case> {
                 rounds: 2,
                 palette: vec![[1, 0, 0]],
                 counts: vec![2],
+                remainders: vec![[1, 0, 0]],
                 boxes: vec![([[0, 2], [0, 2], [0, 2]], 0.0)],
                 map: entries(&[(0, 8)]),
             }),
@@ -174,6 +181,7 @@ fn cases() -> Vec<Case> {
                 rounds: 1,
                 palette: vec![[0, 0, 0], [0, 128, 128]],
                 counts: vec![1, 1],
+                remainders: vec![[0; 3]; 2],
                 boxes: vec![
                     ([[0, 2], [0, 1], [0, 2]], 0.0),
                     ([[0, 2], [1, 2], [0, 2]], 0.0),
@@ -190,6 +198,7 @@ fn cases() -> Vec<Case> {
                 rounds: 1,
                 palette: vec![[0, 0, 0], [192, 0, 0]],
                 counts: vec![1, 1],
+                remainders: vec![[0; 3]; 2],
                 boxes: vec![
                     ([[0, 1], [0, 4], [0, 4]], 0.0),
                     ([[1, 4], [0, 4], [0, 4]], 0.0),
@@ -206,6 +215,7 @@ fn cases() -> Vec<Case> {
                 rounds: 1,
                 palette: vec![[32, 0, 0], [255, 0, 0]],
                 counts: vec![2, 1],
+                remainders: vec![[0; 3]; 2],
                 boxes: vec![
                     ([[0, 2], [0, 2], [0, 2]], 2048.0),
                     ([[2, 4], [0, 2], [0, 2]], 0.0),
@@ -222,6 +232,7 @@ fn cases() -> Vec<Case> {
                 rounds: 2,
                 palette: vec![[255, 0, 0], [0, 0, 0], [64, 0, 0]],
                 counts: vec![1, 1, 1],
+                remainders: vec![[0; 3]; 3],
                 boxes: vec![
                     ([[2, 4], [0, 2], [0, 2]], 0.0),
                     ([[0, 1], [0, 2], [0, 2]], 0.0),
@@ -242,6 +253,7 @@ fn cases() -> Vec<Case> {
                 rounds: 0,
                 palette: vec![[9, 9, 9]],
                 counts: vec![4_294_967_295],
+                remainders: vec![[0; 3]; 1],
                 boxes: vec![([[0, 2], [0, 2], [0, 2]], f64::INFINITY)],
                 map: entries(&[(0, 8)]),
             }),

@@ -42,9 +42,14 @@ module _ (g : Grid) (k table : ℕ) (l : Lengths) where
         unfolding longEnough
         counts-short n = simp (eq-eqb _ _ t, eq-eqb _ _ w, le-leb _ _ p, lt-leb _ _ n)
 
-        pub only-map : k ≤ l .counts → longEnough g k table l ≡ eqb (l .map) (binsOf g)
-        unfolding longEnough
-        only-map c = simp (eq-eqb _ _ t, eq-eqb _ _ w, le-leb _ _ p, le-leb _ _ c)
+        module _ (c : k ≤ l .counts) where
+          pub remainders-short : l .remainders < 3 * k → longEnough g k table l ≡ false
+          unfolding longEnough
+          remainders-short n = simp (eq-eqb _ _ t, eq-eqb _ _ w, le-leb _ _ p, le-leb _ _ c, lt-leb _ _ n)
+
+          pub only-map : 3 * k ≤ l .remainders → longEnough g k table l ≡ eqb (l .map) (binsOf g)
+          unfolding longEnough
+          only-map r = simp (eq-eqb _ _ t, eq-eqb _ _ w, le-leb _ _ p, le-leb _ _ c, le-leb _ _ r)
 
 -- ---- the chain
 module _ (limit : ℕ) (g : Grid) (k : ℕ) (fit : Bool) (v : View) where
@@ -86,17 +91,19 @@ lengths-fit e =
     let two = both-true _ _ (one .1) in
     let three = both-true _ _ (two .1) in
     let four = both-true _ _ (three .1) in
+    let five = both-true _ _ (four .1) in
     record {
       table = eqb-true _ _ (one .0);
       work = eqb-true _ _ (two .0);
       palette = leb-true _ _ (three .0);
       counts = leb-true _ _ (four .0);
-      map = eqb-true _ _ (four .1);
+      remainders = leb-true _ _ (five .0);
+      map = eqb-true _ _ (five .1);
     }
 
 pub fit-lengths : {g : Grid} {k n : ℕ} {l : Lengths} → LengthsFit g k n l → longEnough g k n l ≡ true
 fit-lengths {g} {k} {n} {l} f =
-    only-map g k n l (f .table) (f .work) (f .palette) (f .counts) ∙ eq-eqb _ _ (f .map)
+    only-map g k n l (f .table) (f .work) (f .palette) (f .counts) (f .remainders) ∙ eq-eqb _ _ (f .map)
 
 pub can-cut : {limit : ℕ} {g : Grid} {k : ℕ} {fit : Bool} {v : View} → cutNumberOn limit g k fit v ≡ 0
     → CanCut limit g k v × (fit ≡ true)

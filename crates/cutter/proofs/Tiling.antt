@@ -1,5 +1,5 @@
--- The boxes of a loop as a list: each bin of the grid lies in exactly one of them, none is empty, and their counts add
--- up to the total.
+-- The boxes of a loop as a list: each bin of the grid lies in exactly one of them, none is empty, and each of their five
+-- numbers adds up to that of all bins.
 -- Assumes nothing.
 use mathlib.Core.Path.{_≡_, refl, sym, ap, _∙_}
 use mathlib.Core.Bool.{cond}
@@ -52,17 +52,18 @@ unfolding holding sumItems
 holding-sum g p [] = refl
 holding-sum g p (x ∷ h) = ap (λ (n : ℕ). cond (holdsAt g (x .bounds) p) 1 0 + n) (holding-sum g p h)
 
-counts-sum : (g : Grid) (v : View) (h : List BoxSpread)
-    → sumFrom 0 (length h) (λ i. countOf g v (getD (map (λ (x : BoxSpread). x .bounds) h) i noBox))
-    ≡ sumItems (λ x. boxSum g v (x .bounds) 0) h
-unfolding countOf sumFrom sumItems
-counts-sum g v [] = refl
-counts-sum g v (x ∷ h) =
-    ap (λ (n : ℕ). boxSum g v (x .bounds) 0 + n)
-    (sum-shift 1 0 (length h) count ∙ (λ j. sumFrom 0 (length h) (λ i. count (next i j))) ∙ counts-sum g v h)
+-- number j of the boxes
+sums-sum : (g : Grid) (v : View) (j : ℕ) (h : List BoxSpread)
+    → sumFrom 0 (length h) (λ i. boxSum g v (getD (map (λ (x : BoxSpread). x .bounds) h) i noBox) j)
+    ≡ sumItems (λ x. boxSum g v (x .bounds) j) h
+unfolding sumFrom sumItems
+sums-sum g v j [] = refl
+sums-sum g v j (x ∷ h) =
+    ap (λ (n : ℕ). boxSum g v (x .bounds) j + n)
+    (sum-shift 1 0 (length h) sum ∙ (λ l. sumFrom 0 (length h) (λ i. sum (next i l))) ∙ sums-sum g v j h)
   where
-    count : ℕ → ℕ
-    count i = countOf g v (getD (map (λ (y : BoxSpread). y .bounds) (x ∷ h)) i noBox)
+    sum : ℕ → ℕ
+    sum i = boxSum g v (getD (map (λ (y : BoxSpread). y .bounds) (x ∷ h)) i noBox) j
 
     next : (i : ℕ) → 1 + i ≡ suc i
     next i = omega arith
@@ -103,16 +104,21 @@ module _ (g : Grid) (v : View) (k : ℕ) (most : k ≤ 256) where
       let fit = heap-fit a some k most .each i h in
       rw (box-at i h) (record { within = fit .within; some = pos-of-ne-zero (fit .some) })
 
-  -- the counts add up to the total
-  pub counts-total : sumFrom 0 many (λ i. countOf g v (getD (boxesFound g v k) i noBox)) ≡ total g v
+  -- number j of the boxes adds up to that of all bins
+  pub sums-total : (j : ℕ) → sumFrom 0 many (λ i. boxSum g v (getD (boxesFound g v k) i noBox) j)
+      ≡ sumFrom 0 (binsOf g) (λ p. v p j)
   unfolding over
-  counts-total =
-      ap (λ (n : ℕ). sumFrom 0 n (λ i. countOf g v (getD (boxesFound g v k) i noBox)))
+  sums-total j =
+      ap (λ (n : ℕ). sumFrom 0 n (λ i. boxSum g v (getD (boxesFound g v k) i noBox) j))
       (sym (length-take-le many room in-room))
-      ∙ counts-sum g v (take many room)
-      ∙ over-heap {f = λ x. boxSum g v x 0} (record { adds = λ x d c h l. cut-sum g v x d c 0 h l }) g v k most
-      ∙ whole-sum g v 0
-      ∙ sym (total-is g v)
+      ∙ sums-sum g v j (take many room)
+      ∙ over-heap {f = λ x. boxSum g v x j} (record { adds = λ x d c h l. cut-sum g v x d c j h l }) g v k most
+      ∙ whole-sum g v j
+
+  -- so the counts add up to the total
+  pub counts-total : sumFrom 0 many (λ i. countOf g v (getD (boxesFound g v k) i noBox)) ≡ total g v
+  unfolding countOf
+  counts-total = sums-total 0 ∙ sym (total-is g v)
 
 -- ---- the sum of a box is that over the places which it holds
 module _ {g : Grid} {x : Bounds} (w : Within g x) (v : View) (j : ℕ) where

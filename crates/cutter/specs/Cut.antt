@@ -19,7 +19,7 @@ use Rattle.rounds.specs.declared.gather.BoxSpread.{BoxSpread}
 use Rattle.rounds.specs.declared.gather.Boxes.{Boxes}
 use Rattle.rounds.specs.Loop.{withZero, boxesOf}
 use Rattle.cutter.specs.declared.call.CutRecord.{CutRecord}
-use Rattle.cutter.specs.Palette.{paletteLater, countsLater}
+use Rattle.cutter.specs.Palette.{paletteLater, countsLater, remaindersLater}
 use Rattle.cutter.specs.Map.{mapOf}
 
 -- ---- the answer
@@ -56,6 +56,7 @@ recordOn most g k fit v =
 pub record Results : Type 0 where
   pub palette : List ℕ
   pub counts : List ℕ
+  pub remainders : List ℕ
   pub map : List ℕ
 
 -- the boxes of the first n places, in order
@@ -66,12 +67,13 @@ listOf n places = map (λ x. x .bounds) (take n places)
 unfoldable pub boxList : Grid → View → ℕ → List Bounds
 boxList g v k = let b = boxesOf g v k in listOf (b .boxes) (b .places)
 
--- palette and counts are filled in front; the map is full
+-- palette, counts and remainders are filled in front; the map is full
 unfoldable pub resultsOn : Grid → View → ℕ → Results → Results
 resultsOn g v k r =
     record {
       palette = paletteLater g v (boxList g v k) (r .palette);
       counts = countsLater g v (boxList g v k) (r .counts);
+      remainders = remaindersLater g v (boxList g v k) (r .remainders);
       map = mapOf g (boxList g v k);
     }
 
@@ -81,14 +83,18 @@ pub record Buffers : Type 0 where
   pub work : Table
   pub results : Results
 
-abbrev pub buffers : List ℕ → List ℕ → List ℕ → List ℕ → Buffers
-buffers work palette counts map =
-    record { work = work; results = record { palette = palette; counts = counts; map = map } }
+abbrev pub buffers : List ℕ → List ℕ → List ℕ → List ℕ → List ℕ → Buffers
+buffers work palette counts remainders map =
+    record {
+      work = work;
+      results = record { palette = palette; counts = counts; remainders = remainders; map = map };
+    }
 
 pub record Lengths : Type 0 where
   pub work : ℕ
   pub palette : ℕ
   pub counts : ℕ
+  pub remainders : ℕ
   pub map : ℕ
 
 abbrev pub lengthsOf : Buffers → Lengths
@@ -98,23 +104,26 @@ lengthsOf b =
       work = length (b .work);
       palette = length (r .palette);
       counts = length (r .counts);
+      remainders = length (r .remainders);
       map = length
           (r .map);
     }
 
--- "table and work table exactly 5·bins; map exactly bins", "palette at least 3·k bytes and counts (u32) at least k"
+-- "table and work table exactly 5·bins; map exactly bins", "palette at least 3·k bytes, counts (u32) at least k,
+-- remainders (u32) at least 3·k"
 pub record LengthsFit (g : Grid) (k numbers : ℕ) (l : Lengths) : Type 0 where
   pub table : numbers ≡ tableLen (binsOf g)
   pub work : l .work ≡ tableLen (binsOf g)
   pub palette : 3 * k ≤ l .palette
   pub counts : k ≤ l .counts
+  pub remainders : 3 * k ≤ l .remainders
   pub map : l .map ≡ binsOf g
 
 unfoldable pub longEnough : Grid → ℕ → ℕ → Lengths → Bool
 longEnough g k table l =
     eqb table (tableLen (binsOf g))
     && (eqb (l .work) (tableLen (binsOf g)) &&
-    (leb (3 * k) (l .palette) && (leb k (l .counts) && eqb (l .map) (binsOf g))))
+    (leb (3 * k) (l .palette) && (leb k (l .counts) && (leb (3 * k) (l .remainders) && eqb (l .map) (binsOf g)))))
 
 -- whether what is lent has the right lengths
 abbrev pub lengthsRight : Grid → ℕ → Table → Buffers → Bool

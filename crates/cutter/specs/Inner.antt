@@ -17,6 +17,7 @@ use Rattle.sums.specs.Box.{boxSum}
 use Rattle.rounds.specs.declared.gather.Boxes.{Boxes}
 use Rattle.cutter.specs.Fronts.{putFrom}
 use Rattle.cutter.specs.Palette.{meanOf, bytesOf}
+use Rattle.table.specs.Sound.{limit}
 use Rattle.cutter.specs.Cut.{listOf}
 
 -- ---- the palette
@@ -24,14 +25,21 @@ use Rattle.cutter.specs.Cut.{listOf}
 unfoldable pub statsColour : Stats → Rgb
 statsColour s =
     record {
-      c1 = meanOf (s .sum1) (s .weight);
-      c2 = meanOf (s .sum2) (s .weight);
-      c3 = meanOf (s .sum3) (s .weight);
+      c1 = meanOf (s .sum1) (s .weight) .quotient;
+      c2 = meanOf (s .sum2) (s .weight) .quotient;
+      c3 = meanOf (s .sum3) (s .weight) .quotient;
     }
 
--- statistics with some weight, whose means are bytes
+-- and its remainders
+unfoldable pub statsRemainders : Stats → List ℕ
+statsRemainders s =
+    meanOf (s .sum1) (s .weight) .remainder ∷ meanOf (s .sum2) (s .weight) .remainder
+    ∷ meanOf (s .sum3) (s .weight) .remainder ∷ []
+
+-- statistics with some weight that fits, whose means are bytes
 pub record Coloured (s : Stats) : Type 0 where
   pub some : 0 < s .weight
+  pub fits : s .weight ≤ limit
   pub one : s .sum1 ≤ 255 * s .weight
   pub two : s .sum2 ≤ 255 * s .weight
   pub three : s .sum3 ≤ 255 * s .weight
@@ -44,6 +52,10 @@ pub record Occupied (g : Grid) (v : View) (x : Bounds) : Type 0 where
 -- a palette with a colour at place i
 unfoldable pub withColourAt : List ℕ → ℕ → Rgb → List ℕ
 withColourAt palette i c = putFrom palette (3 * i) (bytesOf c)
+
+-- the remainders with three numbers at place i
+unfoldable pub withThreeAt : List ℕ → ℕ → List ℕ → List ℕ
+withThreeAt remainders i three = putFrom remainders (3 * i) three
 
 -- ---- the map
 -- a list with an index at the places that pass a test, and nothing else changed

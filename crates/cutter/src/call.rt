@@ -78,12 +78,13 @@ fn long_enough(
     work: usize,
     palette: usize,
     counts: usize,
+    remainders: usize,
     map: usize,
 ) -> bool
     requires { ⌜ Accepted g × (k ≤ 256) ⌝ }
     ensures { λ r. ⌜ r
         ≡ longEnough g k table
-        (record { work = work; palette = palette; counts = counts; map = map }) ⌝ }
+        (record { work = work; palette = palette; counts = counts; remainders = remainders; map = map }) ⌝ }
 {
     let n = bins(g);
     let numbers = table_len(g);
@@ -99,6 +100,9 @@ fn long_enough(
     if counts < k {
         return false;
     }
+    if remainders < 3 * k {
+        return false;
+    }
     map == n
 }
 
@@ -110,13 +114,14 @@ fn number_on(
     work: usize,
     palette: usize,
     counts: usize,
+    remainders: usize,
     map: usize,
 ) -> u8
     requires { ⌜ Accepted g ⌝ }
     ensures { λ r. ⌜ r
         ≡ cutNumberOn limit g k
         (longEnough g k (length (now (table .entry)))
-        (record { work = work; palette = palette; counts = counts; map = map }))
+        (record { work = work; palette = palette; counts = counts; remainders = remainders; map = map }))
         (viewOf (now (table .entry))) ⌝ }
 {
     if k < 1 {
@@ -125,7 +130,7 @@ fn number_on(
     if 256 < k {
         return 2;
     }
-    if !long_enough(g, k, table.len(), work, palette, counts, map) {
+    if !long_enough(g, k, table.len(), work, palette, counts, remainders, map) {
         return 5;
     }
     let SoundTotal::Total(total) = sound_total(table, g) else {
@@ -145,25 +150,28 @@ fn cut_on(
     work: &mut [u64],
     palette: &mut [u8],
     counts: &mut [u32],
+    remainders: &mut [u32],
     map: &mut [u8],
 ) -> CutRecord
     requires { ⌜ Accepted g × CanCut limit g k (viewOf (now table)) ⌝ }
     requires { ⌜ LengthsFit g k (length (now table))
-        (lengthsOf (buffers (now work) (now palette) (now counts) (now map))) ⌝ }
+        (lengthsOf (buffers (now work) (now palette) (now counts) (now remainders) (now map))) ⌝ }
     ensures answer { λ r. ⌜ r ≡ doneRecord (boxesOf g (viewOf (now (table .entry))) k) ⌝ }
-    ensures later { λ r. ⌜ buffers (now (work .exit)) (now (palette .exit)) (now (counts .exit)) (now (map .exit))
+    ensures later { λ r. ⌜ buffers (now (work .exit)) (now (palette .exit)) (now (counts .exit)) (now (remainders .exit))
+        (now (map .exit))
         ≡ laterOn g (viewOf (now (table .entry))) k
-        (buffers (now (work .entry)) (now (palette .entry)) (now (counts .entry)) (now (map .entry))) ⌝ }
+        (buffers (now (work .entry)) (now (palette .entry)) (now (counts .entry)) (now (remainders .entry))
+        (now (map .entry))) ⌝ }
 {
     moments(table, g, work);
     let b = cut_boxes(table, work, g, k);
-    put_results(table, work, g, b, palette, counts);
+    put_results(table, work, g, b, palette, counts, remainders);
     fill_boxes(g, b, map);
     done(b)
 }
 
-// Cuts a table into at most k boxes: their colours go into the palette, their weights into the counts, and the index of
-// the box of each bin into the map.
+// Cuts a table into at most k boxes: their colours go into the palette, their weights into the counts, what the means
+// leave of their sums into the remainders, and the index of the box of each bin into the map.
 pub fn cut(
     b1: usize,
     b2: usize,
@@ -173,14 +181,18 @@ pub fn cut(
     work: &mut [u64],
     palette: &mut [u8],
     counts: &mut [u32],
+    remainders: &mut [u32],
     map: &mut [u8],
 ) -> CutRecord
     ensures answer { λ r. ⌜ r
         ≡ cutRecord b1 b2 b3 k (now (table .entry))
-        (buffers (now (work .entry)) (now (palette .entry)) (now (counts .entry)) (now (map .entry))) ⌝ }
-    ensures later { λ r. ⌜ buffers (now (work .exit)) (now (palette .exit)) (now (counts .exit)) (now (map .exit))
+        (buffers (now (work .entry)) (now (palette .entry)) (now (counts .entry)) (now (remainders .entry))
+        (now (map .entry))) ⌝ }
+    ensures later { λ r. ⌜ buffers (now (work .exit)) (now (palette .exit)) (now (counts .exit)) (now (remainders .exit))
+        (now (map .exit))
         ≡ cutLater b1 b2 b3 k (now (table .entry))
-        (buffers (now (work .entry)) (now (palette .entry)) (now (counts .entry)) (now (map .entry))) ⌝ }
+        (buffers (now (work .entry)) (now (palette .entry)) (now (counts .entry)) (now (remainders .entry))
+        (now (map .entry))) ⌝ }
 {
     let Chosen::Accepted(g) = grid_of(b1, b2, b3) else {
         return refused(1);
@@ -192,10 +204,11 @@ pub fn cut(
         work.len(),
         palette.len(),
         counts.len(),
+        remainders.len(),
         map.len(),
     );
     if number != 0 {
         return refused(number);
     }
-    cut_on(g, k, table, work, palette, counts, map)
+    cut_on(g, k, table, work, palette, counts, remainders, map)
 }

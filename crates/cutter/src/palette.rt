@@ -1,4 +1,5 @@
-// Palette and counts: a box's colour is the means of its components, its count its weight.
+// Palette, counts and remainders: a box's colour is the means of its components, its count its weight, and its
+// remainders what the means leave of the sums.
 use boxes::sides::Bounds;
 use grid::place::Grid;
 use sums::box_sums::Stats;
@@ -9,15 +10,26 @@ ghost use lib.ListN.{length, set};
 ghost use Rattle.table.specs.Table.{viewOf};
 ghost use Rattle.table.specs.Sound.{limit};
 ghost use Rattle.sums.specs.Moments.{CanSum};
-ghost use Rattle.cutter.specs.Palette.{meanOf, colourOf, countOf, frontOf};
-ghost use Rattle.cutter.specs.Inner.{statsColour, withColourAt, Coloured, Occupied};
+ghost use Rattle.cutter.specs.Palette.{meanOf, colourOf, countOf, itsRemainders, frontOf};
+ghost use Rattle.cutter.specs.Inner.{statsColour, statsRemainders, withColourAt, withThreeAt};
+ghost use Rattle.cutter.specs.Inner.{Coloured, Occupied};
 
-// A component's mean.
-fn mean(sum: u64, weight: u64) -> u8
-    requires { ⌜ (0 < weight) × (sum ≤ 255 * weight) ⌝ }
+// A component's mean, rounded down, and what that leaves of its sum.
+pub struct Divided {
+    pub quotient: u8,
+    pub remainder: u32,
+}
+
+fn mean(sum: u64, weight: u64) -> Divided
+    requires { ⌜ (0 < weight) × (weight ≤ limit) × (sum ≤ 255 * weight) ⌝ }
     ensures { λ r. ⌜ r ≡ meanOf sum weight ⌝ }
 {
-    (sum / weight) as u8
+    let quotient = (sum / weight) as u8;
+    let remainder = (sum % weight) as u32;
+    Divided {
+        quotient,
+        remainder,
+    }
 }
 
 // Writes the colour of a box at place i of a palette.
@@ -25,10 +37,27 @@ fn put_colour(palette: &mut [u8], i: usize, s: Stats)
     requires { ⌜ Coloured s × (3 * i + 2 < length (now palette)) ⌝ }
     ensures { λ r. ⌜ now (palette .exit) ≡ withColourAt (now (palette .entry)) i (statsColour s) ⌝ }
 {
+    let m1 = mean(s.sum1, s.weight);
+    let m2 = mean(s.sum2, s.weight);
+    let m3 = mean(s.sum3, s.weight);
     let at = 3 * i;
-    palette[at] = mean(s.sum1, s.weight);
-    palette[at + 1] = mean(s.sum2, s.weight);
-    palette[at + 2] = mean(s.sum3, s.weight);
+    palette[at] = m1.quotient;
+    palette[at + 1] = m2.quotient;
+    palette[at + 2] = m3.quotient;
+}
+
+// Writes the remainders of a box at place i.
+fn put_remainders(remainders: &mut [u32], i: usize, s: Stats)
+    requires { ⌜ Coloured s × (3 * i + 2 < length (now remainders)) ⌝ }
+    ensures { λ r. ⌜ now (remainders .exit) ≡ withThreeAt (now (remainders .entry)) i (statsRemainders s) ⌝ }
+{
+    let m1 = mean(s.sum1, s.weight);
+    let m2 = mean(s.sum2, s.weight);
+    let m3 = mean(s.sum3, s.weight);
+    let at = 3 * i;
+    remainders[at] = m1.remainder;
+    remainders[at + 1] = m2.remainder;
+    remainders[at + 2] = m3.remainder;
 }
 
 // Writes the count of a box at place i.
@@ -39,7 +68,7 @@ fn put_count(counts: &mut [u32], i: usize, weight: u64)
     counts[i] = weight as u32;
 }
 
-// Writes colour and count of a box at place i (`cube_color_and_count`).
+// Writes colour, count (`cube_color_and_count`) and remainders of a box at place i.
 pub(crate) fn put_result(
     table: &[u64],
     work: &[u64],
@@ -48,17 +77,22 @@ pub(crate) fn put_result(
     i: usize,
     palette: &mut [u8],
     counts: &mut [u32],
+    remainders: &mut [u32],
 )
     requires { ⌜ CanSum limit g (now table) (now work) × Occupied g (viewOf (now table)) x ⌝ }
-    requires { ⌜ (3 * i + 2 < length (now palette)) × (i < length (now counts)) ⌝ }
+    requires { ⌜ (3 * i + 2 < length (now palette)) × (i < length (now counts))
+        × (3 * i + 2 < length (now remainders)) ⌝ }
     ensures palette { λ r. ⌜ now (palette .exit)
         ≡ withColourAt (now (palette .entry)) i (colourOf g (viewOf (now (table .entry))) x) ⌝ }
     ensures counts { λ r. ⌜ now (counts .exit)
         ≡ set (now (counts .entry)) i (countOf g (viewOf (now (table .entry))) x) ⌝ }
+    ensures remainders { λ r. ⌜ now (remainders .exit)
+        ≡ withThreeAt (now (remainders .entry)) i (itsRemainders g (viewOf (now (table .entry))) x) ⌝ }
 {
     let s = box_sum(table, work, g, x);
     put_colour(palette, i, s);
     put_count(counts, i, s.weight);
+    put_remainders(remainders, i, s);
 }
 
 // The filled front of a palette.

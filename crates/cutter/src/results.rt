@@ -1,4 +1,4 @@
-// The results of all boxes: their colours, their counts, and the index of the box of each bin.
+// The results of all boxes: their colours, their counts, their remainders, and the index of the box of each bin.
 use crate::map::fill_box;
 use crate::palette::put_result;
 use grid::place::Grid;
@@ -10,11 +10,11 @@ ghost use Rattle.grid.specs.Grid.{binsOf};
 ghost use Rattle.table.specs.Table.{viewOf};
 ghost use Rattle.table.specs.Sound.{limit};
 ghost use Rattle.sums.specs.Moments.{CanSum};
-ghost use Rattle.cutter.specs.Palette.{paletteLater, countsLater};
+ghost use Rattle.cutter.specs.Palette.{paletteLater, countsLater, remaindersLater};
 ghost use Rattle.cutter.specs.Cut.{listOf};
 ghost use Rattle.cutter.specs.Inner.{fillFrom, Placed, Found};
 
-// Writes colours and counts of all boxes.
+// Writes colours, counts and remainders of all boxes.
 pub(crate) fn put_results(
     table: &[u64],
     work: &[u64],
@@ -22,20 +22,24 @@ pub(crate) fn put_results(
     b: Boxes,
     palette: &mut [u8],
     counts: &mut [u32],
+    remainders: &mut [u32],
 )
     requires { ⌜ CanSum limit g (now table) (now work) × Found g (viewOf (now table)) b ⌝ }
-    requires { ⌜ (3 * b .boxes ≤ length (now palette)) × (b .boxes ≤ length (now counts)) ⌝ }
+    requires { ⌜ (3 * b .boxes ≤ length (now palette)) × (b .boxes ≤ length (now counts))
+        × (3 * b .boxes ≤ length (now remainders)) ⌝ }
     ensures palette { λ r. ⌜ now (palette .exit)
         ≡ paletteLater g (viewOf (now (table .entry))) (listOf (b .boxes) (b .places)) (now (palette .entry)) ⌝ }
     ensures counts { λ r. ⌜ now (counts .exit)
         ≡ countsLater g (viewOf (now (table .entry))) (listOf (b .boxes) (b .places)) (now (counts .entry)) ⌝ }
+    ensures remainders { λ r. ⌜ now (remainders .exit)
+        ≡ remaindersLater g (viewOf (now (table .entry))) (listOf (b .boxes) (b .places)) (now (remainders .entry)) ⌝ }
 {
     let places = b.places;
     let n = b.boxes;
     let mut i = 0;
     while i < n {
         let x = places[i];
-        put_result(table, work, g, x.bounds, i, palette, counts);
+        put_result(table, work, g, x.bounds, i, palette, counts, remainders);
         i = i + 1;
     }
 }

@@ -57,10 +57,10 @@ unfolding textOf
 text-cut n t e = when-done n _ _ e
 
 -- what the code lends
-pub lent-zeros : buffers (replicate 2560 0) (replicate 48 0) (replicate 16 0) (replicate 512 0) ≡ lentZeros
+pub lent-zeros : buffers (replicate 2560 0) (replicate 48 0) (replicate 16 0) (replicate 48 0) (replicate 512 0) ≡ lentZeros
 unfolding lentZeros
 lent-zeros =
-    ap (λ (work : List ℕ). buffers work (replicate 48 0) (replicate 16 0) (replicate 512 0))
+    ap (λ (work : List ℕ). buffers work (replicate 48 0) (replicate 16 0) (replicate 48 0) (replicate 512 0))
     (sym (wide-empty (8 * 8 * 8)))
 
 -- where the cut was refused, and where it is done

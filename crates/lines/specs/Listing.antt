@@ -40,7 +40,9 @@ batchLater t batch filled = partLater t (take filled batch)
 -- ---- "grid 8,8,8, k=16": the text for the table that was loaded
 -- what a cut is lent, as long as it has to be
 unfoldable pub lentZeros : Buffers
-lentZeros = buffers (emptyOf (8 * 8 * 8)) (replicate (3 * 16) 0) (replicate 16 0) (replicate (8 * 8 * 8) 0)
+lentZeros =
+    buffers (emptyOf (8 * 8 * 8)) (replicate (3 * 16) 0) (replicate 16 0) (replicate (3 * 16) 0)
+    (replicate (8 * 8 * 8) 0)
 
 unfoldable pub cutText : List ℕ → List ℕ
 cutText t =

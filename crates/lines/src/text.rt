@@ -18,6 +18,7 @@ fn cut_text(table: &[u64], out: &mut [u8]) -> usize
     let mut work = [0; 2560];
     let mut palette = [0; 48];
     let mut counts = [0; 16];
+    let mut remainders = [0; 48];
     let mut map = [0; 512];
     let done = cut(
         8,
@@ -28,6 +29,7 @@ fn cut_text(table: &[u64], out: &mut [u8]) -> usize
         &mut work,
         &mut palette,
         &mut counts,
+        &mut remainders,
         &mut map,
     );
     if done.number != 0 {

@@ -65,7 +65,7 @@ module _ (r : CutRecord) (many : length (told r) ≡ r .boxes) (i : ℕ) (h : i 
       place : (i : ℕ) → i ≡ 1 * i + 0
       place i = omega arith
 
--- "Places past the filled front of palette and counts stay."
+-- "Places past the filled front of palette, counts and remainders stay."
 stays : {B : Type 0} (w : ℕ) (f : BoxSpread → List B) → ((x : BoxSpread) → length (f x) ≡ w)
     → (xs : List BoxSpread) {n : ℕ} → w * length xs ≡ n → (old : List B) (j : ℕ) (past : B)
     → getD (filled w f xs old) (n + j) past ≡ getD old (n + j) past

@@ -215,11 +215,11 @@ cut-boxes-determined κs a r s x y p q = determined p q
 pub front-determined : Determines 1 front.Kinds.ps front.Kinds.r front.Reads.Learnt (λ κs r e. now r)
 front-determined κs a r s x y p q = determined p q
 
-pub cut-determined : Determines {A = CutRecord × Buffers} 5 cut.Kinds.ps cut.Kinds.r cut.Reads.Learnt
+pub cut-determined : Determines {A = CutRecord × Buffers} 6 cut.Kinds.ps cut.Kinds.r cut.Reads.Learnt
     (λ κs r e. (
       r,
       buffers (now (e .1 .1 .1 .1 .1 .0)) (now (e .1 .1 .1 .1 .1 .1 .0)) (now (e .1 .1 .1 .1 .1 .1 .1 .0))
-          (now (e .1 .1 .1 .1 .1 .1 .1 .1 .0)),
+          (now (e .1 .1 .1 .1 .1 .1 .1 .1 .0)) (now (e .1 .1 .1 .1 .1 .1 .1 .1 .1 .0)),
     ))
 cut-determined κs a r s x y p q = both (determined (p .0) (q .0)) (determined (p .1) (q .1))
 
@@ -275,14 +275,14 @@ pub exported-compare-determined : Determines {A = Compared × List ℤ} 3 export
     exported-compare.Kinds.r exported-compare.Reads.Learnt (λ κs r e. (r, now (e .1 .1 .1 .1 .1 .0)))
 exported-compare-determined κs a r s x y p q = both (determined (p .0) (q .0)) (determined (p .1) (q .1))
 
-pub exported-cut-determined : Determines {A = CutAnswer × Lent} 7 exported-cut.Kinds.ps exported-cut.Kinds.r
+pub exported-cut-determined : Determines {A = CutAnswer × Lent} 8 exported-cut.Kinds.ps exported-cut.Kinds.r
     exported-cut.Reads.Learnt
     (λ κs r e. (
       r,
       lent
           (buffers (now (e .1 .1 .1 .1 .1 .0)) (now (e .1 .1 .1 .1 .1 .1 .0)) (now (e .1 .1 .1 .1 .1 .1 .1 .0))
-          (now (e .1 .1 .1 .1 .1 .1 .1 .1 .0))) (now (e .1 .1 .1 .1 .1 .1 .1 .1 .1 .0))
-          (now (e .1 .1 .1 .1 .1 .1 .1 .1 .1 .1 .0)),
+          (now (e .1 .1 .1 .1 .1 .1 .1 .1 .0)) (now (e .1 .1 .1 .1 .1 .1 .1 .1 .1 .0)))
+          (now (e .1 .1 .1 .1 .1 .1 .1 .1 .1 .1 .0)) (now (e .1 .1 .1 .1 .1 .1 .1 .1 .1 .1 .1 .0)),
     ))
 exported-cut-determined κs a r s x y p q = both (determined (p .0) (q .0)) (determined (p .1) (q .1))
 

@@ -63,6 +63,7 @@ module _ (b1 b2 b3 k : ℕ) (t : List ℕ) (b : Buffers) {g : Grid} (e : gridOf 
           work = l .work;
           palette = l .palette;
           counts = l .counts;
+          remainders = l .remainders;
           map = l .map;
         }))
 

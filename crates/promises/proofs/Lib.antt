@@ -16,3 +16,4 @@ pub mod Listing
 pub mod Determined
 pub mod Finite
 pub mod Rounds
+pub mod Remainders

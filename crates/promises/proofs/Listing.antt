@@ -135,6 +135,7 @@ module _ (bytes : List ℕ) (whole : length bytes % 3 ≡ 0) (few : length bytes
           work = empty-holds (8 * 8 * 8) .lent .numbers;
           palette = lit≤ tt;
           counts = lit≤ tt;
+          remainders = lit≤ tt;
           map = refl;
         })
 
@@ -145,7 +146,7 @@ module _ (bytes : List ℕ) (whole : length bytes % 3 ≡ 0) (few : length bytes
         rw is-grid8
         (no-total limit grid8 16 (longEnough grid8 16 (length left) l) (viewOf left) (lit≤ tt) (lit≤ tt)
         (only-map grid8 16 (length left) l (table-holds grid8 (batchOf bytes false []) .lent .numbers)
-        (empty-holds (8 * 8 * 8) .lent .numbers) (lit≤ tt) (lit≤ tt))
+        (empty-holds (8 * 8 * 8) .lent .numbers) (lit≤ tt) (lit≤ tt) (lit≤ tt))
         its-sound
         (its-total ∙ nothing))
 

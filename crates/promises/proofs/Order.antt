@@ -23,6 +23,7 @@ same-cut g b1 b2 b3 k b e =
       boxes = λ i. cutRecord b1 b2 b3 k (e i) b;
       palette = λ i. cutLater b1 b2 b3 k (e i) b .results .palette;
       counts = λ i. cutLater b1 b2 b3 k (e i) b .results .counts;
+      remainders = λ i. cutLater b1 b2 b3 k (e i) b .results .remainders;
       map = λ i. cutLater b1 b2 b3 k (e i) b .results .map;
       work = λ i. cutLater b1 b2 b3 k (e i) b .work;
       pixel = λ c i. getD (cutLater b1 b2 b3 k (e i) b .results .map) (colourPlace g c) 0;

@@ -31,7 +31,8 @@ use Rattle.rounds.specs.Loop.{round}
 use Rattle.rounds.specs.Loop.{rounds, heapOf, placesOf, boxesOf}
 use Rattle.boxes.specs.Box.{wholeOf}
 use Rattle.cutter.specs.Fronts.{joinAll, filled}
-use Rattle.cutter.specs.Palette.{meanOf, colourOf, countOf, bytesOf, itsColour, itsCount, paletteLater, countsLater}
+use Rattle.cutter.specs.Palette.{meanOf, colourOf, countOf, remainderOf, bytesOf, itsColour, itsCount, itsRemainders}
+use Rattle.cutter.specs.Palette.{paletteLater, countsLater, remaindersLater}
 use Rattle.boxes.specs.Holds.{lies, holds, holdsAt}
 use Rattle.cutter.specs.Map.{indexFrom, mapOf}
 use Rattle.cutter.specs.Cut.{resultsOn, longEnough, cutNumberOn, cutNumber, refusedRecord, doneRecord, recordOn}
@@ -58,7 +59,8 @@ unfolding loadsOf tableAfter positionIn lentTo outcome times empties plain weigh
     climb putIn sink enter takeOut
     withSpread wholeOf startRoom start roomAfter boxesAfter roundRoom roundBoxes round rounds heapOf placesOf
     boxesOf
-    meanOf colourOf countOf bytesOf itsColour itsCount joinAll filled paletteLater countsLater lies holdsAt holds
+    meanOf colourOf countOf remainderOf bytesOf itsColour itsCount itsRemainders joinAll filled
+    paletteLater countsLater remaindersLater lies holdsAt holds
     indexFrom
     mapOf
     longEnough cutNumberOn cutNumber refusedRecord doneRecord recordOn cutRecord listOf boxList laterOn resultsOn

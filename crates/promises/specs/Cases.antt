@@ -59,7 +59,8 @@ positionIn b1 b2 b3 t = onGrid (gridOf b1 b2 b3) nowhere (λ g. positionAnswer (
 
 -- what is lent to the cut: long enough for every k here, and nowhere zero
 unfoldable pub lentTo : ℕ → Buffers
-lentTo bins = buffers (replicate (tableLen bins) 5) (replicate 780 7) (replicate 260 9) (replicate bins 3)
+lentTo bins =
+    buffers (replicate (tableLen bins) 5) (replicate 780 7) (replicate 260 9) (replicate 770 4) (replicate bins 3)
 
 unfoldable pub outcome : Case → Outcome
 outcome c =
@@ -115,14 +116,15 @@ recordWith number rounds xs =
           xs ++ replicate (256 - length xs) (box (0, 0) (0, 0) (0, 0) zeroOf);
     }
 
--- a cut that is done: its rounds, boxes, moments, colours, counts and map; "Places past the filled front of palette and counts
--- stay"
+-- a cut that is done: its rounds, boxes, moments, colours, counts, remainders and map; "Places past the filled front of
+-- palette, counts and remainders stay"
 pub record Done : Type 0 where
   pub rounds : ℕ
   pub boxes : List BoxSpread
   pub work : List ℕ
   pub colours : List ℕ
   pub counts : List ℕ
+  pub remainders : List ℕ
   pub map : List ℕ
 
 unfoldable pub done : List AfterLoad → ScoredAnswer → Done → Outcome
@@ -132,7 +134,8 @@ done loads position d =
       position = position;
       cut = recordWith 0 (d .rounds) (d .boxes);
       later = buffers (d .work) (d .colours ++ replicate (780 - length (d .colours)) 7)
-          (d .counts ++ replicate (260 - length (d .counts)) 9) (d .map);
+          (d .counts ++ replicate (260 - length (d .counts)) 9)
+          (d .remainders ++ replicate (770 - length (d .remainders)) 4) (d .map);
     }
 
 -- "A refusal writes nothing. A refused cut hands back its answer, zero boxes, zero rounds and box places all zero."
@@ -197,6 +200,7 @@ cases =
             work = blackWhiteMoments;
             colours = 0 ∷ 0 ∷ 0 ∷ 255 ∷ 255 ∷ 255 ∷ [];
             counts = 1 ∷ 3 ∷ [];
+            remainders = replicate 6 0;
             map = replicate 4 0 ++ replicate 4 1;
           });
     }
@@ -213,6 +217,7 @@ cases =
             work = blackWhiteMoments;
             colours = 255 ∷ 255 ∷ 255 ∷ 0 ∷ 0 ∷ 0 ∷ [];
             counts = 3 ∷ 1 ∷ [];
+            remainders = replicate 6 0;
             map = replicate 4 1 ++ replicate 4 0;
           });
     }
@@ -229,6 +234,7 @@ cases =
             work = times 8 (1 ∷ 10 ∷ 20 ∷ 30 ∷ 1400 ∷ []);
             colours = 10 ∷ 20 ∷ 30 ∷ [];
             counts = 1 ∷ [];
+            remainders = replicate 3 0;
             map = replicate 8 0;
           });
     }
@@ -245,6 +251,7 @@ cases =
             work = times 8 (2 ∷ 3 ∷ 0 ∷ 0 ∷ 5 ∷ []);
             colours = 1 ∷ 0 ∷ 0 ∷ [];
             counts = 2 ∷ [];
+            remainders = 1 ∷ 0 ∷ 0 ∷ [];
             map = replicate 8 0;
           });
     }
@@ -263,6 +270,7 @@ cases =
             work = times 2 (times 3 (1 ∷ 0 ∷ 0 ∷ 0 ∷ 0 ∷ []) ++ (2 ∷ 0 ∷ 128 ∷ 128 ∷ 32768 ∷ []));
             colours = 0 ∷ 0 ∷ 0 ∷ 0 ∷ 128 ∷ 128 ∷ [];
             counts = 1 ∷ 1 ∷ [];
+            remainders = replicate 6 0;
             map = times 2 (0 ∷ 0 ∷ 1 ∷ 1 ∷ []);
           });
     }
@@ -281,6 +289,7 @@ cases =
             work = times 48 (1 ∷ 0 ∷ 0 ∷ 0 ∷ 0 ∷ []) ++ times 16 (2 ∷ 192 ∷ 0 ∷ 0 ∷ 36864 ∷ []);
             colours = 0 ∷ 0 ∷ 0 ∷ 192 ∷ 0 ∷ 0 ∷ [];
             counts = 1 ∷ 1 ∷ [];
+            remainders = replicate 6 0;
             map = replicate 16 0 ++ replicate 48 1;
           });
     }
@@ -298,6 +307,7 @@ cases =
             work = redsMoments;
             colours = 32 ∷ 0 ∷ 0 ∷ 255 ∷ 0 ∷ 0 ∷ [];
             counts = 2 ∷ 1 ∷ [];
+            remainders = replicate 6 0;
             map = replicate 8 0 ++ replicate 8 1;
           });
     }
@@ -315,6 +325,7 @@ cases =
             work = redsMoments;
             colours = 255 ∷ 0 ∷ 0 ∷ 0 ∷ 0 ∷ 0 ∷ 64 ∷ 0 ∷ 0 ∷ [];
             counts = 1 ∷ 1 ∷ 1 ∷ [];
+            remainders = replicate 9 0;
             map = replicate 4 1 ++ (replicate 4 2 ++ replicate 8 0);
           });
     }
@@ -332,6 +343,7 @@ cases =
             work = times 8 fullCell;
             colours = 9 ∷ 9 ∷ 9 ∷ [];
             counts = 4294967295 ∷ [];
+            remainders = replicate 3 0;
             map = replicate 8 0;
           });
     }

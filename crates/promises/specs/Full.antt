@@ -21,4 +21,5 @@ pub record Lends (g : Grid) (k : ℕ) (b : Buffers) : Type 0 where
   pub work : length (b .work) ≡ tableLen (binsOf g)
   pub palette : 3 * k ≤ length (b .results .palette)
   pub counts : k ≤ length (b .results .counts)
+  pub remainders : 3 * k ≤ length (b .results .remainders)
   pub map : length (b .results .map) ≡ binsOf g

@@ -12,3 +12,4 @@ pub mod Half
 pub mod Listing
 pub mod Finite
 pub mod Rounds
+pub mod Remainders

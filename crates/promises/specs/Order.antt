@@ -15,6 +15,7 @@ pub record SameCut (g : Grid) (b1 b2 b3 k : ℕ) (b : Buffers) (t s : List ℕ) 
   pub boxes : cutRecord b1 b2 b3 k t b ≡ cutRecord b1 b2 b3 k s b
   pub palette : cutLater b1 b2 b3 k t b .results .palette ≡ cutLater b1 b2 b3 k s b .results .palette
   pub counts : cutLater b1 b2 b3 k t b .results .counts ≡ cutLater b1 b2 b3 k s b .results .counts
+  pub remainders : cutLater b1 b2 b3 k t b .results .remainders ≡ cutLater b1 b2 b3 k s b .results .remainders
   pub map : cutLater b1 b2 b3 k t b .results .map ≡ cutLater b1 b2 b3 k s b .results .map
   pub work : cutLater b1 b2 b3 k t b .work ≡ cutLater b1 b2 b3 k s b .work
   pub pixel : (c : Rgb)

@@ -62,7 +62,7 @@ fn load_lent(n: Numbers, m: &mut [u64], frame: &[u8], weights: &[u32]) -> u8 {
 }
 
 // Loads the frame with the weights into the list that the line names.
-fn load_frame(n: Numbers, m: &mut [u64; 385062]) -> u64 {
+fn load_frame(n: Numbers, m: &mut [u64; 389158]) -> u64 {
     let mut frame_room = [0; 32769];
     let mut weight_room = [0; 4095];
     let frame = bytes_at(m, FRAME, &mut frame_room);
@@ -76,14 +76,14 @@ fn merge_lent(n: Numbers, m: &mut [u64], second: &[u64]) -> u8 {
 }
 
 // Adds the second table to the list that the line names.
-fn merge_second(n: Numbers, line: &mut [u64], m: &mut [u64; 385062]) -> u64 {
+fn merge_second(n: Numbers, line: &mut [u64], m: &mut [u64; 389158]) -> u64 {
     let second = table_at(m, SECOND, line);
     wide(merge_lent(n, m, second))
 }
 
 // ---- Map and paint
 
-fn map_frame(n: Numbers, m: &mut [u64; 385062], lent: &[u8]) -> u64 {
+fn map_frame(n: Numbers, m: &mut [u64; 389158], lent: &[u8]) -> u64 {
     let mut frame_room = [0; 32769];
     let mut index_room = [0; 32769];
     let frame = bytes_at(m, FRAME, &mut frame_room);
@@ -93,7 +93,7 @@ fn map_frame(n: Numbers, m: &mut [u64; 385062], lent: &[u8]) -> u64 {
     wide(x)
 }
 
-fn paint_frame(n: Numbers, m: &mut [u64; 385062], lent: &[u8]) -> u64 {
+fn paint_frame(n: Numbers, m: &mut [u64; 389158], lent: &[u8]) -> u64 {
     let mut palette_room = [0; 32769];
     let mut frame_room = [0; 32769];
     let palette = bytes_at(m, PALETTE, &mut palette_room);
@@ -104,7 +104,7 @@ fn paint_frame(n: Numbers, m: &mut [u64; 385062], lent: &[u8]) -> u64 {
 }
 
 // Lends the map to a map, or to a paint.
-fn with_map(n: Numbers, m: &mut [u64; 385062], paints: bool) -> u64 {
+fn with_map(n: Numbers, m: &mut [u64; 389158], paints: bool) -> u64 {
     let mut room = [0; 32769];
     let lent = bytes_at(m, MAP, &mut room);
     if paints {
@@ -133,7 +133,7 @@ fn kind_of(word: u64) -> Kind
 }
 
 // Makes the call of a word, and answers its number.
-fn call(word: u64, n: Numbers, line: &mut [u64; 163857], m: &mut [u64; 385062]) -> u64 {
+fn call(word: u64, n: Numbers, line: &mut [u64; 163857], m: &mut [u64; 389158]) -> u64 {
     match word {
         script::LOAD => load_frame(n, m),
         script::MERGE => merge_second(n, line, m),
@@ -150,7 +150,7 @@ fn wide(n: u8) -> u64 {
 }
 
 // Keeps the number of a call, and counts the call.
-fn note(m: &mut [u64; 385062], count: usize, x: u64)
+fn note(m: &mut [u64; 389158], count: usize, x: u64)
     requires { ⌜ count < 24 ⌝ }
 {
     m[count] = wrapping_add_u64(m[count], 1);
@@ -158,7 +158,7 @@ fn note(m: &mut [u64; 385062], count: usize, x: u64)
 }
 
 // Makes the call of a line, and holds its number.
-pub(crate) fn make(word: u64, line: &mut [u64; 163857], m: &mut [u64; 385062]) -> bool {
+pub(crate) fn make(word: u64, line: &mut [u64; 163857], m: &mut [u64; 389158]) -> bool {
     let k = kind_of(word);
     let n = numbers_in(line);
     let x = call(word, n, line, m);

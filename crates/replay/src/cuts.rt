@@ -7,6 +7,7 @@ use crate::lend::put_bytes;
 use crate::lend::put_counts;
 use crate::lend::table_at;
 use crate::lists::COUNTS;
+use crate::lists::LEFT;
 use crate::lists::MAP;
 use crate::lists::PALETTE;
 use crate::lists::RECORD;
@@ -45,7 +46,7 @@ fn number_of(x: BoxSpread, i: usize) -> u64 {
 
 // Makes the record of a cut a list: how many boxes there are, how many rounds there were, and every place, those past
 // the last box too.
-fn put_record(m: &mut [u64; 385062], r: CutRecord) {
+fn put_record(m: &mut [u64; 389158], r: CutRecord) {
     let mut i = 0;
     while i < 1792 {
         m[RECORD + 3 + i] = number_of(r.places[i / 7], i % 7);
@@ -65,27 +66,42 @@ fn cut_lent(
     m: &mut [u64],
     palette: &mut [u8],
     counts: &mut [u32],
+    left: &mut [u32],
     map: &mut [u8],
 ) -> CutRecord {
     let work = list_of(m, SECOND_NAME);
-    cut(n.b1, n.b2, n.b3, n.n6, table, work, palette, counts, map)
+    cut(
+        n.b1,
+        n.b2,
+        n.b3,
+        n.n6,
+        table,
+        work,
+        palette,
+        counts,
+        left,
+        map,
+    )
 }
 
-// Lends counts and map.
-fn cut_into(n: Numbers, table: &[u64], m: &mut [u64; 385062], palette: &mut [u8]) -> u8 {
+// Lends counts, remainders and map.
+fn cut_into(n: Numbers, table: &[u64], m: &mut [u64; 389158], palette: &mut [u8]) -> u8 {
     let mut count_room = [0; 4095];
+    let mut left_room = [0; 4095];
     let mut map_room = [0; 32769];
     let counts = counts_at(m, COUNTS, &mut count_room);
+    let left = counts_at(m, LEFT, &mut left_room);
     let map = bytes_to_fill(m, MAP, &mut map_room);
-    let r = cut_lent(n, table, m, palette, counts, map);
+    let r = cut_lent(n, table, m, palette, counts, left, map);
     put_record(m, r);
     put_counts(m, COUNTS, counts);
+    put_counts(m, LEFT, left);
     put_bytes(m, MAP, map);
     r.number
 }
 
 // Lends the table and the palette, and answers the number.
-pub(crate) fn cut_lists(n: Numbers, line: &mut [u64], m: &mut [u64; 385062]) -> u64 {
+pub(crate) fn cut_lists(n: Numbers, line: &mut [u64], m: &mut [u64; 389158]) -> u64 {
     let mut room = [0; 32769];
     let table = table_at(m, TABLE, line);
     let palette = bytes_to_fill(m, PALETTE, &mut room);
@@ -97,7 +113,7 @@ pub(crate) fn cut_lists(n: Numbers, line: &mut [u64], m: &mut [u64; 385062]) -> 
 // ---- The front
 
 // Makes the palette its filled front, and answers how many bytes that has.
-pub(crate) fn take_front(n: Numbers, m: &mut [u64; 385062]) -> u64 {
+pub(crate) fn take_front(n: Numbers, m: &mut [u64; 389158]) -> u64 {
     let mut room = [0; 32769];
     let palette = bytes_at(m, PALETTE, &mut room);
     let filled = front(palette, n.b1).len();

@@ -5,15 +5,15 @@ ghost use Prim.Native.Nat.{_+_, _≤_, _<_};
 ghost use lib.ListN.{length};
 
 // A number of the list at a place.
-fn item(m: &[u64; 385062], at: usize, i: usize) -> u64
-    requires { ⌜ at + i < 385061 ⌝ }
+fn item(m: &[u64; 389158], at: usize, i: usize) -> u64
+    requires { ⌜ at + i < 389157 ⌝ }
 {
     m[at + 1 + i]
 }
 
 // ---- Bytes
 
-fn copy_bytes(m: &[u64; 385062], at: usize, room: &mut [u8]) -> usize
+fn copy_bytes(m: &[u64; 389158], at: usize, room: &mut [u8]) -> usize
     requires { ⌜ at < 300000 ⌝ }
     ensures { λ r. ⌜ r ≤ length (now (room .exit)) ⌝ }
 {
@@ -27,7 +27,7 @@ fn copy_bytes(m: &[u64; 385062], at: usize, room: &mut [u8]) -> usize
 }
 
 // Copies the list at a place, and answers the copy, for a call to fill.
-pub(crate) fn bytes_to_fill<'a>(m: &[u64; 385062], at: usize, room: &'a mut [u8]) -> &'a mut [u8]
+pub(crate) fn bytes_to_fill<'a>(m: &[u64; 389158], at: usize, room: &'a mut [u8]) -> &'a mut [u8]
     requires { ⌜ at < 300000 ⌝ }
 {
     let n = copy_bytes(m, at, room);
@@ -35,7 +35,7 @@ pub(crate) fn bytes_to_fill<'a>(m: &[u64; 385062], at: usize, room: &'a mut [u8]
 }
 
 // The same, for a call to read.
-pub(crate) fn bytes_at<'a>(m: &[u64; 385062], at: usize, room: &'a mut [u8]) -> &'a [u8]
+pub(crate) fn bytes_at<'a>(m: &[u64; 389158], at: usize, room: &'a mut [u8]) -> &'a [u8]
     requires { ⌜ at < 300000 ⌝ }
 {
     let n = copy_bytes(m, at, room);
@@ -47,7 +47,7 @@ fn byte(n: u8) -> u64 {
     n as u64
 }
 
-pub(crate) fn put_bytes(m: &mut [u64; 385062], at: usize, bytes: &[u8])
+pub(crate) fn put_bytes(m: &mut [u64; 389158], at: usize, bytes: &[u8])
     requires { ⌜ at < 300000 ⌝ }
 {
     let n = least(bytes.len(), 32769);
@@ -60,7 +60,7 @@ pub(crate) fn put_bytes(m: &mut [u64; 385062], at: usize, bytes: &[u8])
 
 // ---- Numbers of 32 bits
 
-fn copy_counts(m: &[u64; 385062], at: usize, room: &mut [u32]) -> usize
+fn copy_counts(m: &[u64; 389158], at: usize, room: &mut [u32]) -> usize
     requires { ⌜ at < 300000 ⌝ }
     ensures { λ r. ⌜ r ≤ length (now (room .exit)) ⌝ }
 {
@@ -74,7 +74,7 @@ fn copy_counts(m: &[u64; 385062], at: usize, room: &mut [u32]) -> usize
 }
 
 // Copies the list at a place, and answers the copy.
-pub(crate) fn counts_at<'a>(m: &[u64; 385062], at: usize, room: &'a mut [u32]) -> &'a mut [u32]
+pub(crate) fn counts_at<'a>(m: &[u64; 389158], at: usize, room: &'a mut [u32]) -> &'a mut [u32]
     requires { ⌜ at < 300000 ⌝ }
 {
     let n = copy_counts(m, at, room);
@@ -85,7 +85,7 @@ fn count(n: u32) -> u64 {
     n as u64
 }
 
-pub(crate) fn put_counts(m: &mut [u64; 385062], at: usize, counts: &[u32])
+pub(crate) fn put_counts(m: &mut [u64; 389158], at: usize, counts: &[u32])
     requires { ⌜ at < 300000 ⌝ }
 {
     let n = least(counts.len(), 4095);
@@ -98,8 +98,8 @@ pub(crate) fn put_counts(m: &mut [u64; 385062], at: usize, counts: &[u32])
 
 // ---- Tables
 
-fn copy_table(m: &[u64; 385062], at: usize, room: &mut [u64]) -> usize
-    requires { ⌜ at < 221221 ⌝ }
+fn copy_table(m: &[u64; 389158], at: usize, room: &mut [u64]) -> usize
+    requires { ⌜ at < 225317 ⌝ }
     ensures { λ r. ⌜ r ≤ length (now (room .exit)) ⌝ }
 {
     let n = least(length_at(m, at, 163841), room.len());
@@ -118,8 +118,8 @@ fn table_room(line: &mut [u64]) -> &mut [u64] {
 }
 
 // Copies the table at a place behind the numbers of a line, and answers the copy.
-pub(crate) fn table_at<'a>(m: &[u64; 385062], at: usize, line: &'a mut [u64]) -> &'a [u64]
-    requires { ⌜ at < 221221 ⌝ }
+pub(crate) fn table_at<'a>(m: &[u64; 389158], at: usize, line: &'a mut [u64]) -> &'a [u64]
+    requires { ⌜ at < 225317 ⌝ }
 {
     let room = table_room(line);
     let n = copy_table(m, at, room);

@@ -22,11 +22,13 @@ pub(crate) const WEIGHTS: usize = 16416;
 
 pub(crate) const RECORD: usize = 20512;
 
-pub(crate) const MAP: usize = 24608;
+pub(crate) const LEFT: usize = 24608;
 
-pub(crate) const TABLE: usize = 57378;
+pub(crate) const MAP: usize = 28704;
 
-pub(crate) const SECOND: usize = 221220;
+pub(crate) const TABLE: usize = 61474;
+
+pub(crate) const SECOND: usize = 225316;
 
 // The name of the second table.
 pub(crate) const SECOND_NAME: u64 = 0x7365636f6e64;
@@ -35,7 +37,7 @@ pub(crate) const SECOND_NAME: u64 = 0x7365636f6e64;
 pub(crate) struct Area(pub(crate) usize, pub(crate) usize);
 
 pub(crate) fn area_of(name: u64) -> Area
-    ensures { λ r. ⌜ (r .0 + r .1 < 385062) × (r .1 < 163842) ⌝ }
+    ensures { λ r. ⌜ (r .0 + r .1 < 389158) × (r .1 < 163842) ⌝ }
 {
     match name {
         0x7461626c65 => Area(TABLE, 163841),
@@ -45,6 +47,7 @@ pub(crate) fn area_of(name: u64) -> Area
         0x6672616d65 => Area(FRAME, 4095),
         0x696e6469636573 => Area(INDICES, 4095),
         0x636f756e7473 => Area(COUNTS, 4095),
+        0x6c656674 => Area(LEFT, 4095),
         0x77656967687473 => Area(WEIGHTS, 4095),
         0x7265636f7264 => Area(RECORD, 4095),
         0x63616c6c73 => Area(CALLS, 15),
@@ -59,8 +62,8 @@ pub(crate) fn least(a: usize, b: usize) -> usize
 }
 
 // The length of the list at a place.
-pub(crate) fn length_at(m: &[u64; 385062], at: usize, most: usize) -> usize
-    requires { ⌜ at < 385062 ⌝ }
+pub(crate) fn length_at(m: &[u64; 389158], at: usize, most: usize) -> usize
+    requires { ⌜ at < 389158 ⌝ }
     ensures { λ r. ⌜ r ≤ most ⌝ }
 {
     least(m[at] as usize, most)
@@ -72,11 +75,11 @@ pub(crate) fn length_at(m: &[u64; 385062], at: usize, most: usize) -> usize
 fn first_difference(
     line: &[u64; 163857],
     at: usize,
-    m: &[u64; 385062],
+    m: &[u64; 389158],
     from: usize,
     n: usize,
 ) -> usize
-    requires { ⌜ (at + n ≤ 163857) × (from + n ≤ 385062) ⌝ }
+    requires { ⌜ (at + n ≤ 163857) × (from + n ≤ 389158) ⌝ }
     ensures { λ r. ⌜ FirstDifference (now (line .entry)) at (now (m .entry)) from n r ⌝ }
 {
     let mut i = 0;
@@ -90,11 +93,11 @@ fn first_difference(
 pub(crate) fn agree(
     line: &[u64; 163857],
     at: usize,
-    m: &[u64; 385062],
+    m: &[u64; 389158],
     from: usize,
     n: usize,
 ) -> bool
-    requires { ⌜ (at + n ≤ 163857) × (from + n ≤ 385062) ⌝ }
+    requires { ⌜ (at + n ≤ 163857) × (from + n ≤ 389158) ⌝ }
 {
     let end = (at + n) as u64;
     let due = line[0];
@@ -110,7 +113,7 @@ pub(crate) fn agree(
 }
 
 // Holds a list to the one that the line has.
-pub(crate) fn hold(line: &[u64; 163857], m: &[u64; 385062]) -> bool {
+pub(crate) fn hold(line: &[u64; 163857], m: &[u64; 389158]) -> bool {
     let a = area_of(line[2]);
     let n = length_at(m, a.0, a.1);
     agree(line, 3, m, a.0, n + 1)
@@ -118,8 +121,8 @@ pub(crate) fn hold(line: &[u64; 163857], m: &[u64; 385062]) -> bool {
 
 // ---- Setting
 
-fn copy(line: &[u64; 163857], m: &mut [u64; 385062], from: usize, n: usize)
-    requires { ⌜ (from + n < 385062) × (n < 163842) ⌝ }
+fn copy(line: &[u64; 163857], m: &mut [u64; 389158], from: usize, n: usize)
+    requires { ⌜ (from + n < 389158) × (n < 163842) ⌝ }
 {
     m[from] = n as u64;
     let mut i = 0;
@@ -130,7 +133,7 @@ fn copy(line: &[u64; 163857], m: &mut [u64; 385062], from: usize, n: usize)
 }
 
 // Sets a list to the one that the line has.
-pub(crate) fn set(line: &[u64; 163857], m: &mut [u64; 385062]) -> bool {
+pub(crate) fn set(line: &[u64; 163857], m: &mut [u64; 389158]) -> bool {
     let a = area_of(line[2]);
     copy(line, m, a.0, least(line[3] as usize, a.1));
     hold(line, m)
@@ -139,8 +142,8 @@ pub(crate) fn set(line: &[u64; 163857], m: &mut [u64; 385062]) -> bool {
 // ---- Long lists
 
 // Puts the length of a list, the sum of its numbers, and the sum of the sums up to each of them, both modulo 2^64.
-fn put_sums(m: &mut [u64; 385062], from: usize, n: usize)
-    requires { ⌜ from + n < 385062 ⌝ }
+fn put_sums(m: &mut [u64; 389158], from: usize, n: usize)
+    requires { ⌜ from + n < 389158 ⌝ }
 {
     let mut sum = 0;
     let mut sums = 0;
@@ -156,7 +159,7 @@ fn put_sums(m: &mut [u64; 385062], from: usize, n: usize)
 }
 
 // Holds the length of a list and the two sums to those of the line.
-pub(crate) fn hold_sums(line: &[u64; 163857], m: &mut [u64; 385062]) -> bool {
+pub(crate) fn hold_sums(line: &[u64; 163857], m: &mut [u64; 389158]) -> bool {
     let a = area_of(line[2]);
     let from = a.0;
     let n = length_at(m, from, a.1);
@@ -170,7 +173,7 @@ struct Places(usize, usize);
 fn places_of(m: &[u64], name: u64) -> Places
     ensures { λ r. ⌜ (r .0 ≤ r .1) × (r .1 ≤ length (now (m .entry))) ⌝ }
 {
-    if m.len() < 385062 {
+    if m.len() < 389158 {
         return Places(0, 0);
     }
     let a = area_of(name);

@@ -12,7 +12,7 @@ use libc::STDIN_FILENO;
 ghost use Prim.Native.Nat.{_≤_};
 
 // Does what a line says, and answers whether all agreed.
-fn step(line: &mut [u64; 163857], m: &mut [u64; 385062]) -> bool {
+fn step(line: &mut [u64; 163857], m: &mut [u64; 389158]) -> bool {
     let word = line[1];
     match word {
         script::CASE => true,
@@ -24,7 +24,7 @@ fn step(line: &mut [u64; 163857], m: &mut [u64; 385062]) -> bool {
 }
 
 // Replays the script up to its end, or to the first line that does not agree.
-fn replay(text: &[u8; 1048576], end: usize, line: &mut [u64; 163857], m: &mut [u64; 385062])
+fn replay(text: &[u8; 1048576], end: usize, line: &mut [u64; 163857], m: &mut [u64; 389158])
     requires { ⌜ end ≤ 1048576 ⌝ }
 {
     let mut at = 0;
@@ -38,7 +38,7 @@ fn replay(text: &[u8; 1048576], end: usize, line: &mut [u64; 163857], m: &mut [u
     tell::end(lines, agreed && at == end);
 }
 
-fn read_and_replay(text: &mut [u8; 1048576], line: &mut [u64; 163857], m: &mut [u64; 385062]) {
+fn read_and_replay(text: &mut [u8; 1048576], line: &mut [u64; 163857], m: &mut [u64; 389158]) {
     let end = io::read_full(STDIN_FILENO, text);
     replay(text, end, line, m);
 }
@@ -47,6 +47,6 @@ fn read_and_replay(text: &mut [u8; 1048576], line: &mut [u64; 163857], m: &mut [
 fn main() {
     let mut text = [0; 1048576];
     let mut line = [0; 163857];
-    let mut m = [0; 385062];
+    let mut m = [0; 389158];
     read_and_replay(&mut text, &mut line, &mut m);
 }

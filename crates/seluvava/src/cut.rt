@@ -73,8 +73,9 @@ fn put_boxes(r: CutRecord, boxes: &mut [u8], spreads: &mut [f64])
     }
 }
 
-// Cuts a table into at most k boxes: their colours go into the palette, their weights into the counts, the index of the
-// box of each bin into the map, and the boxes with their spreads into arrays of their own.
+// Cuts a table into at most k boxes: their colours go into the palette, their weights into the counts, what the means
+// leave of their sums into the remainders, the index of the box of each bin into the map, and the boxes with their
+// spreads into arrays of their own.
 #[no_mangle]
 pub extern "C" fn seluvava_cut(
     b1: usize,
@@ -85,19 +86,23 @@ pub extern "C" fn seluvava_cut(
     work: &mut [u64],
     palette: &mut [u8],
     counts: &mut [u32],
+    remainders: &mut [u32],
     map: &mut [u8],
     boxes: &mut [u8],
     spreads: &mut [f64],
 ) -> CutAnswer
     ensures answer { λ r. ⌜ r
         ≡ cutAnswer b1 b2 b3 k (now (table .entry))
-        (lent (buffers (now (work .entry)) (now (palette .entry)) (now (counts .entry)) (now (map .entry)))
+        (lent (buffers (now (work .entry)) (now (palette .entry)) (now (counts .entry)) (now (remainders .entry))
+        (now (map .entry)))
         (now (boxes .entry)) (now (spreads .entry))) ⌝ }
     ensures later { λ r. ⌜
-        lent (buffers (now (work .exit)) (now (palette .exit)) (now (counts .exit)) (now (map .exit)))
+        lent (buffers (now (work .exit)) (now (palette .exit)) (now (counts .exit)) (now (remainders .exit))
+        (now (map .exit)))
         (now (boxes .exit)) (now (spreads .exit))
         ≡ callLater b1 b2 b3 k (now (table .entry))
-        (lent (buffers (now (work .entry)) (now (palette .entry)) (now (counts .entry)) (now (map .entry)))
+        (lent (buffers (now (work .entry)) (now (palette .entry)) (now (counts .entry)) (now (remainders .entry))
+        (now (map .entry)))
         (now (boxes .entry)) (now (spreads .entry))) ⌝ }
 {
     let number = room_number(b1, b2, b3, k, boxes.len(), spreads.len());
@@ -108,7 +113,7 @@ pub extern "C" fn seluvava_cut(
             rounds: 0,
         };
     }
-    let r = cut(b1, b2, b3, k, table, work, palette, counts, map);
+    let r = cut(b1, b2, b3, k, table, work, palette, counts, remainders, map);
     put_boxes(r, boxes, spreads);
     CutAnswer {
         number: r.number,

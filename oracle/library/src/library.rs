@@ -107,6 +107,8 @@ impl Port for Library {
                 lent.palette.len(),
                 start_mut(lent.counts),
                 lent.counts.len(),
+                start_mut(lent.remainders),
+                lent.remainders.len(),
                 start_mut(lent.map),
                 lent.map.len(),
                 start_mut(lent.boxes),

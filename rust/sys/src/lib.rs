@@ -82,6 +82,8 @@ unsafe extern "C" {
         palette_len: usize,
         counts: *mut u32,
         counts_len: usize,
+        remainders: *mut u32,
+        remainders_len: usize,
         map: *mut u8,
         map_len: usize,
         boxes: *mut u8,

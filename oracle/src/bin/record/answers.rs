@@ -95,6 +95,7 @@ fn told(case: &Case, input: &Input, l: &mut Lists) -> Told {
     let n = told.answer.boxes.len();
     l.palette[..3 * n].copy_from_slice(told.answer.palette.as_flattened());
     l.counts[..n].copy_from_slice(&told.answer.counts);
+    l.remainders[..3 * n].copy_from_slice(told.answer.remainders.as_flattened());
     l.second = told.answer.moments;
     l.map = told.answer.map;
     let ends = |x: &oracle::answer::BoxSpread| {
@@ -114,20 +115,23 @@ fn told(case: &Case, input: &Input, l: &mut Lists) -> Told {
     }
 }
 
-/// Writes the cut of what was loaded. Palette and counts are longer than any k needs.
+/// Writes the cut of what was loaded. Palette, counts and remainders are longer than any k needs.
 fn write_answer(s: &mut Script, case: &Case, input: &Input, l: &mut Lists) -> Option<Told> {
     l.second = vec![6; 5 * bins(case.grid)];
     l.palette = vec![201; 780];
     l.counts = vec![77; 260];
+    l.remainders = vec![55; 780];
     l.map = vec![99; bins(case.grid)];
     s.set("second", &l.second);
     s.set("palette", &l.palette);
     s.set("counts", &l.counts);
+    s.set("left", &l.remainders);
     s.set("map", &l.map);
     let lent = Lengths {
         work: l.second.len(),
         palette: l.palette.len(),
         counts: l.counts.len(),
+        remainders: l.remainders.len(),
         map: l.map.len(),
         boxes: usize::MAX,
         spreads: usize::MAX,
@@ -141,6 +145,7 @@ fn write_answer(s: &mut Script, case: &Case, input: &Input, l: &mut Lists) -> Op
     s.held("second", &l.second);
     s.held("palette", &l.palette);
     s.held("counts", &l.counts);
+    s.held("left", &l.remainders);
     s.held("map", &l.map);
     told
 }

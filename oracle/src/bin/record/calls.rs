@@ -437,6 +437,7 @@ fn lent_to_cut(table: Vec<u64>, bins: usize, k: usize) -> Lists {
         second: vec![6; 5 * bins],
         palette: vec![201; 3 * k + 5],
         counts: vec![77; k + 2],
+        remainders: vec![55; 3 * k + 4],
         map: vec![99; bins],
         table,
         ..Lists::default()
@@ -462,9 +463,17 @@ fn cuts(s: &mut Script) {
     let exact = Lists {
         palette: vec![201; 6],
         counts: vec![77; 2],
+        remainders: vec![55; 6],
         ..lists.clone()
     };
-    cut(s, "palette and counts just long enough", CUBE, 2, &exact, 0);
+    cut(
+        s,
+        "palette, counts and remainders just long enough",
+        CUBE,
+        2,
+        &exact,
+        0,
+    );
     for grid in REFUSED {
         cut(s, "1", grid, 2, &lists, 1);
     }
@@ -478,13 +487,14 @@ fn cuts(s: &mut Script) {
             2,
         );
     }
-    let wrong: [(&str, Change); 9] = [
+    let wrong: [(&str, Change); 10] = [
         ("table one too short", |l| l.table.truncate(39)),
         ("table one too long", |l| l.table.push(0)),
         ("work table one too short", |l| l.second.truncate(39)),
         ("work table one too long", |l| l.second.push(6)),
         ("palette one too short", |l| l.palette.truncate(5)),
         ("counts one too short", |l| l.counts.truncate(1)),
+        ("remainders one too short", |l| l.remainders.truncate(5)),
         ("map one too short", |l| l.map.truncate(7)),
         ("map one too long", |l| l.map.push(99)),
         ("nothing lent", |l| *l = Lists::default()),

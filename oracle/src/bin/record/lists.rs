@@ -13,6 +13,7 @@ pub struct Lists {
     pub map: Vec<u8>,
     pub palette: Vec<u8>,
     pub counts: Vec<u32>,
+    pub remainders: Vec<u32>,
     pub frame: Vec<u8>,
     pub weights: Vec<u32>,
     pub indices: Vec<u8>,
@@ -59,6 +60,7 @@ pub fn cut(grid: Grid, k: usize, l: &mut Lists) -> Record {
         work: &mut l.second,
         palette: &mut l.palette,
         counts: &mut l.counts,
+        remainders: &mut l.remainders,
         map: &mut l.map,
         boxes: &mut boxes,
         spreads: &mut spreads,
@@ -99,6 +101,7 @@ impl Call {
         let map = ("map", numbers(&l.map));
         let palette = ("palette", numbers(&l.palette));
         let counts = ("counts", numbers(&l.counts));
+        let remainders = ("left", numbers(&l.remainders));
         let frame = ("frame", numbers(&l.frame));
         let weights = ("weights", numbers(&l.weights));
         let indices = ("indices", numbers(&l.indices));
@@ -106,7 +109,7 @@ impl Call {
             Self::Load { .. } => vec![table, frame, weights],
             Self::LoadSecond { .. } => vec![second, frame, weights],
             Self::Merge => vec![table, second],
-            Self::Cut { .. } => vec![table, second, palette, counts, map],
+            Self::Cut { .. } => vec![table, second, palette, counts, remainders, map],
             Self::Map { .. } => vec![map, frame, indices],
             Self::Paint { .. } => vec![map, palette, frame],
         }

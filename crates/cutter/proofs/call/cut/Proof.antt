@@ -17,16 +17,17 @@ abbrev grid : tie.After-known-told → Grid
 grid k = k .before .g .given .0 .0
 
 on-grid : (k : tie.After-known-told)
-    → gridOf (k .before .before .before .before .before .before .before .before .before .args .b1)
-    (k .before .before .before .before .before .before .before .before .before .args .b2)
-    (k .before .before .before .before .before .before .before .before .before .args .b3) ≡ chosen.Accepted (grid k)
+    → gridOf (k .before .before .before .before .before .before .before .before .before .before .args .b1)
+    (k .before .before .before .before .before .before .before .before .before .before .args .b2)
+    (k .before .before .before .before .before .before .before .before .before .before .args .b3) ≡ chosen.Accepted (grid k)
 on-grid k = sym (k .before .before .before .grid-of .ensures) ∙ k .before .g .given .1
 
 accepted : (k : tie.After-known-told) → Accepted (grid k)
 accepted k = chose _ _ _ (grid k) (on-grid k) .accepted
 
 abbrev lent : tie.Start → Buffers
-lent s = buffers (now (s .args .work)) (now (s .args .palette)) (now (s .args .counts)) (now (s .args .map))
+lent s = buffers (now (s .args .work)) (now (s .args .palette)) (now (s .args .counts))
+    (now (s .args .remainders)) (now (s .args .map))
 
 grid-of-requires : tie.Need-grid-of-requires
 grid-of-requires c κs = search needs
@@ -42,7 +43,7 @@ refused-requires c κs = search needs
 
 returns : tie.Need-returns
 returns c =
-    let s = c .before .before .before .before .before .before .before .before .before in
+    let s = c .before .before .before .before .before .before .before .before .before .before in
     cut-no-grid (s .args .b1) (s .args .b2) (s .args .b3) (s .args .k) (now (s .args .table)) (lent s)
     (sym (c .before .before .before .grid-of .ensures) ∙ c .before .enum-told .given .1) (c .refused .ensures)
 
@@ -54,16 +55,15 @@ refused-requires-2 c κs = search needs
 
 returns-2 : tie.Need-returns-2
 returns-2 c =
-    let s = c .before .before .before .before .before .before .before .before .before .before .before .before in
+    let s = c .before .before .before .before .before .before .before .before .before .before .before .before .before in
     cut-refused (s .args .b1) (s .args .b2) (s .args .b3) (s .args .k) (now (s .args .table)) (lent s)
     (on-grid (c .before .before .before)) (c .before .before .number-on .ensures) (c .before .if1 .taken)
     (c .refused2 .ensures)
 
 cut-on-requires : tie.Need-cut-on-requires
 cut-on-requires c κs =
-    let can = can-cut (sym (c .before .before .before .before .before .number-on .ensures)
-    ∙ c .before .before .before .before .if1 .left) in
-    ((accepted (c .before .before .before .before .before .before), can .0), lengths-fit (can .1))
+    let can = can-cut (sym (c .before .before .before .before .before .before .number-on .ensures) ∙ c .before .before .before .before .before .if1 .left) in
+    ((accepted (c .before .before .before .before .before .before .before), can .0), lengths-fit (can .1))
 
 same-length : tie.Need-same-length
 same-length c = search needs
@@ -77,19 +77,15 @@ same-length-3 c = search needs
 same-length-4 : tie.Need-same-length-4
 same-length-4 c = search needs
 
+same-length-5 : tie.Need-same-length-5
+same-length-5 c = search needs
+
 returns-3 : tie.Need-returns-3
 returns-3 c =
-    let s = c .before .before .before .before .before .before .before .before .before .before .before .before .before
-    .before .before .before .before .before .before .before .before .before .before .before in
+    let s = c .before .before .before .before .before .before .before .before .before .before .before .before .before .before .before .before .before .before .before .before .before .before .before .before .before .before .before .before in
+    let e = c .before .before .before .before .before .before .before .before .before .before .cut-on .ensures in
     cut-done (s .args .b1) (s .args .b2) (s .args .b3) (s .args .k) (now (s .args .table)) (lent s)
-    (on-grid
-    (c .before .before .before .before .before .before .before .before .before .before .before .before .before .before
-    .before))
-    (sym (c .before .before .before .before .before .before .before .before .before .before .before .before .before
-    .before .number-on .ensures)
-    ∙ c .before .before .before .before .before .before .before .before .before .before .before .before
-    .before .if1 .left) (c .before .before .before .before .before .before .before .before .cut-on .ensures .0)
-    (c .before .before .before .before .before .before .before .before .cut-on .ensures .1)
+    (on-grid (c .before .before .before .before .before .before .before .before .before .before .before .before .before .before .before .before .before .before)) (sym (c .before .before .before .before .before .before .before .before .before .before .before .before .before .before .before .before .before .number-on .ensures) ∙ c .before .before .before .before .before .before .before .before .before .before .before .before .before .before .before .before .if1 .left) (e .0) (e .1)
 
 pub cut-spec : {M : Type 1} → statement M
 cut-spec =
@@ -108,4 +104,5 @@ cut-spec =
     same-length-2
     same-length-3
     same-length-4
+    same-length-5
     returns-3)

@@ -16,7 +16,7 @@ use Rattle.sums.proofs.Steps.{sums-can}
 use Rattle.rounds.specs.declared.gather.Boxes.{Boxes}
 use Rattle.rounds.specs.Loop.{boxesOf}
 use Rattle.rounds.proofs.Filled.{heap-most}
-use Rattle.cutter.specs.Palette.{paletteLater, countsLater}
+use Rattle.cutter.specs.Palette.{paletteLater, countsLater, remaindersLater}
 use Rattle.cutter.specs.Inner.{fillFrom, Found}
 use Rattle.cutter.specs.Cut.{buffers, doneRecord, listOf, boxList, resultsOn, laterOn}
 use Rattle.cutter.proofs.Maps.{filled-map}
@@ -47,34 +47,29 @@ few s e = rw e (heap-most (s .args .g) (view s) (s .args .k) (s .pre .0 .1 .leas
 
 moments-requires : tie.Need-moments-requires
 moments-requires c κs =
-    let s = c .before .before .before .before .before .before in
+    let s = c .before .before .before .before .before .before .before in
     record { table = the-table s; is-sound = s .pre .0 .1 .is-sound; work = sized-by (s .pre .1 .work) }
 
 cut-boxes-requires : tie.Need-cut-boxes-requires
 cut-boxes-requires c κs =
-    let s = c .before .before .before .before .before .before .before .before .before .before in
-    (can-sum s (c .before .before .before .moments .ensures), s .pre .0 .1 .most)
+    let s = c .before .before .before .before .before .before .before .before .before .before .before in (can-sum s (c .before .before .before .moments .ensures), s .pre .0 .1 .most)
 
 put-results-requires : tie.Need-put-results-requires
 put-results-requires c κs =
-    let s = c .before .before .before .before .before .before .before .before .before .before .before .before .before
-    .before in
-    let e = c .before .before .before .cut-boxes .ensures in (
+    let s = c .before .before .before .before .before .before .before .before .before .before .before .before .before .before .before .before in
+    let e = c .before .before .before .before .cut-boxes .ensures in (
+      (can-sum s (c .before .before .before .before .before .before .before .before .moments .ensures), the-boxes s e),
       (
-        can-sum s (c .before .before .before .before .before .before .before .moments .ensures),
-        the-boxes s e,
+        omega (arith, few s e, s .pre .1 .palette),
+        le-trans (few s e) (s .pre .1 .counts),
+        omega (arith, few s e, s .pre .1 .remainders),
       ),
-      (omega (arith, few s e, s .pre .1 .palette), le-trans (few s e) (s .pre .1 .counts)),
     )
 
 fill-boxes-requires : tie.Need-fill-boxes-requires
 fill-boxes-requires c κs =
-    let s = c .before .before .before .before .before .before .before .before .before .before .before .before .before
-    .before .before .before .before .before .before .before in (
-      the-boxes s
-          (c .before .before .before .before .before .before .before .before .before .cut-boxes .ensures) .placed,
-      s .pre .1 .map,
-    )
+    let s = c .before .before .before .before .before .before .before .before .before .before .before .before .before .before .before .before .before .before .before .before .before .before .before .before in
+    (the-boxes s (c .before .before .before .before .before .before .before .before .before .before .before .before .cut-boxes .ensures) .placed, s .pre .1 .map)
 
 done-requires : tie.Need-done-requires
 done-requires c κs = search needs
@@ -91,28 +86,30 @@ same-length-3 c = search needs
 same-length-4 : tie.Need-same-length-4
 same-length-4 c = search needs
 
+same-length-5 : tie.Need-same-length-5
+same-length-5 c = search needs
+
 returns : tie.Need-returns
 unfolding laterOn resultsOn boxList
 returns c =
-    let s = c .before .before .before .before .before .before .before .before .before .before .before .before .before
-    .before .before .before .before .before .before .before .before .before .before .before in
-    let e = c .before .before .before .before .before .before .before .before .before .before .before .before
-    .before .cut-boxes .ensures in
-    let palette = c .before .before .before .before .before .before .before .before .before .put-results .ensures .0
+    let s = c .before .before .before .before .before .before .before .before .before .before .before .before .before .before .before .before .before .before .before .before .before .before .before .before .before .before .before .before in
+    let e = c .before .before .before .before .before .before .before .before .before .before .before .before .before .before .before .before .cut-boxes .ensures in
+    let put = c .before .before .before .before .before .before .before .before .before .before .before .put-results .ensures in
+    let palette = put .0
     ∙ ap (λ (b : Boxes). paletteLater (s .args .g) (view s) (listOf (b .boxes) (b .places)) (now (s .args .palette)))
     e in
-    let counts = c .before .before .before .before .before .before .before .before .before .put-results .ensures .1
+    let counts = put .1 .0
     ∙ ap (λ (b : Boxes). countsLater (s .args .g) (view s) (listOf (b .boxes) (b .places)) (now (s .args .counts))) e in
+    let remainders = put .1 .1
+    ∙ ap (λ (b : Boxes). remaindersLater (s .args .g) (view s) (listOf (b .boxes) (b .places))
+    (now (s .args .remainders))) e in
     let map =
     c .before .before .before .fill-boxes .ensures
     ∙ ap (λ (b : Boxes). fillFrom (s .args .g) 0 (listOf (b .boxes) (b .places)) (now (s .args .map))) e
     ∙ filled-map (s .args .g) _ (list-tiles (s .args .g) (view s) (s .args .k) (s .pre .0 .1 .most) (s .pre .0 .0))
     (now (s .args .map)) (s .pre .1 .map) in (
       c .done .ensures ∙ ap doneRecord e,
-      λ i. buffers
-          (c .before .before .before .before .before .before .before .before .before .before .before .before .before
-          .before
-          .before .before .before .moments .ensures i) (palette i) (counts i) (map i),
+      λ i. buffers (c .before .before .before .before .before .before .before .before .before .before .before .before .before .before .before .before .before .before .before .before .moments .ensures i) (palette i) (counts i) (remainders i) (map i),
     )
 
 pub cut-on-spec : {M : Type 1} → statement M
@@ -128,4 +125,5 @@ cut-on-spec =
     same-length-2
     same-length-3
     same-length-4
+    same-length-5
     returns)

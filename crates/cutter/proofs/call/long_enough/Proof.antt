@@ -8,12 +8,20 @@ use lib.Dec.{eqb}
 use Rattle.grid.specs.Grid.{binsOf}
 use Rattle.table.specs.Table.{tableLen}
 use Rattle.cutter.specs.Cut.{Lengths}
-use Rattle.cutter.proofs.Refusals.{table-wrong, work-wrong, palette-short, counts-short, only-map}
+use Rattle.cutter.proofs.Refusals.{table-wrong, work-wrong, palette-short, counts-short, remainders-short}
+use Rattle.cutter.proofs.Refusals.{only-map}
 use Rattle.cutter.proofs.call.long_enough.Statement.{statement}
 use Rattle.cutter.proofs.call.long_enough.Tie as tie
 
 abbrev lengths : tie.Start → Lengths
-lengths s = record { work = s .args .work; palette = s .args .palette; counts = s .args .counts; map = s .args .map }
+lengths s =
+    record {
+      work = s .args .work;
+      palette = s .args .palette;
+      counts = s .args .counts;
+      remainders = s .args .remainders;
+      map = s .args .map;
+    }
 
 -- five numbers a bin
 numbers : (k : tie.After-table-len) → k .table-len .result ≡ tableLen (binsOf (k .before .before .args .g))
@@ -54,14 +62,23 @@ returns-4 c =
     (c .before .before .before .if1 .left ∙ numbers (c .before .before .before .before))
     (c .before .before .if2 .left ∙ numbers (c .before .before .before .before)) (c .before .if3 .left) (c .if4 .taken))
 
+mul-if5 : tie.Need-mul-if5
+mul-if5 c = omega (arith, c .before .before .before .before .before .before .pre .1)
+
 returns-5 : tie.Need-returns-5
 returns-5 c =
-    let s = c .before .before .before .before .before .before in
-    ap (λ (n : ℕ). eqb (s .args .map) n) (c .before .before .before .before .before .bins .ensures)
+    let s = c .before .before .before .before .before .before .before in
+    sym (remainders-short (s .args .g) (s .args .k) (s .args .table) (lengths s)
+    (c .before .before .before .before .if1 .left ∙ numbers (c .before .before .before .before .before)) (c .before .before .before .if2 .left ∙ numbers (c .before .before .before .before .before))
+    (c .before .before .if3 .left) (c .before .if4 .left) (c .if5 .taken))
+
+returns-6 : tie.Need-returns-6
+returns-6 c =
+    let s = c .before .before .before .before .before .before .before in
+    ap (λ (n : ℕ). eqb (s .args .map) n) (c .before .before .before .before .before .before .bins .ensures)
     ∙ sym (only-map (s .args .g) (s .args .k) (s .args .table) (lengths s)
-    (c .before .before .before .if1 .left ∙ numbers (c .before .before .before .before))
-    (c .before .before .if2 .left ∙ numbers (c .before .before .before .before)) (c .before .if3 .left)
-    (c .if4 .left))
+    (c .before .before .before .before .if1 .left ∙ numbers (c .before .before .before .before .before)) (c .before .before .before .if2 .left ∙ numbers (c .before .before .before .before .before))
+    (c .before .before .if3 .left) (c .before .if4 .left) (c .if5 .left))
 
 pub long-enough-spec : {M : Type 1} → statement M
 long-enough-spec =
@@ -74,4 +91,6 @@ long-enough-spec =
     mul-if3
     returns-3
     returns-4
-    returns-5)
+    mul-if5
+    returns-5
+    returns-6)

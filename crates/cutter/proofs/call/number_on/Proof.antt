@@ -20,7 +20,14 @@ use Rattle.cutter.proofs.call.number_on.Statement.{statement}
 use Rattle.cutter.proofs.call.number_on.Tie as tie
 
 abbrev lengths : tie.Start → Lengths
-lengths s = record { work = s .args .work; palette = s .args .palette; counts = s .args .counts; map = s .args .map }
+lengths s =
+    record {
+      work = s .args .work;
+      palette = s .args .palette;
+      counts = s .args .counts;
+      remainders = s .args .remainders;
+      map = s .args .map;
+    }
 
 abbrev table : tie.Start → List ℕ
 table s = now (s .args .table)

@@ -8,26 +8,26 @@ use Rattle.cutter.proofs.Colours.{three-bytes}
 use Rattle.cutter.proofs.palette.put_colour.Statement.{statement}
 use Rattle.cutter.proofs.palette.put_colour.Tie as tie
 
-mul-at : tie.Need-mul-at
-mul-at c = search needs
-
 mean-requires : tie.Need-mean-requires
 mean-requires c κs = search needs
 
-slice-write-palette : tie.Need-slice-write-palette
-slice-write-palette c = search needs
-
 mean-requires-2 : tie.Need-mean-requires-2
 mean-requires-2 c κs = search needs
+
+mean-requires-3 : tie.Need-mean-requires-3
+mean-requires-3 c κs = search needs
+
+mul-at : tie.Need-mul-at
+mul-at c = search needs
+
+slice-write-palette : tie.Need-slice-write-palette
+slice-write-palette c = search needs
 
 add-palette : tie.Need-add-palette
 add-palette c = search needs
 
 slice-write-palette-2 : tie.Need-slice-write-palette-2
 slice-write-palette-2 c = simp length-set (omega arith)
-
-mean-requires-3 : tie.Need-mean-requires-3
-mean-requires-3 c κs = search needs
 
 add-palette-2 : tie.Need-add-palette-2
 add-palette-2 c = search needs
@@ -46,13 +46,13 @@ pub put-colour-spec : {M : Type 1} → statement M
 put-colour-spec =
     tie.close
     (tie.spec
-    mul-at
     mean-requires
-    slice-write-palette
     mean-requires-2
+    mean-requires-3
+    mul-at
+    slice-write-palette
     add-palette
     slice-write-palette-2
-    mean-requires-3
     add-palette-2
     slice-write-palette-3
     same-length

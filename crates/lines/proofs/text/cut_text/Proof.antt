@@ -21,6 +21,9 @@ slice-aggregate-cut-3 c = search needs
 slice-aggregate-cut-4 : tie.Need-slice-aggregate-cut-4
 slice-aggregate-cut-4 c = search needs
 
+slice-aggregate-cut-5 : tie.Need-slice-aggregate-cut-5
+slice-aggregate-cut-5 c = search needs
+
 cut-requires : tie.Need-cut-requires
 cut-requires c κs = search needs
 
@@ -32,7 +35,7 @@ same-length c = search needs
 
 returns : tie.Need-returns
 returns c =
-    let cut = c .before .before .before .before .before .before .before .before .before .before .cut in
+    let cut = c .before .before .before .before .before .before .before .before .before .before .before .cut in
     rw (cut-refused _ (cut .ensures .0 ∙ ap (cutRecord 8 8 8 16 _) lent-zeros)
     (c .before .before .before .before .if1 .taken))
     (c .before .before .refused .ensures)
@@ -45,7 +48,7 @@ slice-aggregate-listing-2 c = search needs
 
 listing-requires : tie.Need-listing-requires
 listing-requires c κs =
-    let cut = c .before .before .before .before .before .before .before .before .before .cut in
+    let cut = c .before .before .before .before .before .before .before .before .before .before .cut in
     let h = few 16 (omega arith) (omega arith) _ 8 8 8 _ (cut .ensures .0) in
     search needs
 
@@ -54,7 +57,7 @@ same-length-2 c = search needs
 
 returns-2 : tie.Need-returns-2
 returns-2 c =
-    let cut = c .before .before .before .before .before .before .before .before .before .before .before .before .cut in
+    let cut = c .before .before .before .before .before .before .before .before .before .before .before .before .before .cut in
     rw (cut-listed _ (cut .ensures .0 ∙ ap (cutRecord 8 8 8 16 _) lent-zeros)
     (cut .ensures .1 ∙ ap (cutLater 8 8 8 16 _) lent-zeros)
     (c .before .before .before .before .before .before .if1 .left))
@@ -68,6 +71,7 @@ cut-text-spec =
     slice-aggregate-cut-2
     slice-aggregate-cut-3
     slice-aggregate-cut-4
+    slice-aggregate-cut-5
     cut-requires
     refused-requires
     same-length

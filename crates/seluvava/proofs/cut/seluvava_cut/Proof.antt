@@ -13,18 +13,20 @@ use Rattle.seluvava.proofs.Calls.{roomy, call-refused, call-done}
 use Rattle.seluvava.proofs.cut.seluvava_cut.Statement.{statement}
 use Rattle.seluvava.proofs.cut.seluvava_cut.Tie as tie
 
-abbrev four : tie.Start → Buffers
-four s = buffers (now (s .args .work)) (now (s .args .palette)) (now (s .args .counts)) (now (s .args .map))
+abbrev five : tie.Start → Buffers
+five s =
+    buffers (now (s .args .work)) (now (s .args .palette)) (now (s .args .counts)) (now (s .args .remainders))
+    (now (s .args .map))
 
 abbrev all : tie.Start → Lent
-all s = lent (four s) (now (s .args .boxes)) (now (s .args .spreads))
+all s = lent (five s) (now (s .args .boxes)) (now (s .args .spreads))
 
 room-number-requires : tie.Need-room-number-requires
 room-number-requires c κs = search needs
 
 returns : tie.Need-returns
 returns c =
-    let s = c .before .before .before .before .before .before .before .before .before in
+    let s = c .before .before .before .before .before .before .before .before .before .before in
     call-refused (s .args .b1) (s .args .b2) (s .args .b3) (s .args .k) (now (s .args .table)) (all s)
     (c .before .room-number .ensures) (c .if1 .taken)
 
@@ -33,18 +35,14 @@ cut-requires c κs = search needs
 
 put-boxes-requires : tie.Need-put-boxes-requires
 put-boxes-requires c κs =
-    let s = c .before .before .before .before .before .before .before .before .before .before .before .before .before
-    .before .before .before .before .before .before .before .before .before .before .before in
+    let s = c .before .before .before .before .before .before .before .before .before .before .before .before .before .before .before .before .before .before .before .before .before .before .before .before .before .before .before .before in
     let r = roomy (s .args .b1) (s .args .b2) (s .args .b3) (s .args .k) (length (now (s .args .boxes)))
     (length (now (s .args .spreads)))
-    (sym (c .before .before .before .before .before .before .before .before .before .before .before .before .before
-    .before .before .before .room-number .ensures)
-    ∙ c .before .before .before .before .before .before .before .before .before .before .before .before .before
-    .before .before .if1 .left) in
-    let e = c .before .before .before .before .before .before .before .before .before .before .cut .ensures .0 in
+    (sym (c .before .before .before .before .before .before .before .before .before .before .before .before .before .before .before .before .before .before .before .room-number .ensures) ∙ c .before .before .before .before .before .before .before .before .before .before .before .before .before .before .before .before .before .before .if1 .left) in
+    let e = c .before .before .before .before .before .before .before .before .before .before .before .before .cut .ensures .0 in
     let n = few (s .args .k) (r .least) (r .most) (now (s .args .table)) (s .args .b1) (s .args .b2) (s .args .b3)
-    (four s) e in (
-      all-places (s .args .k) (now (s .args .table)) (s .args .b1) (s .args .b2) (s .args .b3) (four s) e,
+    (five s) e in (
+      all-places (s .args .k) (now (s .args .table)) (s .args .b1) (s .args .b2) (s .args .b3) (five s) e,
       omega (arith, n, r .most),
       omega (arith, n, r .boxes-fit),
       omega (arith, n, r .spreads-fit),
@@ -68,20 +66,16 @@ same-length-5 c = search needs
 same-length-6 : tie.Need-same-length-6
 same-length-6 c = search needs
 
+same-length-7 : tie.Need-same-length-7
+same-length-7 c = search needs
+
 returns-2 : tie.Need-returns-2
 returns-2 c =
-    let s = c .before .before .before .before .before .before .before .before .before .before .before .before .before
-    .before .before .before .before .before .before .before .before .before .before .before .before .before .before
-    .before .before in
-    let e = c .before .before .before .before .before .before .before .before .before .before .before .before .before
-    .before .before .cut .ensures in
+    let s = c .before .before .before .before .before .before .before .before .before .before .before .before .before .before .before .before .before .before .before .before .before .before .before .before .before .before .before .before .before .before .before .before .before in
+    let e = c .before .before .before .before .before .before .before .before .before .before .before .before .before .before .before .before .before .cut .ensures in
+    let put = c .before .before .before .before .put-boxes .ensures in
     call-done (s .args .b1) (s .args .b2) (s .args .b3) (s .args .k) (now (s .args .table)) (all s)
-    (c .before .before .before .before .before .before .before .before .before .before .before .before .before
-    .before .before .before .before .before .before .before .before .room-number .ensures)
-    (c .before .before .before .before .before .before .before .before .before .before .before .before .before
-    .before .before .before .before .before .before .before .if1 .left) (e .0) (e .1)
-    (c .before .before .before .before .put-boxes .ensures .0)
-    (c .before .before .before .before .put-boxes .ensures .1)
+    (c .before .before .before .before .before .before .before .before .before .before .before .before .before .before .before .before .before .before .before .before .before .before .before .before .room-number .ensures) (c .before .before .before .before .before .before .before .before .before .before .before .before .before .before .before .before .before .before .before .before .before .before .before .if1 .left) (e .0) (e .1) (put .0) (put .1)
 
 pub seluvava-cut-spec : {M : Type 1} → statement M
 seluvava-cut-spec =
@@ -97,4 +91,5 @@ seluvava-cut-spec =
     same-length-4
     same-length-5
     same-length-6
+    same-length-7
     returns-2)
