@@ -40,21 +40,13 @@ use Rattle.mapper.proofs.Laws.{map-refused, map-says, map-accepts}
 use Rattle.painter.specs.Paint.{paintNumberOn, paintNumber, paintLater, CanPaint}
 use Rattle.painter.proofs.Laws.{paint-refused, paint-says, paint-accepts}
 use Rattle.seluvava.specs.Cut.{Lent, hasRoom, allLong, callNumberOn, callNumber, cutAnswer}
-use Rattle.promises.specs.Numbers.{Tests, applies, lowestFrom, lowestOf, noGrid, onBins, loadTests, loadApplies}
+use Rattle.promises.specs.Numbers.{Tests, applies, chain, ascends, lowestFrom, lowestOf, noGrid, onBins}
+use Rattle.promises.specs.Numbers.{loadTests, loadApplies}
 use Rattle.promises.specs.Numbers.{mergeTests, mergeApplies, cutTests, cutApplies, callApplies, bandTests}
 use Rattle.promises.specs.Numbers.{compareTests, compareApplies, mapApplies, paintApplies, OnGrid, CanLoad}
 use Rattle.promises.specs.Numbers.{CanMerge, CanCompare}
 
 -- ---- a chain of refusals whose answers do not descend gives the lowest that applies
-unfoldable chain : Tests → ℕ
-chain [] = 0
-chain (x ∷ xs) = refuse (x .1) (x .0) (chain xs)
-
--- answers from n to 9, none lower than the one before
-unfoldable ascends : ℕ → Tests → Bool
-ascends n [] = true
-ascends n (x ∷ xs) = leb n (x .0) && (leb (x .0) 9 && ascends (x .0) xs)
-
 none-applies : (more n : ℕ) → lowestFrom n more (λ m. false) ≡ 0
 unfolding lowestFrom
 none-applies zero n = refl
@@ -79,7 +71,7 @@ none-below (x ∷ xs) n m a h =
     let rest = and-right (leb (x .0) 9) _ (and-right (leb n (x .0)) _ a) in
     rw (ne-eqb (x .0) m (λ e. omega (arith, least, e)), none-below xs (x .0) m rest (omega (arith, least))) refl
 
-lowest : (xs : Tests) (n : ℕ) → 1 ≤ n → ascends n xs ≡ true → chain xs ≡ lowestOf (applies xs)
+pub lowest : (xs : Tests) (n : ℕ) → 1 ≤ n → ascends n xs ≡ true → chain xs ≡ lowestOf (applies xs)
 unfolding chain ascends applies lowestOf refuse
 lowest [] n least a = sym (none-applies 9 1)
 lowest (x ∷ xs) n least a = go (x .1) (lowest xs (x .0) (omega (arith, from, least)) rest)

@@ -6,6 +6,7 @@ use Prim.Native.Nat.{ℕ, zero, suc, _+_, _*_, _/_, _%_, _≤_}
 use lib.Dec.{eqb, leb, ltb}
 use lib.IntN.{ℤ}
 use lib.ListN.{length}
+use Rattle.basics.specs.Answer.{refuse}
 use Rattle.grid.specs.declared.place.Grid.{Grid}
 use Rattle.grid.specs.declared.place.Chosen.{Chosen}
 use Rattle.grid.specs.declared.place.Chosen.the-variants as chosen
@@ -35,6 +36,16 @@ lowestFrom n (suc more) f = cond (f n) n (lowestFrom (suc n) more f)
 -- "The lowest answer from 1 to 9 that applies is given; where none applies, the answer is 0."
 unfoldable pub lowestOf : (ℕ → Bool) → ℕ
 lowestOf f = lowestFrom 1 9 f
+
+-- the answer of the first test that holds, or 0
+unfoldable pub chain : Tests → ℕ
+chain [] = 0
+chain (x ∷ xs) = refuse (x .1) (x .0) (chain xs)
+
+-- answers from n to 9, none lower than the one before
+unfoldable pub ascends : ℕ → Tests → Bool
+ascends n [] = true
+ascends n (x ∷ xs) = leb n (x .0) && (leb (x .0) 9 && ascends (x .0) xs)
 
 -- "a grid size not among the seven" (`grid-told`)
 unfoldable pub noGrid : Chosen → Bool
