@@ -1,5 +1,5 @@
--- Replays (Rules, Replay): what a replay that is not refused as a whole leaves is the first table with the scaled colours
--- of the accepted batches loaded; which batch is accepted, and which refusal an entry gets otherwise.
+-- Replays (Rules, Replay): what a replay that is not refused as a whole leaves is the first table with the scaled
+-- colours of the accepted batches loaded; which batch is accepted, and which refusal an entry gets otherwise.
 -- Assumes nothing.
 use mathlib.Core.Path.{_≡_, refl, sym, ap, _∙_}
 use mathlib.Core.Logic.{_↔_}
@@ -26,8 +26,8 @@ use Rattle.recorder.proofs.Laws.{ReplayDone, replay-says}
 use Rattle.promises.specs.Recorder.{ColourBytes, entryOf, scaledOf, taken, standsBefore, setBefore, totalBefore}
 use Rattle.promises.specs.Recorder.{CanTake, batchDue, entryDue}
 use Rattle.promises.proofs.RecorderSteps.{one-by-one}
-use Rattle.promises.proofs.RecorderStands.{stands-interval, stands-table, stands-sound, stands-total, stands-fits}
-use Rattle.promises.proofs.RecorderStands.{answer-due}
+use Rattle.promises.proofs.RecorderStands.{stands-interval, stands-table, stands-sound, stands-total}
+use Rattle.promises.proofs.RecorderStands.{stands-fits, answer-due}
 
 -- the interval that the reloads set is one
 pub set-interval : (first : ℕ) (entries : List ℕ) → isInterval first ≡ true

@@ -1,5 +1,5 @@
--- The calls of the recorder: what each is given where it is done, what it leaves then, and that a refusal leaves all as it
--- was.
+-- The calls of the recorder: what each is given where it is done, what it leaves then, and that a refusal leaves all as
+-- it was.
 -- Assumes nothing.
 use mathlib.Core.Path.{_≡_, refl, sym, ap, _∙_}
 use mathlib.Core.Logic.{_↔_, _⊎_, inl, inr}
@@ -56,14 +56,14 @@ module _ (entries : List ℕ) (i : ℕ) where
 
 -- ---- a call is done exactly where it is given this
 module _ (b1 b2 b3 : ℕ) (t : Table) where
-  pub batch-exactly : (s : Session) (i : ℕ) (colours : List ℕ) (given : Bool) (weights : List ℕ)
-      → (batchNumber s i b1 b2 b3 t colours given weights ≡ 0)
-      ↔ OnGrid b1 b2 b3 (CanBatch s i t colours given weights)
+  pub batch-exactly : (s : Session) (i : ℕ) (colours : List ℕ) (weighted : Bool) (weights : List ℕ)
+      → (batchNumber s i b1 b2 b3 t colours weighted weights ≡ 0)
+      ↔ OnGrid b1 b2 b3 (CanBatch s i t colours weighted weights)
   unfolding batchNumber inForce batchWeighs refuse
-  batch-exactly s i colours given weights = (
+  batch-exactly s i colours weighted weights = (
     λ e.
         let force = force-passed s i e in
-        let d = load-says b1 b2 b3 t colours true (scaledWeights i (length colours / 3) given weights) (force .2) in
+        let d = load-says b1 b2 b3 t colours true (scaledWeights i (length colours / 3) weighted weights) (force .2) in
         let range = interval-says i (force .0) in
         record {
           g = d .g;
@@ -72,19 +72,19 @@ module _ (b1 b2 b3 : ℕ) (t : Table) where
             range = record { least = range .0; most = range .1 };
             in-force = force .1;
             threes = d .threes;
-            paired = λ y. sym (given-length i colours given weights y) ∙ d .paired refl;
+            paired = λ y. sym (given-length i colours weighted weights y) ∙ d .paired refl;
             lent = d .lent;
             is-sound = d .sound-before .holds;
-            fits = rw (sym (scaled-weight i colours given weights)) (d .under);
+            fits = rw (sym (scaled-weight i colours weighted weights)) (d .under);
           };
         },
     λ o. let c = o .can in
-        batch-number s i b1 b2 b3 t colours given weights (o .chosen) (c .threes) (c .paired) (c .lent) (c .is-sound)
+        batch-number s i b1 b2 b3 t colours weighted weights (o .chosen) (c .threes) (c .paired) (c .lent) (c .is-sound)
         ∙ simp (
           interval-by i (c .range .least) (c .range .most),
           eq-eqb i (s .interval) (c .in-force),
-          le-ltb limit (total (o .g) (viewOf t) + weightOf (scaledBatch i colours given weights))
-              (rw (scaled-weight i colours given weights) (c .fits)),
+          le-ltb limit (total (o .g) (viewOf t) + weightOf (scaledBatch i colours weighted weights))
+              (rw (scaled-weight i colours weighted weights) (c .fits)),
         ),
   )
 
@@ -124,21 +124,21 @@ module _ (b1 b2 b3 : ℕ) (t : Table) where
   )
 
   -- and then a batch has loaded its colours with scaled weights
-  pub batch-loads : (s : Session) (i : ℕ) (colours : List ℕ) (given : Bool) (weights : List ℕ)
-      → (o : OnGrid b1 b2 b3 (CanBatch s i t colours given weights))
-      → batchLater s i b1 b2 b3 t colours given weights
-      ≡ written (binsOf (o .g)) (loaded (o .g) (scaledBatch i colours given weights) (viewOf t))
-  batch-loads s i colours given weights o =
+  pub batch-loads : (s : Session) (i : ℕ) (colours : List ℕ) (weighted : Bool) (weights : List ℕ)
+      → (o : OnGrid b1 b2 b3 (CanBatch s i t colours weighted weights))
+      → batchLater s i b1 b2 b3 t colours weighted weights
+      ≡ written (binsOf (o .g)) (loaded (o .g) (scaledBatch i colours weighted weights) (viewOf t))
+  batch-loads s i colours weighted weights o =
       let c = o .can in
-      batch-table s i b1 b2 b3 t colours given weights (o .chosen) (c .threes) (c .paired) (c .lent) (c .is-sound)
-      (batch-exactly s i colours given weights .1 o) .1
+      batch-table s i b1 b2 b3 t colours weighted weights (o .chosen) (c .threes) (c .paired) (c .lent) (c .is-sound)
+      (batch-exactly s i colours weighted weights .1 o) .1
 
   -- ---- a refusal writes nothing
   module _ {n : ℕ} where
-    pub refused-batch : (s : Session) (i : ℕ) (colours : List ℕ) (given : Bool) (weights : List ℕ)
-        → batchNumber s i b1 b2 b3 t colours given weights ≡ suc n
-        → batchLater s i b1 b2 b3 t colours given weights ≡ t
-    refused-batch s i colours given weights e = batch-kept s i b1 b2 b3 t colours given weights e
+    pub refused-batch : (s : Session) (i : ℕ) (colours : List ℕ) (weighted : Bool) (weights : List ℕ)
+        → batchNumber s i b1 b2 b3 t colours weighted weights ≡ suc n
+        → batchLater s i b1 b2 b3 t colours weighted weights ≡ t
+    refused-batch s i colours weighted weights e = batch-kept s i b1 b2 b3 t colours weighted weights e
 
     pub refused-replay : (first : ℕ) (r : Recorded) → replayNumber first b1 b2 b3 t r ≡ suc n
         → (replayAnswer first b1 b2 b3 t r ≡ record { number = suc n; session = record { interval = 0 } })
@@ -147,14 +147,14 @@ module _ (b1 b2 b3 : ℕ) (t : Table) where
     refused-replay first r e = replay-refused first b1 b2 b3 t r e
 
   -- under interval 0, that of a refused begin, every batch is refused
-  pub none-under-0 : (i : ℕ) (colours : List ℕ) (given : Bool) (weights : List ℕ)
-      → batchNumber (record { interval = 0 }) i b1 b2 b3 t colours given weights
+  pub none-under-0 : (i : ℕ) (colours : List ℕ) (weighted : Bool) (weights : List ℕ)
+      → batchNumber (record { interval = 0 }) i b1 b2 b3 t colours weighted weights
       ≡ refuse (not (isInterval i)) 13 14
   unfolding batchNumber inForce refuse
-  none-under-0 i colours given weights = go (isInterval i) refl
+  none-under-0 i colours weighted weights = go (isInterval i) refl
     where
       load : ℕ
-      load = loadNumber b1 b2 b3 t colours true (scaledWeights i (length colours / 3) given weights)
+      load = loadNumber b1 b2 b3 t colours true (scaledWeights i (length colours / 3) weighted weights)
 
       go : (b : Bool) → isInterval i ≡ b
           → refuse (not b) 13 (refuse (not (eqb i 0)) 14 load) ≡ refuse (not b) 13 14

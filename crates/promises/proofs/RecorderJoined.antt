@@ -1,5 +1,5 @@
--- Laws of a recorded list in two parts, the first of which ends between two entries: its entries are those of the parts,
--- with the same colours and weights.
+-- Laws of a recorded list in two parts, the first of which ends between two entries: its entries are those of the
+-- parts, with the same colours and weights.
 -- Assumes nothing.
 use mathlib.Core.Path.{_≡_, sym, ap, _∙_}
 use mathlib.Core.Bool.{true, _&&_, _||_}
@@ -181,7 +181,8 @@ module _ (r s : Recorded) (part : WholePart r) where
   first-is i h =
       λ j. (eqb (first-kind i h j) 0 && eqb (first-count i h j) 0) || eqb (first-kind i h j) 1
 
-  all-before : coloursBefore (one ++ two) (entriesIn (one ++ two)) ≡ coloursBefore one n + coloursBefore two (entriesIn two)
+  all-before : coloursBefore (one ++ two) (entriesIn (one ++ two))
+      ≡ coloursBefore one n + coloursBefore two (entriesIn two)
   all-before = ap (coloursBefore (one ++ two)) entries-joined ∙ second-before (entriesIn two)
 
   pub second-fits : lentFits (joined r s) ≡ true → lentFits s ≡ true

@@ -117,30 +117,31 @@ unfolding begun
 begin-earliest i = reload-earliest (record { interval = 0 }) i
 
 module _ (b1 b2 b3 : ℕ) (t : Table) where
-  pub batch-earliest : (s : Session) (i : ℕ) (colours : List ℕ) (given : Bool) (weights : List ℕ)
-      → batchNumber s i b1 b2 b3 t colours given weights
-      ≡ earliestOf (batchApplies s i b1 b2 b3 t colours given weights)
+  pub batch-earliest : (s : Session) (i : ℕ) (colours : List ℕ) (weighted : Bool) (weights : List ℕ)
+      → batchNumber s i b1 b2 b3 t colours weighted weights
+      ≡ earliestOf (batchApplies s i b1 b2 b3 t colours weighted weights)
   unfolding batchNumber inForce batchApplies batchTests scaledTests batchWeighs chain ascends noGrid onBins onGrid
       gridAnswer refuse
-  batch-earliest s i colours given weights =
-      ap (λ (n : ℕ). refuse (not (isInterval i)) 13 (refuse (not (eqb i (s .interval))) 14 n)) (go (gridOf b1 b2 b3) refl)
+  batch-earliest s i colours weighted weights =
+      ap (λ (n : ℕ). refuse (not (isInterval i)) 13 (refuse (not (eqb i (s .interval))) 14 n))
+      (go (gridOf b1 b2 b3) refl)
       ∙ early-two (not (isInterval i)) (not (eqb i (s .interval)))
-      (scaledTests (gridOf b1 b2 b3) i t colours given weights) refl
+      (scaledTests (gridOf b1 b2 b3) i t colours weighted weights) refl
     where
       scaled : List ℕ
-      scaled = scaledWeights i (length colours / 3) given weights
+      scaled = scaledWeights i (length colours / 3) weighted weights
 
       go : (c : Chosen) → gridOf b1 b2 b3 ≡ c
           → loadNumber b1 b2 b3 t colours true scaled
-          ≡ chain (scaledTests (gridOf b1 b2 b3) i t colours given weights)
+          ≡ chain (scaledTests (gridOf b1 b2 b3) i t colours weighted weights)
       go (chosen.Accepted g) e =
           load-tests b1 b2 b3 t colours true scaled e
           ∙ (λ j.
           refuse (not (eqb (length colours % 3) 0)) 3
-          (refuse (scaled-pairs i colours given weights j) 4
+          (refuse (scaled-pairs i colours weighted weights j) 4
           (refuse (not (isSized t (binsOf g))) 5
           (refuse (not (sound limit g (viewOf t))) 6
-          (refuse (ltb limit (total g (viewOf t) + scaled-weight i colours given weights j)) 7 0)))))
+          (refuse (ltb limit (total g (viewOf t) + scaled-weight i colours weighted weights j)) 7 0)))))
           ∙ rw e refl
       go chosen.Refused e = sym (load-no-grid b1 b2 b3 t colours true scaled e .0) ∙ rw e refl
 

@@ -19,8 +19,7 @@ use Rattle.recorder.specs.Replay.{Standing, standing, standsAfter, answersTo, R
 use Rattle.recorder.specs.Replay.{replayNumber, replayed, replayAnswer, replayTable, replayBytes}
 use Rattle.recorder.proofs.Stands.{stands-append, answers-append, fits-by}
 use Rattle.recorder.proofs.Laws.{replay-grid, replay-says, replay-accepts}
-use Rattle.promises.specs.Recorder.{ColourBytes, taken}
-use Rattle.promises.specs.Recorder.{joined, WholePart, InParts}
+use Rattle.promises.specs.Recorder.{ColourBytes, taken, joined, WholePart, InParts}
 use Rattle.promises.proofs.Recorder.{set-interval, replay-table, replay-sound, replay-interval}
 use Rattle.promises.proofs.RecorderJoined.{entries-joined, entries-are, second-fits, joined-fits}
 
@@ -33,18 +32,21 @@ module _ (first b1 b2 b3 : ℕ) (t : Table) (r s : Recorded) (part : WholePart r
 
   -- where both parts are done, the whole is
   pub parts-done : replayNumber first b1 b2 b3 t r ≡ 0
-      → replayNumber (replayAnswer first b1 b2 b3 t r .session .interval) b1 b2 b3 (replayTable first b1 b2 b3 t r) s ≡ 0
+      → replayNumber (replayAnswer first b1 b2 b3 t r .session .interval) b1 b2 b3 (replayTable first b1 b2 b3 t r) s
+      ≡ 0
       → replayNumber first b1 b2 b3 t (joined r s) ≡ 0
   parts-done one two =
       let chosen = replay-grid first b1 b2 b3 t r one .chosen in
       let d = replay-says first b1 b2 b3 t r chosen one in
       let f = replay-says then-interval b1 b2 b3 then-table s chosen two in
-      replay-accepts first b1 b2 b3 t (joined r s) (d .first-in) chosen (d .lent) (joined-fits r s part (fits-by s (f .fits)))
+      replay-accepts first b1 b2 b3 t (joined r s) (d .first-in) chosen (d .lent)
+      (joined-fits r s part (fits-by s (f .fits)))
       (d .is-sound)
 
   -- and it is the two parts, one after the other
   parts-are : replayNumber first b1 b2 b3 t (joined r s) ≡ 0 → replayNumber first b1 b2 b3 t r ≡ 0
-      → replayNumber (replayAnswer first b1 b2 b3 t r .session .interval) b1 b2 b3 (replayTable first b1 b2 b3 t r) s ≡ 0
+      → replayNumber (replayAnswer first b1 b2 b3 t r .session .interval) b1 b2 b3 (replayTable first b1 b2 b3 t r) s
+      ≡ 0
       → InParts first b1 b2 b3 t r s
   unfolding replayAnswer replayTable entriesOf joined
   parts-are done one two =
@@ -100,5 +102,6 @@ module _ (first b1 b2 b3 : ℕ) (t : Table) (r s : Recorded) (part : WholePart r
         rw (replay-table first b1 b2 b3 t r bytes one chosen)
         (list-holds (binsOf (found .g)) (loaded (found .g) (taken first b1 b2 b3 t r) (viewOf t)) .lent) in
         parts-are done one
-        (replay-accepts then-interval b1 b2 b3 then-table s range chosen lent (second-fits r s part (fits-by (joined r s) (d .fits)))
+        (replay-accepts then-interval b1 b2 b3 then-table s range chosen lent
+        (second-fits r s part (fits-by (joined r s) (d .fits)))
         (replay-sound first b1 b2 b3 t r bytes one chosen))

@@ -29,15 +29,15 @@ use Rattle.recorder.specs.Batch.{inForce, batchNumber, batchLater}
 use Rattle.recorder.specs.Replay.{kindAt, intervalAt, entriesIn, Entry, entryAt, Standing}
 use Rattle.recorder.specs.Replay.{Recorded, replayNumber}
 use Rattle.recorder.specs.Replay.{replayBytes}
-use Rattle.recorder.proofs.Stands.{colours-length, weights-length}
-use Rattle.recorder.proofs.Stands.{entry-bytes}
+use Rattle.recorder.proofs.Stands.{colours-length, weights-length, entry-bytes}
 use Rattle.recorder.proofs.Sessions.{reload-sets, reload-leaves}
 use Rattle.recorder.proofs.Batches.{batch-kept, batch-number, batch-table}
 use Rattle.recorder.proofs.Laws.{ReplayDone, replay-says}
 use Rattle.promises.specs.Recorder.{ColourBytes, entryOf, scaledOf, takenAt, takenBefore}
+use Rattle.promises.specs.Recorder.{standsBefore, setBefore, totalBefore, batchDue, entryDue}
+use Rattle.promises.specs.Recorder.{Step, reloadStep, batchStep, OneByOne}
 use Rattle.promises.proofs.RecorderSteps.{one-by-one}
 use Rattle.promises.proofs.RecorderColours.{load-none, load-more, weight-none}
-use Rattle.promises.specs.Recorder.{Step, reloadStep, batchStep, OneByOne, standsBefore, setBefore, totalBefore, batchDue, entryDue}
 
 module _ (first b1 b2 b3 : ℕ) (t : Table) (r : Recorded) (bytes : ColourBytes r)
     (done : replayNumber first b1 b2 b3 t r ≡ 0) {g : Grid} (e : gridOf b1 b2 b3 ≡ chosen.Accepted g) where
@@ -56,7 +56,8 @@ module _ (first b1 b2 b3 : ℕ) (t : Table) (r : Recorded) (bytes : ColourBytes 
   -- how a replay stands before entry i
   record Stood (i : ℕ) : Type 0 where
     in-force : standsBefore first b1 b2 b3 t r i .session .interval ≡ setBefore first (r .entries) i
-    holds : standsBefore first b1 b2 b3 t r i .table ≡ written (binsOf g) (loaded g (takenBefore r answers i) (viewOf t))
+    holds : standsBefore first b1 b2 b3 t r i .table
+        ≡ written (binsOf g) (loaded g (takenBefore r answers i) (viewOf t))
     of-bytes : AllBytes (takenBefore r answers i)
     under : totalBefore g t r answers i ≤ limit
 
@@ -130,8 +131,8 @@ module _ (first b1 b2 b3 : ℕ) (t : Table) (r : Recorded) (bytes : ColourBytes 
       unfolding batchDue inForce entryAt scaledOf
       batch-due =
           answers-batch
-          ∙ batch-number (here .session) (its .interval) b1 b2 b3 (here .table) (its .colours) true (its .weights) e threes
-          (λ y. paired) (now-holds .lent) sound-at
+          ∙ batch-number (here .session) (its .interval) b1 b2 b3 (here .table) (its .colours) true (its .weights) e
+          threes (λ y. paired) (now-holds .lent) sound-at
           ∙ (λ j.
           refuse (not (isInterval (its .interval))) 13
           (refuse (not (eqb (its .interval) (s .in-force j))) 14
@@ -161,8 +162,8 @@ module _ (first b1 b2 b3 : ℕ) (t : Table) (r : Recorded) (bytes : ColourBytes 
           go : (m : ℕ) → getD answers i 0 ≡ m → Stood (suc i)
           go zero z =
               let ended =
-              batch-table (here .session) (its .interval) b1 b2 b3 (here .table) (its .colours) true (its .weights) e threes
-              (λ y. paired) (now-holds .lent) sound-at (sym answers-batch ∙ z) in
+              batch-table (here .session) (its .interval) b1 b2 b3 (here .table) (its .colours) true (its .weights) e
+              threes (λ y. paired) (now-holds .lent) sound-at (sym answers-batch ∙ z) in
               next (scaledOf its) (simp (eq-eqb (kindAt (r .entries) i) 1 k, eq-eqb (getD answers i 0) 0 z)) still
               (ap (λ (x : Standing). x .table) later-batch ∙ ended .1)
               (scaled-bytes (its .interval) (its .colours) true (its .weights) (entry-bytes r (says .fits) i h bytes))

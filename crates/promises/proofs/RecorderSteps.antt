@@ -1,5 +1,5 @@
--- A replay is its entries one by one, each through reload or batch: it stands after each as that call leaves it, and the
--- answer byte is that call's.
+-- A replay is its entries one by one, each through reload or batch: it stands after each as that call leaves it, and
+-- the answer byte is that call's.
 -- Assumes nothing.
 use mathlib.Core.Path.{_≡_, refl, _∙_}
 use mathlib.Core.Logic.{_⊎_, inl, inr}
@@ -17,8 +17,7 @@ use Rattle.recorder.specs.Replay.{Standing, standing, entryNumber, entryLater, 
 use Rattle.recorder.specs.Replay.{recorded, replayNumber, replayAnswer, replayTable, replayBytes}
 use Rattle.recorder.proofs.Stands.{stands-none, stands-next, entry-says}
 use Rattle.recorder.proofs.Laws.{standsAt, replay-grid, replay-says}
-use Rattle.promises.specs.Recorder.{entryOf, standsBefore, Step, reloadStep, batchStep}
-use Rattle.promises.specs.Recorder.{OneByOne, IsStep}
+use Rattle.promises.specs.Recorder.{entryOf, standsBefore, Step, reloadStep, batchStep, OneByOne, IsStep}
 
 -- an entry is a reload, or a batch with its weights
 module _ (b1 b2 b3 : ℕ) (s : Standing) (e : Entry) where

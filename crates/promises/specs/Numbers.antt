@@ -57,17 +57,17 @@ onBins c test = onGrid c false test
 
 -- "load 1, 3, 4, 5, 6, 7"
 unfoldable pub loadTests : Chosen → List ℕ → List ℕ → Bool → List ℕ → Tests
-loadTests c t colours given weights =
+loadTests c t colours weighted weights =
     (1, noGrid c)
     ∷ (3, not (eqb (length colours % 3) 0))
-    ∷ (4, given && not (eqb (length weights) (length colours / 3)))
+    ∷ (4, weighted && not (eqb (length weights) (length colours / 3)))
     ∷ (5, onBins c (λ g. not (isSized t (binsOf g))))
     ∷ (6, onBins c (λ g. not (sound limit g (viewOf t))))
-    ∷ (7, onBins c (λ g. ltb limit (total g (viewOf t) + weightOf (batchOf colours given weights))))
+    ∷ (7, onBins c (λ g. ltb limit (total g (viewOf t) + weightOf (batchOf colours weighted weights))))
     ∷ []
 
 unfoldable pub loadApplies : ℕ → ℕ → ℕ → List ℕ → List ℕ → Bool → List ℕ → ℕ → Bool
-loadApplies b1 b2 b3 t colours given weights = applies (loadTests (gridOf b1 b2 b3) t colours given weights)
+loadApplies b1 b2 b3 t colours weighted weights = applies (loadTests (gridOf b1 b2 b3) t colours weighted weights)
 
 -- "merge 1, 5, 6, 7 (either table unsound is 6)"
 unfoldable pub mergeTests : Chosen → List ℕ → List ℕ → Tests
@@ -149,12 +149,12 @@ pub record OnGrid (b1 b2 b3 : ℕ) (Can : Grid → Type 0) : Type 0 where
   pub can : Can g
 
 -- of a load, no 3, 4, 5, 6, 7
-pub record CanLoad (t colours : List ℕ) (given : Bool) (weights : List ℕ) (g : Grid) : Type 0 where
+pub record CanLoad (t colours : List ℕ) (weighted : Bool) (weights : List ℕ) (g : Grid) : Type 0 where
   pub threes : length colours % 3 ≡ 0
-  pub paired : given ≡ true → length weights ≡ length colours / 3
+  pub paired : weighted ≡ true → length weights ≡ length colours / 3
   pub lent : Sized t (binsOf g)
   pub is-sound : sound limit g (viewOf t) ≡ true
-  pub fits : total g (viewOf t) + weightOf (batchOf colours given weights) ≤ limit
+  pub fits : total g (viewOf t) + weightOf (batchOf colours weighted weights) ≤ limit
 
 -- of a merge, no 5, 6, 7
 pub record CanMerge (t s : List ℕ) (g : Grid) : Type 0 where

@@ -1,5 +1,5 @@
--- When each answer applies to a call of the recorder, and what such a call is given that nothing refuses (Rules, Record;
--- Rules, Replay; Rules, Answers). Definitions only.
+-- When each answer applies to a call of the recorder, and what such a call is given that nothing refuses (Rules,
+-- Record; Rules, Replay; Rules, Answers). Definitions only.
 use mathlib.Core.Path.{_≡_}
 use mathlib.Core.Logic.{_⊎_}
 use mathlib.Core.Bool.{Bool, true, not, _&&_, _||_, cond}
@@ -32,26 +32,27 @@ intervalApplies i = applies (intervalTests i)
 
 -- what a batch weighs: its interval times all its weights, or "Without weights each colour weighs the interval"
 unfoldable pub batchWeighs : ℕ → List ℕ → Bool → List ℕ → ℕ
-batchWeighs i colours given weights =
-    i * cond given (sumFrom 0 (length colours / 3) (λ k. getD weights k 0)) (length colours / 3)
+batchWeighs i colours weighted weights =
+    i * cond weighted (sumFrom 0 (length colours / 3) (λ k. getD weights k 0)) (length colours / 3)
 
 -- "batch 13, 14, 1, 3, 4, 5, 6, 7"
 unfoldable pub scaledTests : Chosen → ℕ → Table → List ℕ → Bool → List ℕ → Tests
-scaledTests c i t colours given weights =
+scaledTests c i t colours weighted weights =
     (1, noGrid c)
     ∷ (3, not (eqb (length colours % 3) 0))
-    ∷ (4, given && not (eqb (length weights) (length colours / 3)))
+    ∷ (4, weighted && not (eqb (length weights) (length colours / 3)))
     ∷ (5, onBins c (λ g. not (isSized t (binsOf g))))
     ∷ (6, onBins c (λ g. not (sound limit g (viewOf t))))
-    ∷ (7, onBins c (λ g. ltb limit (total g (viewOf t) + batchWeighs i colours given weights)))
+    ∷ (7, onBins c (λ g. ltb limit (total g (viewOf t) + batchWeighs i colours weighted weights)))
     ∷ []
 
 unfoldable pub batchTests : Chosen → Session → ℕ → Table → List ℕ → Bool → List ℕ → Tests
-batchTests c s i t colours given weights =
-    (13, not (isInterval i)) ∷ (14, not (eqb i (s .interval))) ∷ scaledTests c i t colours given weights
+batchTests c s i t colours weighted weights =
+    (13, not (isInterval i)) ∷ (14, not (eqb i (s .interval))) ∷ scaledTests c i t colours weighted weights
 
 unfoldable pub batchApplies : Session → ℕ → ℕ → ℕ → ℕ → Table → List ℕ → Bool → List ℕ → ℕ → Bool
-batchApplies s i b1 b2 b3 t colours given weights = applies (batchTests (gridOf b1 b2 b3) s i t colours given weights)
+batchApplies s i b1 b2 b3 t colours weighted weights =
+    applies (batchTests (gridOf b1 b2 b3) s i t colours weighted weights)
 
 -- "replay 13, 1, 5, 6": 5 also where entries are not in threes, another kind, a reload with colours, colours or weights
 -- that do not fit the entries exactly, and fewer answer bytes than entries
@@ -89,15 +90,15 @@ pub record InRange (i : ℕ) : Type 0 where
   pub most : i ≤ 4096
 
 -- of a batch, no 13, 14, 3, 4, 5, 6, 7
-pub record CanBatch (s : Session) (i : ℕ) (t : Table) (colours : List ℕ) (given : Bool) (weights : List ℕ)
+pub record CanBatch (s : Session) (i : ℕ) (t : Table) (colours : List ℕ) (weighted : Bool) (weights : List ℕ)
     (g : Grid) : Type 0 where
   pub range : InRange i
   pub in-force : i ≡ s .interval
   pub threes : length colours % 3 ≡ 0
-  pub paired : given ≡ true → length weights ≡ length colours / 3
+  pub paired : weighted ≡ true → length weights ≡ length colours / 3
   pub lent : Sized t (binsOf g)
   pub is-sound : sound limit g (viewOf t) ≡ true
-  pub fits : total g (viewOf t) + batchWeighs i colours given weights ≤ limit
+  pub fits : total g (viewOf t) + batchWeighs i colours weighted weights ≤ limit
 
 -- of a replay, no 13, 5, 6
 pub record CanReplay (first : ℕ) (t : Table) (r : Recorded) (g : Grid) : Type 0 where
