@@ -459,8 +459,8 @@ static void ask_worked(const struct worked *w)
 
 /* What nothing refuses, over the grid 4,2,8, with no element lent that is not needed. Five colours of weights 3, 2, 7,
  * 0, 1 are in both tables, and are the batch, those of the recorded list and the frame. Behind them stand some noise
- * and pixels of one colour. Interval 3 is in force. The list has a batch, a reload and a batch that are accepted, a batch
- * and a reload that are not, and one more batch that is. */
+ * and pixels of one colour. Interval 3 is in force. The list has a batch, a reload and a batch that are accepted, a
+ * batch and a reload that are not, and one more batch that is. */
 static struct asked good(void)
 {
     static const uint8_t known[] = {10, 20, 5, 100, 5, 9, 255, 255, 255, 0, 128, 31, 200, 0, 64};

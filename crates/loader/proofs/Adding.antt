@@ -1,5 +1,5 @@
--- What a caller of add_batch may use without seeing inside its definitions: what its answer means, that it is what a load
--- says, and that the table is known after it.
+-- What a caller of add_batch may use without seeing inside its definitions: what its answer means, that it is what a
+-- load says, and that the table is known after it.
 -- Assumes nothing.
 use mathlib.Core.Path.{_≡_, refl, sym, ap, subst, _∙_}
 use mathlib.Core.Bool.{Bool, true, false, not, _&&_, cond}

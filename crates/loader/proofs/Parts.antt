@@ -150,7 +150,8 @@ pub colour-bytes : (colours : List ℕ) → ((k : ℕ) → getD colours k 0 < 25
 unfolding colourAt
 colour-bytes colours bytes k = record { one = bytes (3 * k); two = bytes (3 * k + 1); three = bytes (3 * k + 2) }
 
-part-bytes : (scale : ℕ) (colours : List ℕ) (weighted : Bool) (weights : List ℕ) → ((k : ℕ) → getD colours k 0 < 256) → (i n : ℕ)
+part-bytes : (scale : ℕ) (colours : List ℕ) (weighted : Bool) (weights : List ℕ)
+    → ((k : ℕ) → getD colours k 0 < 256) → (i n : ℕ)
     → AllBytes (partOf scale colours weighted weights i n)
 unfolding partOf scaledAt
 part-bytes scale colours weighted weights bytes i n =
@@ -172,9 +173,11 @@ held-none g t scale colours weighted weights i e =
 -- after the first m of n colours that fit, those that follow fit
 module _ {most : ℕ} {g : Grid} {t : Table} {scale : ℕ} {colours : List ℕ} {weighted : Bool} {weights : List ℕ} {i n : ℕ}
     (fits : PartFits most g t scale colours weighted weights i n) (bytes : (k : ℕ) → getD colours k 0 < 256)
-    {s : Table} (m : ℕ) (holds : Holds (binsOf g) s (loaded g (partOf scale colours weighted weights i m) (viewOf t))) where
+    {s : Table} (m : ℕ)
+    (holds : Holds (binsOf g) s (loaded g (partOf scale colours weighted weights i m) (viewOf t))) where
   part-within : (l : ℕ) → m + l ≤ n
-      → weightOf (partOf scale colours weighted weights i m) + weightOf (partOf scale colours weighted weights (i + m) l)
+      → weightOf (partOf scale colours weighted weights i m)
+      + weightOf (partOf scale colours weighted weights (i + m) l)
       ≤ weightOf (partOf scale colours weighted weights i n)
   unfolding partOf weightOf
   part-within l h =
@@ -212,7 +215,8 @@ module _ {most : ℕ} {g : Grid} {t : Table} {scale : ℕ} {colours : List ℕ} 
       held-more g (viewOf t) s e i m l (scaledAt scale colours weighted weights) holds (rw q at more)
 
 -- a table with colours added holds what was there with them loaded
-pub part-held : (g : Grid) (t : Table) (scale : ℕ) (colours : List ℕ) (weighted : Bool) (weights : List ℕ) (i n : ℕ) {e : Table}
+pub part-held : (g : Grid) (t : Table) (scale : ℕ) (colours : List ℕ) (weighted : Bool) (weights : List ℕ) (i n : ℕ)
+    {e : Table}
     → e ≡ withPart g t scale colours weighted weights i n
     → Holds (binsOf g) e (loaded g (partOf scale colours weighted weights i n) (viewOf t))
 unfolding withPart

@@ -1,5 +1,5 @@
--- Laws of a batch whose weights are multiplied by a scale: how many they are, what they weigh, and that a load with every
--- weight times 1 is the load.
+-- Laws of a batch whose weights are multiplied by a scale: how many they are, what they weigh, and that a load with
+-- every weight times 1 is the load.
 -- Assumes nothing.
 use mathlib.Core.Path.{_≡_, refl, sym, ap, _∙_}
 use mathlib.Core.Bool.{Bool, true, false, not, _&&_, cond}

@@ -48,4 +48,5 @@ module _ (most had scale n : ℕ) (h : had ≤ most) (s : 1 ≤ scale) where
 
   pub left-fits : n ≤ (most - had) / scale → had + scale * n ≤ most
   left-fits l =
-      let under : n * scale ≤ most - had = le-div-iff-mul-le {k = scale} (omega arith) .0 l in omega (arith, mul-comm n scale)
+      let under : n * scale ≤ most - had = le-div-iff-mul-le {k = scale} (omega arith) .0 l in
+      omega (arith, mul-comm n scale)

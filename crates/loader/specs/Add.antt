@@ -1,5 +1,5 @@
--- Adding a batch to a table that is known to be sound, each weight multiplied by a scale, by a step table that is filled
--- once (Rules, Load; Rules, Record). Definitions only.
+-- Adding a batch to a table that is known to be sound, each weight multiplied by a scale, by a step table that is
+-- filled once (Rules, Load; Rules, Record). Definitions only.
 use mathlib.Core.Path.{_≡_}
 use mathlib.Core.Bool.{Bool, true, cond}
 use mathlib.Core.List.{List, [], _∷_}

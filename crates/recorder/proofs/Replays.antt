@@ -19,8 +19,8 @@ use Rattle.recorder.specs.Session.{isInterval}
 use Rattle.recorder.specs.Replay.{standing, entriesOf, entriesIn, standsAfter, answersTo, Recorded, lentFits}
 use Rattle.recorder.specs.Replay.{replayNumber, replayAnswer, replayTable, replayBytes}
 use Rattle.recorder.specs.Inner.{stand, standsOn, answersOn}
-use Rattle.recorder.proofs.Laws.{replay-tests, replay-no-interval, replay-no-grid, replay-refused, replay-accepts}
-use Rattle.recorder.proofs.Laws.{replay-says}
+use Rattle.recorder.proofs.Laws.{replay-tests, replay-no-interval, replay-no-grid, replay-refused}
+use Rattle.recorder.proofs.Laws.{replay-accepts, replay-says}
 
 module _ (first b1 b2 b3 : ℕ) (t : Table) (r : Recorded) where
   -- an answer, a table and answer bytes are the replay's

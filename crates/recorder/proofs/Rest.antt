@@ -74,7 +74,8 @@ module _ (g : Grid) (entries colours weights : List ℕ) where
     pub place : at ≡ coloursBefore entries i
     pub known : Known limit g t sum
     pub stands : standsOn g (stand s t) (rest i) ≡ standsOn g first (entriesOf entries colours weights)
-    pub told : take i answers ++ answersOn g (stand s t) (rest i) ≡ answersOn g first (entriesOf entries colours weights)
+    pub told : take i answers ++ answersOn g (stand s t) (rest i)
+        ≡ answersOn g first (entriesOf entries colours weights)
     pub kept : drop i answers ≡ drop i old
     pub long : length answers ≡ length old
 
@@ -100,7 +101,9 @@ module _ (g : Grid) (entries colours weights : List ℕ) where
 
   next : (i : ℕ) → i < n → rest i ≡ one i ∷ rest (i + 1)
   unfolding listFrom
-  next i h = ap (λ (k : ℕ). listFrom i k one) (less i n h) ∙ ap (λ (k : ℕ). one i ∷ listFrom k (n - (i + 1)) one) (sym (one-more i))
+  next i h =
+      ap (λ (k : ℕ). listFrom i k one) (less i n h)
+      ∙ ap (λ (k : ℕ). one i ∷ listFrom k (n - (i + 1)) one) (sym (one-more i))
     where
       less : (i m : ℕ) → i < m → m - i ≡ suc (m - (i + 1))
       less i m h = omega arith
@@ -140,9 +143,7 @@ module _ (g : Grid) (entries colours weights : List ℕ) where
     unfolding standsAfter answersTo listFrom
     reached-last e = (
       sym (ap (standsOn g (stand s t)) none-left) ∙ r .stands,
-      sym (take-append-drop i answers)
-          ∙ (λ j. (sym (append-nil (take i answers)) ∙ sym (ap (λ (es : List Entry). take i answers ++ answersOn g (stand s t) es) none-left)
-          ∙ r .told) j ++ (r .kept ∙ ap (λ (m : ℕ). drop m old) e) j),
+      sym (take-append-drop i answers) ∙ (λ j. told-all j ++ (r .kept ∙ ap (λ (m : ℕ). drop m old) e) j),
     )
       where
         none-left : rest i ≡ []
@@ -150,3 +151,9 @@ module _ (g : Grid) (entries colours weights : List ℕ) where
           where
             passed : (a b : ℕ) → a ≡ b → b - a ≡ 0
             passed a b q = omega arith
+
+        told-all : take i answers ≡ answersOn g first (entriesOf entries colours weights)
+        told-all =
+            sym (append-nil (take i answers))
+            ∙ sym (ap (λ (es : List Entry). take i answers ++ answersOn g (stand s t) es) none-left)
+            ∙ r .told

@@ -46,7 +46,8 @@ module _ (b1 b2 b3 : ℕ) where
   stands-none s f = refl
 
   pub stands-next : (s : Standing) (f : ℕ → Entry) (i : ℕ)
-      → standsAfter b1 b2 b3 s (listFrom 0 (suc i) f) ≡ entryLater b1 b2 b3 (standsAfter b1 b2 b3 s (listFrom 0 i f)) (f i)
+      → standsAfter b1 b2 b3 s (listFrom 0 (suc i) f)
+      ≡ entryLater b1 b2 b3 (standsAfter b1 b2 b3 s (listFrom 0 i f)) (f i)
   unfolding standsAfter listFrom
   stands-next s f i =
       ap (standsAfter b1 b2 b3 s) (list-last i f) ∙ stands-append s (listFrom 0 i f) (f i ∷ [])

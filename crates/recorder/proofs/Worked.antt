@@ -154,8 +154,8 @@ record Case : Type 0 where
   later : Table
   bytes : List ℕ
 
--- begun with 3: a batch of 3; one of 1, the wrong interval; a reload to 4,096; one to 0, refused, so that 4,096 stays in
--- force; a batch whose scaled total is 2^32; one that says 4,097; one of 4,096
+-- begun with 3: a batch of 3; one of 1, the wrong interval; a reload to 4,096; one to 0, refused, so that 4,096 stays
+-- in force; a batch whose scaled total is 2^32; one that says 4,097; one of 4,096
 entries : List ℕ
 entries =
     1 ∷ 3 ∷ 1 ∷ 1 ∷ 1 ∷ 1 ∷ 0 ∷ 4096 ∷ 0 ∷ 0 ∷ 0 ∷ 0 ∷ 1 ∷ 4096 ∷ 1 ∷ 1 ∷ 4097 ∷ 1 ∷ 1 ∷ 4096 ∷ 1 ∷ []
@@ -175,7 +175,15 @@ all = recorded entries colours weights untold
 -- a replay that is refused
 refused : ℕ → ℕ → ℕ → Table → Recorded → Case
 refused number first size t r =
-    record { first = first; size = size; table = t; lent = r; answer = answered number 0; later = t; bytes = r .answers }
+    record {
+      first = first;
+      size = size;
+      table = t;
+      lent = r;
+      answer = answered number 0;
+      later = t;
+      bytes = r .answers;
+    }
 
 cases : List Case
 cases =

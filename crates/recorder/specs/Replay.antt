@@ -39,8 +39,8 @@ coloursBefore entries n = sumFrom 0 n (countAt entries)
 unfoldable pub isEntry : List ℕ → ℕ → Bool
 isEntry entries i = (eqb (kindAt entries i) 0 && eqb (countAt entries i) 0) || eqb (kindAt entries i) 1
 
--- entries in threes and each of them one, "colours and weights that fit them exactly", and an answer byte for each; told
--- by how many colour bytes, weights and answer bytes are lent
+-- entries in threes and each of them one, "colours and weights that fit them exactly", and an answer byte for each;
+-- told by how many colour bytes, weights and answer bytes are lent
 unfoldable pub entriesFit : List ℕ → ℕ → ℕ → ℕ → Bool
 entriesFit entries colours weights answers =
     eqb (length entries % 3) 0

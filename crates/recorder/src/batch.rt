@@ -32,9 +32,11 @@ pub fn batch(
     weights: &[u32],
 ) -> u8
     ensures number { λ r. ⌜ r
-        ≡ batchNumber s interval b1 b2 b3 (now (table .entry)) (now (colours .entry)) weighted (now (weights .entry)) ⌝ }
+        ≡ batchNumber s interval b1 b2 b3 (now (table .entry)) (now (colours .entry)) weighted
+        (now (weights .entry)) ⌝ }
     ensures later { λ r. ⌜ now (table .exit)
-        ≡ batchLater s interval b1 b2 b3 (now (table .entry)) (now (colours .entry)) weighted (now (weights .entry)) ⌝ }
+        ≡ batchLater s interval b1 b2 b3 (now (table .entry)) (now (colours .entry)) weighted
+        (now (weights .entry)) ⌝ }
 {
     let number = in_force(s, interval);
     if number != 0 {

@@ -46,7 +46,11 @@ batch-total-requires : tie.Need-batch-total-requires
 batch-total-requires c κs =
     let s = c .before .before .before in
     let known = s .pre .0 in (
-      omega (arith, known .total-is, total-high {v = viewOf (now (s .args .table))} (record { holds = known .is-sound })),
+      omega (
+        arith,
+        known .total-is,
+        total-high {v = viewOf (now (s .args .table))} (record { holds = known .is-sound }),
+      ),
       s .pre .1 .1 .1,
     )
 

@@ -80,7 +80,8 @@ add-last-requires c κs =
 all-held : (c : tie.After-slice-known3 Inv-loop μ-loop) →
     let a = c .before .before .before .before .before .before .before .before .before .args in
     Holds (binsOf (a .g)) (c .before .before .add-last .last .1 .0)
-    (loaded (a .g) (partOf (a .scale) (now (a .colours)) (a .weighted) (now (a .weights)) 0 (a .n)) (viewOf (now (a .table))))
+    (loaded (a .g) (partOf (a .scale) (now (a .colours)) (a .weighted) (now (a .weights)) 0 (a .n))
+    (viewOf (now (a .table))))
 all-held c =
     let k = c .before .before .before .before .before in
     let l = k .loop in

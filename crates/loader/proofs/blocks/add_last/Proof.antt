@@ -29,7 +29,8 @@ module _ (f : tie.Then1) where
   some = some-equal (now (start .args .colours)) (start .args .at) (start .args .n) equal
 
   same : (k : ℕ) → k < start .args .n
-      → colourAt (now (start .args .colours)) (start .args .at + k) ≡ colourAt (now (start .args .colours)) (start .args .at)
+      → colourAt (now (start .args .colours)) (start .args .at + k)
+      ≡ colourAt (now (start .args .colours)) (start .args .at)
   same = last-same (now (start .args .colours)) (start .args .at) (start .args .n) (start .pre .1 .0) equal
 
 last-equal-requires : tie.Need-last-equal-requires

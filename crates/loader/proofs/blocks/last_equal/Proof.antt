@@ -20,7 +20,10 @@ returns-2 : tie.Need-returns-2
 unfolding lastEqual
 returns-2 c =
     let a = c .before .before .before .args in
-    sym (simp (lt-ltb 0 (a .n) (omega (arith, c .before .if1 .left)), le-ltb 64 (a .at + a .n) (omega (arith, c .if2 .taken))))
+    sym (simp (
+      lt-ltb 0 (a .n) (omega (arith, c .before .if1 .left)),
+      le-ltb 64 (a .at + a .n) (omega (arith, c .if2 .taken)),
+    ))
 
 equal-colours-requires : tie.Need-equal-colours-requires
 equal-colours-requires c κs = search needs

@@ -70,8 +70,8 @@ scaled k =
     let a = entry k .args in
     scaledWeights (a .scale) (length (now (a .colours)) / 3) (a .weighted) (now (a .weights))
 
-paired : (k : tie.Joined2) → (true && not (eqb (length (scaled (on k))) (length (now (entry (on k) .args .colours)) / 3)))
-    ≡ false
+paired : (k : tie.Joined2)
+    → (true && not (eqb (length (scaled (on k))) (length (now (entry (on k) .args .colours)) / 3))) ≡ false
 paired k =
     let a = entry (on k) .args in
     scaled-pairs (a .scale) (now (a .colours)) (a .weighted) (now (a .weights))
@@ -150,7 +150,8 @@ returns-3 : tie.Need-returns-3
 returns-3 c =
     let a = entry (c .before .before .before) .args in
     let many = given-length (a .scale) (now (a .colours)) (a .weighted) (now (a .weights)) (c .before .if2 .taken) in
-    load-not-paired (a .b1) (a .b2) (a .b3) (now (a .table)) (now (a .colours)) true (scaled (c .before .before .before))
+    load-not-paired (a .b1) (a .b2) (a .b3) (now (a .table)) (now (a .colours)) true
+    (scaled (c .before .before .before))
     (on-grid (c .before .before .before)) (c .before .before .if1 .left) refl (λ e. c .if3 .taken (sym many ∙ e))
 
 table-len-requires : tie.Need-table-len-requires

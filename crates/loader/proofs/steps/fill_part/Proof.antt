@@ -23,7 +23,10 @@ mul-at : tie.Need-mul-at Inv-loop μ-loop
 mul-at c = omega arith
 
 loop-holds : tie.Need-loop-holds Inv-loop μ-loop
-loop-holds c = (omega arith, part-none (c .steps .result) (c .before .args .dimension) (now (c .before .args .table)) (c .before .pre .1))
+loop-holds c = (
+  omega arith,
+  part-none (c .steps .result) (c .before .args .dimension) (now (c .before .args .table)) (c .before .pre .1),
+)
 
 mul-table : tie.Need-mul-table Inv-loop μ-loop
 mul-table c = omega arith

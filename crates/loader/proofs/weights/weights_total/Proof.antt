@@ -1,5 +1,5 @@
--- `loader::weights::weights_total` meets its contract: the total so far is within the limit, so a block more still fits a
--- u64.
+-- `loader::weights::weights_total` meets its contract: the total so far is within the limit, so a block more still fits
+-- a u64.
 -- Assumes nothing.
 use mathlib.Core.Path.{_≡_, sym, ap, _∙_}
 use Prim.Native.Nat.{ℕ, _+_, _≤_, _-_, _*_}
@@ -36,7 +36,8 @@ small-rest : (c : tie.After-block-sum2 Inv-loop μ-loop)
     → c .before .before .before .before .args .scale * c .block-sum2 .result ≤ 72057594021150720
 small-rest c =
     let l = c .before .before in
-    block-high _ (l .loop .i) (length (now (l .before .before .args .weights)) - l .loop .i) _ (l .before .before .pre .1)
+    block-high _ (l .loop .i) (length (now (l .before .before .args .weights)) - l .loop .i) _
+    (l .before .before .pre .1)
     (omega arith) (each l) (c .block-sum2 .ensures)
 
 -- the total of all

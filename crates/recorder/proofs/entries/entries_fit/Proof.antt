@@ -1,5 +1,5 @@
--- `recorder::entries::entries_fit` meets its contract: what is left of the weights and the colours of the entries passed
--- are together all weights.
+-- `recorder::entries::entries_fit` meets its contract: what is left of the weights and the colours of the entries
+-- passed are together all weights.
 -- Assumes nothing.
 use mathlib.Core.Path.{_≡_, sym, ap, _∙_}
 use mathlib.Core.Bool.{true, true≢false}
@@ -26,7 +26,8 @@ abbrev μ-loop : tie.MeasureT-loop
 returns : tie.Need-returns Inv-loop μ-loop
 returns c =
     let a = c .before .before .args in
-    sym (never-true _ (λ e. c .if1 .taken (test-fits (now (a .entries)) (a .colours) (a .weights) (a .answers) e .threes)))
+    sym
+    (never-true _ (λ e. c .if1 .taken (test-fits (now (a .entries)) (a .colours) (a .weights) (a .answers) e .threes)))
 
 returns-2 : tie.Need-returns-2 Inv-loop μ-loop
 returns-2 c =

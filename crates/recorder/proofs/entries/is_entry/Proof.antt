@@ -1,4 +1,5 @@
--- `recorder::entries::is_entry` meets its contract: of kind 0 the number of colours is asked, any other kind is to be 1.
+-- `recorder::entries::is_entry` meets its contract: of kind 0 the number of colours is asked, any other kind is to be
+-- 1.
 -- Assumes nothing.
 use mathlib.Core.Path.{_≡_, refl}
 use mathlib.Core.Bool.{Bool, true, false, _&&_, _||_}

@@ -1,4 +1,5 @@
--- `recorder::replay::all_entries` meets its contract: before each entry the replay stands where the entries passed led it.
+-- `recorder::replay::all_entries` meets its contract: before each entry the replay stands where the entries passed led
+-- it.
 -- Assumes nothing.
 use mathlib.Core.Path.{_≡_, sym, ap, _∙_}
 use mathlib.Core.List.{List}

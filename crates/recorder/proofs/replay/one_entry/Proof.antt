@@ -1,5 +1,5 @@
--- `recorder::replay::one_entry` meets its contract: a reload, a batch that its interval refuses, one that passes the limit
--- and one that is added.
+-- `recorder::replay::one_entry` meets its contract: a reload, a batch that its interval refuses, one that passes the
+-- limit and one that is added.
 -- Assumes nothing.
 use mathlib.Core.Path.{_≡_, sym, ap, _∙_}
 use Prim.Native.Nat.{ℕ, _<_}
