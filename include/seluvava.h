@@ -10,8 +10,10 @@
  *
  * load counts colours into a table, merge adds a second table into a first, compare tells where two tables differ, cut
  * makes of a table a palette of at most 256 colours and a map to it, and map and paint take the pixels of a frame to
- * that palette.
+ * that palette. begin, reload and batch record frames that were sampled at an interval, and replay does a whole list of
+ * such reloads and batches.
  * docs/CHOOSING.md has what to know first: which grid, what comes back inexactly, how to save a table.
+ * docs/INTERVALS.md has a recording as an example, with every answer.
  *
  * GRID. Each call is told three sizes, one for each component of a colour, each from 2, 4, 8, 16, 32, 64, 128.
  * The bin of component c at size s is c * s / 256, rounded down. With sizes b1, b2, b3, bin (r, g, b) stands at place
@@ -39,21 +41,24 @@
  * enough for each, as tests/stack.c measures. Of a C library the archive takes memcpy and memset and nothing else; a
  * program without one brings these two.
  *
- * ANSWERS. What load, merge, map and paint hand back, and compare and cut in `number`:
+ * ANSWERS. What load, merge, batch, map and paint hand back, and compare, begin, reload, replay and cut in `number`:
  *
  *   0  done
  *   1  a grid size not among the seven
  *   2  k outside 1..256
  *   3  colour bytes not a multiple of three
  *   4  weights given and not one per colour
- *   5  a lent length is wrong, or a band reaches past the frame
+ *   5  a lent length is wrong, a band reaches past the frame, or a recorded list is malformed
  *   6  a table is not sound
- *   7  the total after a load or merge would pass 4,294,967,295
+ *   7  the total after a load, a merge or a batch would pass 4,294,967,295
  *   8  cut of a table with total 0
  *   9  some entry of the map is not below the palette's length
+ *  13  an interval outside 1..4,096
+ *  14  the interval of a batch is not the one in force
  *
- * The lowest answer from 1 to 9 that applies is given; where none applies, the answer is 0. Any answer but 0 is a
- * refusal, which writes nothing: every lent byte stays as it was.
+ * The lowest answer from 1 to 9 that applies is given; where none applies, the answer is 0. 13 and 14 come before 1,
+ * in that order. No call answers 10, 11 or 12. Any answer but 0 is a refusal, which writes nothing: every lent byte
+ * stays as it was.
  */
 #ifndef SELUVAVA_H
 #define SELUVAVA_H
@@ -67,9 +72,9 @@ extern "C" {
 #endif
 
 /* The version of the calls, the crate for Rust and the pages. */
-#define SELUVAVA_VERSION "0.4.0"
+#define SELUVAVA_VERSION "0.5.0"
 #define SELUVAVA_VERSION_MAJOR 0
-#define SELUVAVA_VERSION_MINOR 4
+#define SELUVAVA_VERSION_MINOR 5
 #define SELUVAVA_VERSION_PATCH 0
 
 /* The three sizes for RGB, as every call takes them: 8,192 bins. */
@@ -137,6 +142,81 @@ seluvava_compare(size_t b1, size_t b2, size_t b3,
                  const uint64_t *first, size_t first_len,
                  const uint64_t *second, size_t second_len,
                  int64_t *differences, size_t differences_len);
+
+/*
+ * A session: the interval in force, from 1 to 4,096, and nothing else. It is a plain value that its caller keeps; the
+ * table is lent to each call. An interval of n says that of n frames one was sampled, so that each colour stands for n.
+ * Interval 0 is that of a session which was refused: under it every batch is refused.
+ */
+typedef struct seluvava_session {
+    uint32_t interval;
+} seluvava_session;
+
+/* What begin, reload and replay answer: the number, and the session from then on. */
+struct seluvava_session_answer {
+    uint8_t number;
+    seluvava_session session;
+};
+
+/*
+ * Begin: a session with an interval; refused, one with interval 0.
+ *
+ * Answers 0, 13.
+ */
+struct seluvava_session_answer seluvava_begin(uint32_t interval);
+
+/*
+ * Reload: the session with another interval in force; refused, the session as it was.
+ *
+ * Answers 0, 13.
+ */
+struct seluvava_session_answer seluvava_reload(seluvava_session session, uint32_t interval);
+
+/*
+ * Batch: adds colours to a table as load does, each weight multiplied by the interval. The batch says at which interval
+ * it was sampled, and is refused where that is not the one in force. Without weights each colour weighs the interval.
+ * The session stays as it is.
+ *
+ *   session   its interval is the one in force, whatever number it is.
+ *   interval  that of the batch.
+ *   table     5 * bins numbers, sound. Changed.
+ *   colours   three bytes per colour.
+ *   weighted  whether weights are given. If not, each colour has weight 1 before it is multiplied.
+ *   weights   one per colour if they are given. If not, any list, which is not looked at.
+ *
+ * Answers 0, 1, 3, 4, 5, 6, 7, 13, 14.
+ */
+uint8_t seluvava_batch(seluvava_session session, uint32_t interval,
+                       size_t b1, size_t b2, size_t b3,
+                       uint64_t *table, size_t table_len,
+                       const uint8_t *colours, size_t colours_len,
+                       bool weighted,
+                       const uint32_t *weights, size_t weights_len);
+
+/*
+ * Replay: begins with a first interval and takes the entries of a recorded list one after the other, each as the
+ * reload or the batch that it is. A refused entry changes nothing, its colours and weights are passed over, and the
+ * replay goes on. The table is looked at once, so that many small batches take little more than a large one.
+ *
+ *   first     the interval to begin with.
+ *   table     5 * bins numbers, sound. Changed: the accepted batches are added.
+ *   entries   three numbers per entry: kind (0 reload, 1 batch), interval, number of colours (0 for a reload).
+ *   colours   of all batches one after the other, refused ones too, three bytes per colour and no byte more.
+ *   weights   of all batches likewise, one per colour.
+ *   answers   at least one byte per entry. Entry i's answer, at place i: 0, 7, 13 or 14. Places past the entries stay
+ *             as they were.
+ *
+ * Answers 0, 1, 5, 6, 13, before any entry is taken: 13 is of the first interval, and 5 also of a kind other than 0 and
+ * 1 and of a reload with colours. A refusal answers interval 0. Otherwise the session has the interval that is in force
+ * after the last entry, and what the entries answered stands in their bytes alone.
+ */
+struct seluvava_session_answer
+seluvava_replay(uint32_t first, size_t b1, size_t b2, size_t b3,
+                uint64_t *table, size_t table_len,
+                const uint32_t *entries, size_t entries_len,
+                const uint8_t *colours, size_t colours_len,
+                const uint32_t *weights, size_t weights_len,
+                uint8_t *answers, size_t answers_len);
 
 /*
  * What a cut answers: its number, how many boxes there are, and in how many rounds they were found. A refusal has none

@@ -1,7 +1,7 @@
 /*
  * Every call of seluvava.h, held to docs/RULES.md: the cases P1 to P10, every number of every call, alone and two
- * at a time, lengths one off, NULL with length 0, bands, and batches and frames of every length up to 200; and all of it
- * once more with the processor's flush modes set.
+ * at a time, lengths one off, NULL with length 0, bands, batches and frames of every length up to 200, and every
+ * recorded list of up to three entries out of ten; and all of it once more with the processor's flush modes set.
  * What a lent buffer must hold afterwards is said here once more, in C, by the same rules.
  */
 #define _DEFAULT_SOURCE
@@ -18,19 +18,21 @@
 /* ---- What a call is asked with */
 
 enum buffer {
-    TABLE, SECOND, DIFFERENCES, WORK, COLOURS, WEIGHTS, PALETTE, COUNTS, REMAINDERS, MAP, BOXES, SPREADS, FRAME, INDICES,
-    BUFFERS
+    TABLE, SECOND, DIFFERENCES, WORK, COLOURS, WEIGHTS, ENTRIES, ANSWERS, PALETTE, COUNTS, REMAINDERS, MAP, BOXES,
+    SPREADS, FRAME, INDICES, BUFFERS
 };
 
-/* Numbers, and the length and content of each buffer. Grids have at most 64 bins here. */
+/* Numbers, and the length and content of each buffer. Grids have at most 64 bins here. `own` is the interval of a batch
+ * and the first one of a replay. */
 struct asked {
     size_t b1, b2, b3, k, weighted, told, first, pixels;
+    uint32_t in_force, own;
     size_t length[BUFFERS];
     uint64_t table[321], second[321], work[321];
     int64_t differences[321];
     uint8_t colours[3 * PIXELS];
-    uint32_t weights[PIXELS];
-    uint8_t palette[780];
+    uint32_t weights[PIXELS], entries[24];
+    uint8_t answers[12], palette[780];
     uint32_t counts[260], remainders[780];
     uint8_t map[65], boxes[1560];
     double spreads[260];
@@ -46,6 +48,7 @@ static const struct {
     [TABLE] = {"table", AT(table), 8},       [SECOND] = {"second", AT(second), 8},
     [WORK] = {"work", AT(work), 8},          [DIFFERENCES] = {"differences", AT(differences), 8},
     [COLOURS] = {"colours", AT(colours), 1}, [WEIGHTS] = {"weights", AT(weights), 4},
+    [ENTRIES] = {"entries", AT(entries), 4}, [ANSWERS] = {"answers", AT(answers), 1},
     [PALETTE] = {"palette", AT(palette), 1}, [COUNTS] = {"counts", AT(counts), 4},
     [MAP] = {"map", AT(map), 1},             [REMAINDERS] = {"remainders", AT(remainders), 4},
     [BOXES] = {"boxes", AT(boxes), 1},       [SPREADS] = {"spreads", AT(spreads), 8},
@@ -53,7 +56,7 @@ static const struct {
 };
 
 /* Which buffers a call is lent, and which of them it may change. */
-enum call { LOAD, MERGE, COMPARE, CUT, MAPPING, PAINT, CALLS };
+enum call { LOAD, MERGE, COMPARE, BATCH, REPLAY, CUT, MAPPING, PAINT, CALLS };
 #define BIT(n) (1u << (n))
 #define RESULTS (BIT(PALETTE) | BIT(COUNTS) | BIT(REMAINDERS) | BIT(MAP) | BIT(BOXES) | BIT(SPREADS))
 
@@ -64,6 +67,9 @@ static const struct {
     [LOAD] = {"load", BIT(TABLE) | BIT(COLOURS) | BIT(WEIGHTS), BIT(TABLE)},
     [MERGE] = {"merge", BIT(TABLE) | BIT(SECOND), BIT(TABLE)},
     [COMPARE] = {"compare", BIT(TABLE) | BIT(SECOND) | BIT(DIFFERENCES), BIT(DIFFERENCES)},
+    [BATCH] = {"batch", BIT(TABLE) | BIT(COLOURS) | BIT(WEIGHTS), BIT(TABLE)},
+    [REPLAY] = {"replay", BIT(TABLE) | BIT(ENTRIES) | BIT(COLOURS) | BIT(WEIGHTS) | BIT(ANSWERS),
+                BIT(TABLE) | BIT(ANSWERS)},
     [CUT] = {"cut", BIT(TABLE) | BIT(WORK) | RESULTS, BIT(WORK) | RESULTS},
     [MAPPING] = {"map", BIT(MAP) | BIT(FRAME) | BIT(INDICES), BIT(INDICES)},
     [PAINT] = {"paint", BIT(MAP) | BIT(PALETTE) | BIT(FRAME), BIT(FRAME)},
@@ -73,11 +79,12 @@ static const struct {
 struct answer {
     unsigned number;
     size_t boxes, rounds, differ, first;
+    uint32_t interval;
 };
 
 static struct answer answer_of(enum call call, const struct asked *q, void *const *at)
 {
-    struct answer answer = {0, 0, 0, 0, 0};
+    struct answer answer = {0, 0, 0, 0, 0, 0};
     const size_t b1 = q->b1, b2 = q->b2, b3 = q->b3, *length = q->length;
     switch (call) {
     case LOAD:
@@ -91,7 +98,18 @@ static struct answer answer_of(enum call call, const struct asked *q, void *cons
         const struct seluvava_compare_answer compared =
             seluvava_compare(b1, b2, b3, at[TABLE], length[TABLE], at[SECOND], length[SECOND], at[DIFFERENCES],
                              length[DIFFERENCES]);
-        answer = (struct answer){compared.number, 0, 0, compared.differ, compared.first};
+        answer = (struct answer){compared.number, 0, 0, compared.differ, compared.first, 0};
+        break;
+    }
+    case BATCH:
+        answer.number = seluvava_batch((seluvava_session){q->in_force}, q->own, b1, b2, b3, at[TABLE], length[TABLE],
+                                       at[COLOURS], length[COLOURS], q->weighted != 0, at[WEIGHTS], length[WEIGHTS]);
+        break;
+    case REPLAY: {
+        const struct seluvava_session_answer replayed =
+            seluvava_replay(q->own, b1, b2, b3, at[TABLE], length[TABLE], at[ENTRIES], length[ENTRIES],
+                            at[COLOURS], length[COLOURS], at[WEIGHTS], length[WEIGHTS], at[ANSWERS], length[ANSWERS]);
+        answer = (struct answer){replayed.number, 0, 0, 0, 0, replayed.session.interval};
         break;
     }
     case CUT: {
@@ -100,7 +118,7 @@ static struct answer answer_of(enum call call, const struct asked *q, void *cons
                          at[PALETTE], length[PALETTE], at[COUNTS], length[COUNTS],
                          at[REMAINDERS], length[REMAINDERS], at[MAP], length[MAP],
                          at[BOXES], length[BOXES], at[SPREADS], length[SPREADS]);
-        answer = (struct answer){cut.number, cut.boxes, cut.rounds, 0, 0};
+        answer = (struct answer){cut.number, cut.boxes, cut.rounds, 0, 0, 0};
         break;
     }
     case MAPPING:
@@ -121,17 +139,63 @@ static size_t place(const struct asked *q, const uint8_t *c)
     return (c[0] * q->b1 / 256 * q->b2 + c[1] * q->b2 / 256) * q->b3 + c[2] * q->b3 / 256;
 }
 
-static void loaded(struct asked *q)
+/* Colours from one on, each weight multiplied. */
+static void added(struct asked *q, size_t from, size_t colours, bool weighted, uint64_t scale)
 {
-    for (size_t i = 0; i < q->length[COLOURS] / 3; i++) {
+    for (size_t i = from; i < from + colours; i++) {
         const uint8_t *c = q->colours + 3 * i;
-        uint64_t *cell = q->table + 5 * place(q, c), w = q->weighted ? q->weights[i] : 1;
+        uint64_t *cell = q->table + 5 * place(q, c), w = scale * (weighted ? q->weights[i] : 1);
         cell[0] += w;
         for (size_t d = 0; d < 3; d++) {
             cell[1 + d] += w * c[d];
             cell[4] += w * c[d] * c[d];
         }
     }
+}
+
+static void loaded(struct asked *q)
+{
+    added(q, 0, q->length[COLOURS] / 3, q->weighted != 0, 1);
+}
+
+static void batched(struct asked *q)
+{
+    added(q, 0, q->length[COLOURS] / 3, q->weighted != 0, q->own);
+}
+
+static bool is_interval(uint32_t interval)
+{
+    return 1 <= interval && interval <= 4096;
+}
+
+/* What a batch of a replay answers: its interval, then whether its total fits. No total here is past 2^64. */
+static unsigned batch_answer(const struct asked *q, uint32_t in_force, uint32_t interval, size_t from, size_t colours)
+{
+    uint64_t total = 0;
+    if (!is_interval(interval)) return 13;
+    if (interval != in_force) return 14;
+    for (size_t p = 0; p < q->length[TABLE]; p += 5) total += q->table[p];
+    for (size_t i = from; i < from + colours; i++) total += (uint64_t)interval * q->weights[i];
+    return total > LIMIT ? 7 : 0;
+}
+
+/* One entry after the other. */
+static void replayed(struct asked *q, uint32_t interval)
+{
+    uint32_t in_force = q->own;
+    size_t from = 0;
+    for (size_t i = 0; i < q->length[ENTRIES] / 3; i++) {
+        const uint32_t *entry = q->entries + 3 * i;
+        if (entry[0] == 0) {
+            q->answers[i] = is_interval(entry[1]) ? 0 : 13;
+            if (is_interval(entry[1])) in_force = entry[1];
+        } else {
+            q->answers[i] = (uint8_t)batch_answer(q, in_force, entry[1], from, entry[2]);
+            if (q->answers[i] == 0) added(q, from, entry[2], true, entry[1]);
+            from += entry[2];
+        }
+    }
+    check(interval == in_force, "interval %u is in force and not %u", in_force, interval);
 }
 
 static void merged(struct asked *q)
@@ -272,10 +336,13 @@ static struct answer ask(enum call call, struct asked *q, unsigned number, const
     answer = answer_of(call, q, at);
     check(answer.number == number, "answered %u and not %u", answer.number, number);
     if (number != 0)
-        check(!answer.boxes && !answer.rounds && !answer.differ && !answer.first, "a refusal told more than its number");
+        check(!answer.boxes && !answer.rounds && !answer.differ && !answer.first && !answer.interval,
+              "a refusal told more than its number");
     else if (call == LOAD) loaded(q);
     else if (call == MERGE) merged(q);
     else if (call == COMPARE) compared(q, answer.differ, answer.first);
+    else if (call == BATCH) batched(q);
+    else if (call == REPLAY) replayed(q, answer.interval);
     else if (call == CUT) cut(q, answer, at[BOXES], at[SPREADS]);
     else if (call == MAPPING) mapped(q);
     else painted(q);
@@ -391,15 +458,19 @@ static void ask_worked(const struct worked *w)
 /* ---- Every number of every call */
 
 /* What nothing refuses, over the grid 4,2,8, with no element lent that is not needed. Five colours of weights 3, 2, 7,
- * 0, 1 are in both tables, and are the batch and the frame. Behind them stand some noise and pixels of one colour. */
+ * 0, 1 are in both tables, and are the batch, those of the recorded list and the frame. Behind them stand some noise
+ * and pixels of one colour. Interval 3 is in force. The list has a batch, a reload and a batch that are accepted, a
+ * batch and a reload that are not, and one more batch that is. */
 static struct asked good(void)
 {
     static const uint8_t known[] = {10, 20, 5, 100, 5, 9, 255, 255, 255, 0, 128, 31, 200, 0, 64};
     static const uint32_t weights[] = {3, 2, 7, 0, 1};
+    static const uint32_t entries[] = {1, 3, 2, 0, 4096, 0, 1, 4096, 1, 1, 3, 1, 0, 4097, 0, 1, 4096, 1};
     struct asked q;
     uint32_t noise = 1;
     memset(&q, 0xa5, sizeof q);
     q.b1 = 4, q.b2 = 2, q.b3 = 8, q.k = 3, q.weighted = 1, q.told = 3, q.first = 1, q.pixels = 3;
+    q.in_force = q.own = 3;
     for (size_t i = 0; i < 3 * PIXELS; i++) {
         noise = noise * 1664525 + 1013904223;
         q.colours[i] = i < PIXELS ? (uint8_t)(noise >> 24) : 77;
@@ -407,6 +478,7 @@ static struct asked good(void)
     }
     memcpy(q.colours, known, sizeof known);
     memcpy(q.weights, weights, sizeof weights);
+    memcpy(q.entries, entries, sizeof entries);
     memcpy(q.frame, q.colours, sizeof q.frame);
     for (size_t i = 0; i < COUNT(q.map); i++) q.map[i] = (uint8_t)(i % 3);
     for (size_t i = 0; i < COUNT(q.palette); i++) q.palette[i] = (uint8_t)(7 * i);
@@ -414,6 +486,8 @@ static struct asked good(void)
     q.length[MAP] = 64;
     q.length[COLOURS] = q.length[FRAME] = 15;
     q.length[WEIGHTS] = q.length[INDICES] = 5;
+    q.length[ENTRIES] = COUNT(entries);
+    q.length[ANSWERS] = COUNT(entries) / 3;
     q.length[PALETTE] = q.length[REMAINDERS] = 9;
     q.length[COUNTS] = q.length[SPREADS] = 3;
     q.length[BOXES] = 18;
@@ -426,20 +500,31 @@ static struct asked good(void)
 #define PUT(member, value) AT(member), value
 #define ALL (BIT(CALLS) - 1)
 #define TWO (BIT(MERGE) | BIT(COMPARE))
-#define TABLES (BIT(LOAD) | TWO | BIT(CUT))
+#define LOADS (BIT(LOAD) | BIT(BATCH))
+#define TABLES (LOADS | TWO | BIT(REPLAY) | BIT(CUT))
 #define FRAMES (BIT(MAPPING) | BIT(PAINT))
 
 /* Who looks at 32 bits alone takes it for n. */
 #define MORE_THAN(n) ((UINT64_C(1) << 32) + (n))
 
 /* One number of what is good, changed, and what each of these calls then answers. Place 16, from table[80] on, is the
- * bin of 64..127, 0..127, 0..31; it holds (100, 5, 9) with weight 2. */
+ * bin of 64..127, 0..127, 0..31; it holds (100, 5, 9) with weight 2. The total is 13, and that of a batch is 39. */
 static const struct change {
     unsigned calls, number;
     const char *what;
     size_t at, size;
     uint64_t to;
 } changes[] = {
+    {BIT(BATCH) | BIT(REPLAY), 13, "interval 0", PUT(own, 0)},
+    {BIT(BATCH) | BIT(REPLAY), 13, "interval 4,097", PUT(own, 4097)},
+    {BIT(BATCH) | BIT(REPLAY), 13, "interval 3 and 65,536", PUT(own, 65539)},
+    {BIT(BATCH) | BIT(REPLAY), 13, "interval the largest number", PUT(own, UINT32_MAX)},
+    {BIT(BATCH), 14, "interval 0 in force", PUT(in_force, 0)},
+    {BIT(BATCH), 14, "interval one less in force", PUT(in_force, 2)},
+    {BIT(BATCH), 14, "interval one more in force", PUT(in_force, 4)},
+    {BIT(BATCH), 14, "interval 3 and 65,536 in force", PUT(in_force, 65539)},
+    {BIT(BATCH), 14, "interval 1", PUT(own, 1)},
+    {BIT(BATCH), 14, "interval 4,096", PUT(own, 4096)},
     {ALL, 1, "first size 1", PUT(b1, 1)},
     {ALL, 1, "first size 4 and 2^32", PUT(b1, MORE_THAN(4))},
     {ALL, 1, "second size 0", PUT(b2, 0)},
@@ -450,14 +535,14 @@ static const struct change {
     {BIT(CUT), 2, "k 257", PUT(k, 257)},
     {BIT(CUT), 2, "k 3 and 2^32", PUT(k, MORE_THAN(3))},
     {BIT(CUT), 2, "k the largest number", PUT(k, SIZE_MAX)},
-    {BIT(LOAD), 3, "colours one byte short", PUT(length[COLOURS], 14)},
-    {BIT(LOAD), 3, "colours one byte long", PUT(length[COLOURS], 16)},
+    {LOADS, 3, "colours one byte short", PUT(length[COLOURS], 14)},
+    {LOADS, 3, "colours one byte long", PUT(length[COLOURS], 16)},
     {FRAMES, 3, "frame one byte short", PUT(length[FRAME], 14)},
     {FRAMES, 3, "frame one byte long", PUT(length[FRAME], 16)},
-    {BIT(LOAD), 4, "weights one short", PUT(length[WEIGHTS], 4)},
-    {BIT(LOAD), 4, "weights one long", PUT(length[WEIGHTS], 6)},
-    {BIT(LOAD), 4, "no weights", PUT(length[WEIGHTS], 0)},
-    {BIT(LOAD), 4, "one colour", PUT(length[COLOURS], 3)},
+    {LOADS, 4, "weights one short", PUT(length[WEIGHTS], 4)},
+    {LOADS, 4, "weights one long", PUT(length[WEIGHTS], 6)},
+    {LOADS, 4, "no weights", PUT(length[WEIGHTS], 0)},
+    {LOADS, 4, "one colour", PUT(length[COLOURS], 3)},
     {ALL, 5, "another grid", PUT(b1, 2)},
     {TABLES, 5, "table one short", PUT(length[TABLE], 319)},
     {TABLES, 5, "table one long", PUT(length[TABLE], 321)},
@@ -468,6 +553,30 @@ static const struct change {
     {BIT(COMPARE), 5, "differences one short", PUT(length[DIFFERENCES], 319)},
     {BIT(COMPARE), 5, "differences one long", PUT(length[DIFFERENCES], 321)},
     {BIT(COMPARE), 5, "no differences", PUT(length[DIFFERENCES], 0)},
+    {BIT(REPLAY), 5, "colours one byte short", PUT(length[COLOURS], 14)},
+    {BIT(REPLAY), 5, "colours one byte long", PUT(length[COLOURS], 16)},
+    {BIT(REPLAY), 5, "one colour less", PUT(length[COLOURS], 12)},
+    {BIT(REPLAY), 5, "one colour more", PUT(length[COLOURS], 18)},
+    {BIT(REPLAY), 5, "no colours", PUT(length[COLOURS], 0)},
+    {BIT(REPLAY), 5, "weights one short", PUT(length[WEIGHTS], 4)},
+    {BIT(REPLAY), 5, "weights one long", PUT(length[WEIGHTS], 6)},
+    {BIT(REPLAY), 5, "no weights", PUT(length[WEIGHTS], 0)},
+    {BIT(REPLAY), 5, "entries one short", PUT(length[ENTRIES], 17)},
+    {BIT(REPLAY), 5, "entries one long", PUT(length[ENTRIES], 19)},
+    {BIT(REPLAY), 5, "one entry less", PUT(length[ENTRIES], 15)},
+    {BIT(REPLAY), 5, "no entries", PUT(length[ENTRIES], 0)},
+    {BIT(REPLAY), 5, "answers one byte short", PUT(length[ANSWERS], 5)},
+    {BIT(REPLAY), 5, "no answers", PUT(length[ANSWERS], 0)},
+    {BIT(REPLAY), 5, "kind 2", PUT(entries[0], 2)},
+    {BIT(REPLAY), 5, "kind the largest number", PUT(entries[15], UINT32_MAX)},
+    {BIT(REPLAY), 5, "kind 65,536", PUT(entries[3], 65536)},
+    {BIT(REPLAY), 5, "a reload in the place of a batch", PUT(entries[0], 0)},
+    {BIT(REPLAY), 5, "a reload with a colour", PUT(entries[5], 1)},
+    {BIT(REPLAY), 5, "a refused reload with a colour", PUT(entries[14], 1)},
+    {BIT(REPLAY), 5, "a batch of one colour less", PUT(entries[2], 1)},
+    {BIT(REPLAY), 5, "a batch of two colours more", PUT(entries[17], 3)},
+    {BIT(REPLAY), 5, "a refused batch of no colour", PUT(entries[11], 0)},
+    {BIT(REPLAY), 5, "a batch of 2^32 - 1 colours", PUT(entries[8], UINT32_MAX)},
     {BIT(CUT), 5, "work table one short", PUT(length[WORK], 319)},
     {BIT(CUT), 5, "work table one long", PUT(length[WORK], 321)},
     {BIT(CUT), 5, "no work table", PUT(length[WORK], 0)},
@@ -512,8 +621,11 @@ static const struct change {
     {TWO, 6, "squares of the second table 0 beside a weight", PUT(second[84], 0)},
     {TWO, 6, "weights of the second table past the limit", PUT(second[0], LIMIT - 9)},
     {BIT(LOAD), 7, "total one past the limit", PUT(weights[2], LIMIT - 18)},
-    {BIT(LOAD), 7, "weight that is the limit", PUT(weights[4], LIMIT)},
-    {BIT(LOAD) | BIT(MERGE), 7, "full table", PUT(table[0], LIMIT - 10)},
+    {BIT(BATCH), 7, "total one past the limit", PUT(weights[2], (LIMIT - 30) / 3)},
+    {BIT(BATCH), 7, "total one past the limit with the table's", PUT(table[0], LIMIT - 48)},
+    {BIT(BATCH), 7, "weight that is 2 when multiplied in 32 bits", PUT(weights[1], (LIMIT + 3) / 3)},
+    {LOADS, 7, "weight that is the limit", PUT(weights[4], LIMIT)},
+    {LOADS | BIT(MERGE), 7, "full table", PUT(table[0], LIMIT - 10)},
     {BIT(MERGE), 7, "total one past the limit", PUT(second[0], LIMIT - 22)},
     {FRAMES, 9, "the map's first entry the palette's length", PUT(map[0], 3)},
     {FRAMES, 9, "the map's last entry 255", PUT(map[63], 255)},
@@ -523,12 +635,30 @@ static const struct change {
     {TABLES, 0, "sum at n * high", PUT(table[81], 254)},
     {TABLES, 0, "squares at n * the squared lows", PUT(table[84], 8192)},
     {TABLES, 0, "squares at n * the squared highs", PUT(table[84], 66438)},
-    {BIT(COMPARE) | BIT(CUT), 0, "full table", PUT(table[0], LIMIT - 10)},
+    {BIT(COMPARE) | BIT(REPLAY) | BIT(CUT), 0, "full table", PUT(table[0], LIMIT - 10)},
     {BIT(COMPARE), 0, "full second table", PUT(second[0], LIMIT - 10)},
     {BIT(COMPARE), 0, "another sum in the second table", PUT(second[81], 201)},
     {BIT(COMPARE), 0, "other squares in the second table", PUT(second[84], 20001)},
     {BIT(LOAD), 0, "total at the limit", PUT(weights[2], LIMIT - 19)},
+    {BIT(BATCH), 0, "total two below the limit", PUT(weights[2], (LIMIT - 33) / 3)},
+    {BIT(BATCH), 0, "total at the limit with the table's", PUT(table[0], LIMIT - 49)},
     {BIT(MERGE), 0, "total at the limit", PUT(second[0], LIMIT - 23)},
+    {BIT(REPLAY), 0, "first interval 1", PUT(own, 1)},
+    {BIT(REPLAY), 0, "first interval 4,096", PUT(own, 4096)},
+    {BIT(REPLAY), 0, "interval 7 in force before", PUT(in_force, 7)},
+    {BIT(REPLAY), 0, "weights not said to be given", PUT(weighted, 0)},
+    {BIT(REPLAY), 0, "a batch at interval 0", PUT(entries[1], 0)},
+    {BIT(REPLAY), 0, "a batch at interval 4,097", PUT(entries[7], 4097)},
+    {BIT(REPLAY), 0, "a batch at an interval not in force", PUT(entries[16], 4095)},
+    {BIT(REPLAY), 0, "a reload to interval 0", PUT(entries[4], 0)},
+    {BIT(REPLAY), 0, "a reload to the interval in force", PUT(entries[4], 3)},
+    {BIT(REPLAY), 0, "a last reload that is accepted", PUT(entries[13], 3)},
+    {BIT(REPLAY), 0, "a first batch too heavy", PUT(weights[0], LIMIT / 3)},
+    {BIT(REPLAY), 0, "a batch whose weight is 0 when multiplied in 32 bits", PUT(weights[2], UINT64_C(1) << 20)},
+    {BIT(REPLAY), 0, "a last batch too heavy", PUT(weights[4], LIMIT)},
+    {BIT(REPLAY), 0, "room for the first batch alone", PUT(table[0], LIMIT - 25)},
+    {BIT(REPLAY), 0, "no room for the first batch by one", PUT(table[0], LIMIT - 24)},
+    {BIT(REPLAY), 0, "answers three bytes long", PUT(length[ANSWERS], 9)},
     {BIT(CUT), 0, "k 1", PUT(k, 1)},
     {BIT(CUT) | BIT(PAINT), 0, "palette of 256 colours", PUT(length[PALETTE], 768)},
     {BIT(CUT), 0, "palette one byte long", PUT(length[PALETTE], 10)},
@@ -544,7 +674,13 @@ static void change(struct asked *q, const struct change *c)
     memcpy((unsigned char *)q + c->at, &c->to, c->size);
 }
 
-/* Each change alone, and each two refusals together: the lower number is given. */
+/* Whether an answer comes before another: 13 and 14 before 1. */
+static bool comes_before(unsigned one, unsigned two)
+{
+    return (one + 3) % 16 < (two + 3) % 16;
+}
+
+/* Each change alone, and each two refusals together: the one that comes before the other is given. */
 static void ask_changed(enum call call)
 {
     struct asked q = good();
@@ -559,7 +695,7 @@ static void ask_changed(enum call call)
             q = good();
             change(&q, one);
             change(&q, two);
-            ask(call, &q, one->number < two->number ? one->number : two->number, one->what, two->what);
+            ask(call, &q, comes_before(one->number, two->number) ? one->number : two->number, one->what, two->what);
         }
     }
 }
@@ -653,6 +789,86 @@ static void ask_compared(void)
     }
 }
 
+/* ---- Sessions and recorded lists */
+
+static const uint32_t intervals[] = {0, 1, 2, 3, 4, 255, 256, 4095, 4096, 4097, 65536, 65539, 1u << 31, UINT32_MAX};
+
+static void session_is(struct seluvava_session_answer answer, unsigned number, uint32_t interval)
+{
+    check(answer.number == number, "answered %u and not %u", answer.number, number);
+    check(answer.session.interval == interval, "interval %u is in force and not %u", answer.session.interval, interval);
+}
+
+/* Begins with every interval and reloads to it; and batches at an interval that is in force and no interval. */
+static void ask_sessions(void)
+{
+    for (uint32_t interval = 0; interval <= 5000; interval++) {
+        const bool good = is_interval(interval);
+        now("begin, interval %u", interval);
+        session_is(seluvava_begin(interval), good ? 0 : 13, good ? interval : 0);
+        now("reload, interval %u", interval);
+        session_is(seluvava_reload((seluvava_session){7}, interval), good ? 0 : 13, good ? interval : 7);
+    }
+    for (size_t i = 0; i < COUNT(intervals); i++) {
+        for (size_t j = 0; j < COUNT(intervals); j++) {
+            const uint32_t old = intervals[i], new = intervals[j];
+            now("reload, interval %u, where %u was in force", new, old);
+            session_is(seluvava_reload((seluvava_session){old}, new), is_interval(new) ? 0 : 13,
+                       is_interval(new) ? new : old);
+            struct asked q = good();
+            q.in_force = old, q.own = new;
+            ask(BATCH, &q, !is_interval(new) ? 13 : new != old ? 14 : 0, "two intervals", "");
+        }
+    }
+}
+
+/* Every list of up to three entries out of these, with one byte more for answers than there are entries: while the
+ * table has room for everything, and while it has room for a weight of 5. Each colour weighs 1. */
+static void ask_lists(void)
+{
+    static const uint32_t known[][3] = {{0, 3, 0},    {0, 5, 0}, {0, 0, 0}, {0, 4097, 0}, {1, 3, 1},
+                                        {1, 4097, 1}, {1, 3, 0}, {1, 0, 2}, {1, 5, 1},    {1, 1, 4}};
+    for (size_t lists = 1, n = 0; n <= 3; n++, lists *= COUNT(known)) {
+        for (size_t list = 0; list < lists; list++) {
+            for (unsigned full = 0; full < 2; full++) {
+                struct asked q = good();
+                char words[40];
+                q.length[ENTRIES] = 3 * n;
+                q.length[ANSWERS] = n + 1;
+                q.length[WEIGHTS] = 0;
+                for (size_t i = 0, left = list; i < n; i++, left /= COUNT(known)) {
+                    memcpy(q.entries + 3 * i, known[left % COUNT(known)], sizeof *known);
+                    q.length[WEIGHTS] += q.entries[3 * i + 2];
+                }
+                q.length[COLOURS] = 3 * q.length[WEIGHTS];
+                for (size_t i = 0; i < COUNT(q.weights); i++) q.weights[i] = 1;
+                if (full) q.table[0] = LIMIT - 15;
+                snprintf(words, sizeof words, "list %zu of %zu entries", list, n);
+                ask(REPLAY, &q, 0, words, full ? "room for 5" : "");
+            }
+        }
+    }
+}
+
+/* Numbers of colours that are right when they are added up in 32 bits. */
+static void ask_counts(void)
+{
+    static const uint32_t counts[][3] = {{2147483650u, 2147483651u, 0},
+                                         {4294967295u, 3, 3},
+                                         {0, 4294967295u, 6},
+                                         {1431655770u, 1431655765u, 1431655766u},
+                                         {4294967295u, 4294967295u, 7}};
+    for (size_t i = 0; i < COUNT(counts); i++) {
+        struct asked q = good();
+        q.length[ENTRIES] = 9;
+        for (size_t j = 0; j < 3; j++) {
+            const uint32_t entry[] = {1, 3, counts[i][j]};
+            memcpy(q.entries + 3 * j, entry, sizeof entry);
+        }
+        ask(REPLAY, &q, 5, "numbers of colours that add up past 2^32", "");
+    }
+}
+
 /* ---- Batches, bands and frames of every length */
 
 /* Weights that are not given are not looked at, however many are lent. */
@@ -668,6 +884,19 @@ static void ask_plain(void)
         ask(LOAD, &q, 0, "no weights given", "total at the limit");
         q.length[COLOURS] = 3;
         ask(LOAD, &q, 7, "no weights given", "total one past the limit");
+        q = good();
+        q.weighted = 0;
+        q.in_force = q.own = 4096;
+        q.length[WEIGHTS] = lent;
+        memset(q.weights, 0xff, sizeof q.weights);
+        ask(BATCH, &q, 0, "no weights given", "some lent");
+        q = good();
+        q.weighted = 0;
+        q.length[WEIGHTS] = lent;
+        q.table[0] = LIMIT - 10 - q.length[COLOURS];
+        ask(BATCH, &q, 0, "no weights given", "total at the limit");
+        q.length[COLOURS] = 3;
+        ask(BATCH, &q, 7, "no weights given", "total past the limit");
     }
 }
 
@@ -713,6 +942,25 @@ static void ask_band(size_t frame, size_t first, size_t pixels, unsigned number)
     ask(MAPPING, &q, number, words, "256 colours");
 }
 
+/* A batch with weights; and so many colours as a replay of one batch and of three, the one in the middle refused. */
+static void ask_split(size_t pixels, const char *words)
+{
+    const uint32_t all = (uint32_t)pixels, third = all / 3, half = all / 2;
+    const uint32_t entries[][9] = {{1, 3, all}, {1, 3, third, 1, 4, half, 1, 3, all - third - half}};
+    for (size_t i = 0; i < COUNT(entries); i++) {
+        struct asked q = good();
+        q.length[COLOURS] = 3 * pixels;
+        q.length[WEIGHTS] = pixels;
+        q.length[ENTRIES] = i ? 9 : 3;
+        memcpy(q.entries, entries[i], sizeof entries[i]);
+        ask(REPLAY, &q, 0, words, i ? "three batches" : "one batch");
+        ask(BATCH, &q, 0, words, "weights");
+        memset(q.weights, 0xff, sizeof q.weights);
+        ask(REPLAY, &q, 0, words, "weights at the limit");
+        ask(BATCH, &q, pixels ? 7 : 0, words, "weights at the limit");
+    }
+}
+
 static void ask_length(size_t pixels)
 {
     char words[120];
@@ -727,6 +975,8 @@ static void ask_length(size_t pixels)
     ask(LOAD, &q, pixels ? 7 : 0, words, "weights at the limit");
     q.weighted = 0;
     ask(LOAD, &q, 0, words, "no weights");
+    ask(BATCH, &q, 0, words, "no weights");
+    ask_split(pixels, words);
     q.k = pixels + 1;
     q.length[PALETTE] = 3 * q.k;
     q.length[COUNTS] = q.length[SPREADS] = q.k;
@@ -760,6 +1010,9 @@ static void ask_all(void)
     ask_empty();
     ask_squares();
     ask_compared();
+    ask_sessions();
+    ask_lists();
+    ask_counts();
     ask_plain();
     for (size_t i = 0; i < COUNT(bands); i++)
         ask_band(bands[i].frame, bands[i].first, bands[i].pixels, bands[i].number);

@@ -17,6 +17,7 @@
 #define BINS (B1 * B2 * B3)
 #define PIXELS 4096
 #define K 256
+#define BATCHES 64
 
 /* All that is lent, and the last answer. */
 struct lent {
@@ -24,6 +25,8 @@ struct lent {
     int64_t differences[5 * BINS];
     uint8_t frame[3 * PIXELS], indices[PIXELS];
     uint32_t weights[PIXELS], counts[K], remainders[3 * K];
+    uint32_t entries[6 * BATCHES];
+    uint8_t answers[2 * BATCHES];
     uint8_t palette[3 * K], map[BINS], boxes[6 * K];
     double spreads[K];
     size_t answer, found;
@@ -67,6 +70,33 @@ static void compare(struct lent *l)
     l->answer = answer.number;
 }
 
+static void begin(struct lent *l)
+{
+    l->answer = seluvava_begin(3).session.interval;
+}
+
+static void reload(struct lent *l)
+{
+    l->answer = seluvava_reload((seluvava_session){3}, 5).session.interval;
+}
+
+static void batch(struct lent *l)
+{
+    l->answer = seluvava_batch((seluvava_session){3}, 3, B1, B2, B3, l->table, COUNT(l->table), l->frame,
+                               COUNT(l->frame), true, l->weights, COUNT(l->weights));
+}
+
+/* Batches of equal length, each after a reload to its interval. */
+static void replay(struct lent *l)
+{
+    for (uint32_t i = 0; i < BATCHES; i++) {
+        const uint32_t two[] = {0, 1 + i % 7, 0, 1, 1 + i % 7, PIXELS / BATCHES};
+        memcpy(l->entries + 6 * i, two, sizeof two);
+    }
+    l->answer = seluvava_replay(3, B1, B2, B3, l->second, COUNT(l->second), l->entries, COUNT(l->entries), l->frame,
+                                COUNT(l->frame), l->weights, COUNT(l->weights), l->answers, COUNT(l->answers)).number;
+}
+
 static void cut(struct lent *l)
 {
     const struct seluvava_cut_answer answer =
@@ -94,8 +124,9 @@ static const struct call {
     void (*make)(struct lent *);
     size_t answer;
 } calls[] = {
-    {"bins", bins, BINS}, {"numbers", numbers, 5 * BINS}, {"load", load, 0}, {"load with weights", load_weighted, 0},
-    {"merge", merge, 0},  {"compare", compare, 0},        {"cut", cut, 0},   {"map", map, 0},
+    {"bins", bins, BINS},  {"numbers", numbers, 5 * BINS}, {"load", load, 0},   {"load with weights", load_weighted, 0},
+    {"merge", merge, 0},   {"compare", compare, 0},        {"begin", begin, 3}, {"reload", reload, 5},
+    {"batch", batch, 0},   {"replay", replay, 0},          {"cut", cut, 0},     {"map", map, 0},
     {"paint", paint, 0},
 };
 

@@ -5,10 +5,13 @@
 //! and the template gives no reason, the run fails.
 mod inputs;
 mod measure;
+#[cfg(feature = "original")]
+mod one_load;
 mod ours;
 mod page;
 #[cfg(feature = "original")]
 mod plain;
+mod recording;
 mod report;
 mod side;
 #[cfg(feature = "original")]

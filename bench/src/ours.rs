@@ -1,12 +1,15 @@
 //! Our side: the calls of the archive, on tables that stay from run to run.
-use crate::side::{Answer, Lent, MOST, Operation, Side, Sizes, touch};
+use crate::{
+    recording::Recording,
+    side::{Answer, Lent, MOST, Operation, Side, Sizes, touch},
+};
 use seluvava_sys::{
     seluvava_bins, seluvava_compare, seluvava_cut, seluvava_load, seluvava_map, seluvava_merge,
     seluvava_paint, seluvava_table_len,
 };
 
 /// Adds a frame to a table, with weights where any are given.
-fn load([b1, b2, b3]: Sizes, table: &mut [u64], frame: &[[u8; 3]], weights: Option<&[u32]>) {
+pub fn load([b1, b2, b3]: Sizes, table: &mut [u64], frame: &[[u8; 3]], weights: Option<&[u32]>) {
     let colours = frame.as_flattened();
     let given = weights.unwrap_or_default();
     let number = unsafe {
@@ -192,6 +195,7 @@ pub struct Ours {
     second: Vec<u64>,
     differences: Vec<i64>,
     told: (usize, usize),
+    recording: Recording,
     cut: Cut,
     /// What maps and paints read.
     kept: Cut,
@@ -211,6 +215,7 @@ impl Ours {
             table,
             differences: vec![0; loaded.len()],
             told: (0, 0),
+            recording: Recording::new(),
             loaded,
             second,
             cut,
@@ -231,6 +236,10 @@ impl Side for Ours {
     fn prepare(&mut self, operation: Operation) {
         match operation {
             Operation::Load | Operation::LoadWeighted => self.table.fill(0),
+            Operation::Replay => {
+                self.table.fill(0);
+                self.recording.prepare();
+            }
             Operation::Merge => {
                 touch(&self.second);
                 self.table.copy_from_slice(&self.loaded);
@@ -264,6 +273,7 @@ impl Side for Ours {
             Operation::Compare => {
                 self.told = compare(sizes, &self.loaded, &self.second, &mut self.differences);
             }
+            Operation::Replay => self.recording.replay(sizes, &mut self.table, lent),
             Operation::Moments => self.cut.run(sizes, 1, &self.loaded),
             Operation::Cut(k) => self.cut.run(sizes, k, &self.loaded),
             Operation::Map => self.kept.map(sizes, lent),
@@ -287,6 +297,10 @@ impl Side for Ours {
                 answer.numbers.extend(&self.table);
             }
             Operation::Compare => answer.compared(&self.differences, self.told),
+            Operation::Replay => {
+                self.recording.check();
+                answer.numbers.extend(&self.table);
+            }
             Operation::Moments => answer.numbers.extend(&self.cut.work),
             Operation::Cut(_) | Operation::Whole { .. } => {
                 let counts = &self.cut.counts[..self.cut.found];

@@ -10,6 +10,8 @@ pub enum Operation {
     LoadWeighted,
     Merge,
     Compare,
+    /// A recorded list; the other side is one load of the same colours.
+    Replay,
     Moments,
     Cut(usize),
     Map,
@@ -20,11 +22,12 @@ pub enum Operation {
     },
 }
 
-pub const OPERATIONS: [Operation; 11] = [
+pub const OPERATIONS: [Operation; 12] = [
     Operation::Load,
     Operation::LoadWeighted,
     Operation::Merge,
     Operation::Compare,
+    Operation::Replay,
     Operation::Moments,
     Operation::Cut(16),
     Operation::Cut(256),
@@ -44,6 +47,7 @@ impl fmt::Display for Operation {
             Operation::LoadWeighted => f.write_str("load with weights"),
             Operation::Merge => f.write_str("merge"),
             Operation::Compare => f.write_str("compare"),
+            Operation::Replay => f.write_str("replay"),
             Operation::Moments => f.write_str("moments (ours: cut, k = 1)"),
             Operation::Cut(k) => write!(f, "cut, k = {k}"),
             Operation::Map => f.write_str("map"),
@@ -80,7 +84,7 @@ impl Lent {
     pub fn reset(&mut self, operation: Operation) {
         match operation {
             Operation::Load => touch(&self.frame),
-            Operation::LoadWeighted => {
+            Operation::LoadWeighted | Operation::Replay => {
                 touch(&self.frame);
                 touch(&self.weights);
             }

@@ -1,5 +1,6 @@
 //! The other side: the original's text, on histograms that stay from run to run.
 use crate::{
+    one_load::OneLoad,
     plain::Plain,
     side::{Answer, Lent, MOST, Operation, Side, Sizes, touch},
 };
@@ -32,6 +33,8 @@ struct Theirs<const B1: usize, const B2: usize, const B3: usize> {
     second: Narrow<B1, B2, B3>,
     /// The two as tables.
     plain: Plain,
+    /// What a replay is held to: it has no counterpart here.
+    one_load: OneLoad,
     cut: Option<Colours<B1, B2, B3>>,
     /// What maps and paints read.
     kept: WuU8x3ColorMap<[u8; 3], B1, B2, B3>,
@@ -83,6 +86,7 @@ impl<const B1: usize, const B2: usize, const B3: usize> Theirs<B1, B2, B3> {
             loaded,
             second,
             plain,
+            one_load: OneLoad::new([B1, B2, B3], &lent.weights),
             cut: None,
             kept,
         }
@@ -116,6 +120,7 @@ impl<const B1: usize, const B2: usize, const B3: usize> Side for Theirs<B1, B2, 
                 self.load_again();
             }
             Operation::Compare => self.plain.prepare(),
+            Operation::Replay => self.one_load.prepare(),
             Operation::Moments | Operation::Cut(_) if self.moments == Moments::OnACopy => {
                 self.clear();
                 touch(self.loaded.as_flattened());
@@ -134,6 +139,7 @@ impl<const B1: usize, const B2: usize, const B3: usize> Side for Theirs<B1, B2, 
             }
             Operation::Merge => self.run.narrow().merge(&self.second),
             Operation::Compare => self.plain.run(),
+            Operation::Replay => self.one_load.run(lent),
             Operation::Moments => self.make_moments(),
             Operation::Cut(k) => {
                 self.make_moments();
@@ -156,6 +162,7 @@ impl<const B1: usize, const B2: usize, const B3: usize> Side for Theirs<B1, B2, 
                 answer.numbers.extend(numbers(self.run.narrow()));
             }
             Operation::Compare => self.plain.answer(answer),
+            Operation::Replay => self.one_load.answer(answer),
             Operation::Cut(_) | Operation::Whole { .. } => {
                 let (colours, counts) = self.cut.as_ref().expect("a cut");
                 answer.numbers.extend(counts.iter().map(|&n| u64::from(n)));

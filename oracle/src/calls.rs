@@ -9,7 +9,7 @@ use crate::{
     original::palette_counts::CreatePaletteCountsErrorReason as Reason,
     port::{Band, CutAnswer, Grid, Port},
     random::Random,
-    tally::Tally,
+    tally::{CALLS, Tally},
 };
 
 /// The table of colours and weights, by Rules, Load; totals may be any.
@@ -21,11 +21,16 @@ pub fn table_of(grid: Grid, colors: &[[u8; 3]], weights: &[u32]) -> Vec<u64> {
 
 fn add(grid: Grid, table: &mut [u64], colors: &[[u8; 3]], weights: &[u32]) {
     for (&color, &w) in colors.iter().zip(weights) {
-        let place = numbers::place(grid, color);
-        let numbers = &mut table[5 * place..5 * place + 5];
-        for (n, more) in numbers.iter_mut().zip(numbers::added(color, w)) {
-            *n = n.wrapping_add(more);
-        }
+        add_one(grid, table, color, w.into());
+    }
+}
+
+/// Adds a colour of any weight.
+pub fn add_one(grid: Grid, table: &mut [u64], color: [u8; 3], w: u64) {
+    let place = numbers::place(grid, color);
+    let numbers = &mut table[5 * place..5 * place + 5];
+    for (n, more) in numbers.iter_mut().zip(numbers::added(color, w)) {
+        *n = n.wrapping_add(more);
     }
 }
 
@@ -278,8 +283,8 @@ pub fn calls(
         calls.map(port, r)?,
         calls.paint(port, r)?,
     ];
-    for (numbers, number) in tally.numbers.iter_mut().zip(answered) {
-        numbers[usize::from(number)] += 1;
+    for (call, number) in CALLS.iter().zip(answered) {
+        tally.count(call, number);
     }
     Ok(())
 }

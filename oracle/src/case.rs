@@ -15,6 +15,14 @@ pub enum Kind {
         split: usize,
         damages: Vec<Damage>,
     },
+    /// A recorded list replayed, and the calls of a session: the first `split` colours are in the table, and the others
+    /// are those of the entries.
+    Recordings {
+        split: usize,
+        first: u32,
+        entries: Vec<[u32; 3]>,
+        damages: Vec<Damage>,
+    },
 }
 
 /// One case. `seed` decides what stands in lent buffers, and how an input is shuffled and split.
@@ -55,6 +63,15 @@ fn write_colors(
     Ok(())
 }
 
+fn write_entries(f: &mut fmt::Formatter<'_>, first: u32, entries: &[[u32; 3]]) -> fmt::Result {
+    write!(f, "; first {first}; entries")?;
+    for (i, [kind, interval, colours]) in entries.iter().enumerate() {
+        let comma = if i == 0 { "" } else { "," };
+        write!(f, "{comma} {kind} {interval} {colours}")?;
+    }
+    Ok(())
+}
+
 fn write_damages(f: &mut fmt::Formatter<'_>, split: usize, damages: &[Damage]) -> fmt::Result {
     write!(f, "; split {split}; damages")?;
     for (i, d) in damages.iter().enumerate() {
@@ -87,6 +104,15 @@ impl fmt::Display for Case {
                 write!(f, "; from {from}")?;
                 write_damages(f, *split, damages)
             }
+            Kind::Recordings {
+                split,
+                first,
+                entries,
+                damages,
+            } => {
+                write_entries(f, *first, entries)?;
+                write_damages(f, *split, damages)
+            }
         }
     }
 }
@@ -103,6 +129,11 @@ fn colors(text: &str) -> impl Iterator<Item = ([u8; 3], u64)> {
         let [r, g, b, n] = numbers::<u64>(one).try_into().ok()?;
         Some(([r, g, b].map(|c| c as u8), n))
     })
+}
+
+fn entries(text: &str) -> Vec<[u32; 3]> {
+    let threes = text.split(',').map(numbers::<u32>);
+    threes.filter_map(|three| three.try_into().ok()).collect()
 }
 
 impl Case {
@@ -123,14 +154,20 @@ impl Case {
             let list = field("damages")?.split(',');
             Some(list.filter_map(Damage::of_text).collect())
         };
-        let kind = match (one("split"), one("from")) {
-            (Some(split), None) => Kind::Calls {
+        let kind = match (one("split"), one("from"), one("first")) {
+            (Some(split), None, None) => Kind::Calls {
                 split: split as usize,
                 damages: damages()?,
             },
-            (Some(split), Some(from)) => Kind::Nights {
+            (Some(split), Some(from), None) => Kind::Nights {
                 from: from as usize,
                 split: split as usize,
+                damages: damages()?,
+            },
+            (Some(split), None, Some(first)) => Kind::Recordings {
+                split: split as usize,
+                first: first as u32,
+                entries: entries(field("entries")?),
                 damages: damages()?,
             },
             _ => Kind::Whole {

@@ -1,5 +1,6 @@
 //! Makes the cases of each class.
 mod damages;
+mod recordings;
 
 use crate::{
     answer::{Input, grids},
@@ -28,7 +29,7 @@ const fn class(name: &'static str, cases: Cases) -> Class {
 }
 
 /// The classes; README.md says what their cases are.
-pub const CLASSES: [Class; 20] = [
+pub const CLASSES: [Class; 21] = [
     class("tiny", Cases::Random(tiny)),
     class("few", Cases::Random(few)),
     class("equal", Cases::Random(equal)),
@@ -45,6 +46,7 @@ pub const CLASSES: [Class; 20] = [
     class("calls", Cases::Random(sound_calls)),
     class("damaged", Cases::Random(damaged)),
     class("nights", Cases::Random(nights)),
+    class("recordings", Cases::Random(recordings::one)),
     class("width", Cases::Listed(width)),
     class("known", Cases::Listed(known)),
     class("corners", Cases::Listed(corners)),

@@ -1,10 +1,11 @@
-//! Runs one case: whole, call by call, or two tables compared.
+//! Runs one case: whole, call by call, two tables compared, or recorded by intervals.
 use crate::{
     buffer::Differs,
     calls::calls,
     case::{Case, Kind},
     nights::nights,
     port::Port,
+    recordings::recordings,
     tally::Tally,
     whole::whole,
 };
@@ -31,6 +32,15 @@ pub fn check(port: &dyn Port, case: &Case, tally: &mut Tally) -> Result<(), Diff
             split,
             damages,
         } => nights(port, case, *from, *split, damages, tally),
+        Kind::Recordings {
+            split,
+            first,
+            entries,
+            damages,
+        } => {
+            let list = (*first, entries.as_flattened());
+            recordings(port, case, *split, list, damages, tally)
+        }
     });
     catch_unwind(run).unwrap_or_else(|panic| Err(said(panic)))
 }

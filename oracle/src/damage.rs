@@ -2,7 +2,8 @@
 use std::fmt;
 
 /// One damage: a length off by `value`, a number of a table off by `value` at `place`, an entry of the map there,
-/// or a size, k, the colours told or a number of the band replaced by `value`.
+/// or a size, k, the colours told, a number of the band, the interval in force, a batch's own or a number of a recorded
+/// list replaced by `value`.
 #[derive(Clone, Copy, Debug, PartialEq)]
 pub struct Damage {
     pub what: &'static str,
@@ -18,6 +19,23 @@ pub const OF_NIGHTS: [&str; 6] = [
     "table",
     "second",
     "differences",
+];
+
+/// What can be damaged in a recorded list and in what is lent with it.
+pub const OF_RECORDINGS: [&str; 13] = [
+    "number",
+    "size",
+    "table",
+    "in-force",
+    "own",
+    "kind",
+    "listed-interval",
+    "listed-colours",
+    "entries",
+    "answers",
+    "colour-bytes",
+    "weights",
+    "weighted",
 ];
 
 /// What can be damaged in the calls one by one.
@@ -59,7 +77,11 @@ impl Damage {
         let mut words = text.split_whitespace();
         let name = words.next()?;
         Some(Self {
-            what: DAMAGES.into_iter().chain(OF_NIGHTS).find(|d| *d == name)?,
+            what: DAMAGES
+                .into_iter()
+                .chain(OF_NIGHTS)
+                .chain(OF_RECORDINGS)
+                .find(|d| *d == name)?,
             place: words.next()?.parse().ok()?,
             value: words.next()?.parse().ok()?,
         })

@@ -2,7 +2,7 @@
 //! It stands in the library's place where a mutant is to be caught, and shows whether a difference is the rules'.
 use crate::{
     numbers::{self, Lengths, added, bins, place},
-    port::{Band, CutAnswer, Grid, Lent, Port},
+    port::{Band, CutAnswer, Grid, Lent, Port, Recorded},
 };
 
 /// Min inclusive, max exclusive, and the spread.
@@ -318,5 +318,67 @@ impl Port for Model {
             }
         }
         (0, differ, place)
+    }
+
+    fn begin(&self, interval: u32) -> (u8, u32) {
+        self.reload(0, interval)
+    }
+
+    fn reload(&self, in_force: u32, interval: u32) -> (u8, u32) {
+        let number = numbers::interval(interval);
+        let later = if number == 0 { interval } else { in_force };
+        (number, later)
+    }
+
+    fn batch(
+        &self,
+        intervals: [u32; 2],
+        grid: Grid,
+        table: &mut [u64],
+        colours: &[u8],
+        weighted: bool,
+        weights: &[u32],
+    ) -> u8 {
+        let [_, interval] = intervals;
+        let number = numbers::batch(intervals, grid, table, colours.len(), weighted, weights);
+        if number == 0 {
+            for (i, &color) in colours.as_chunks::<3>().0.iter().enumerate() {
+                let w = if weighted { u64::from(weights[i]) } else { 1 };
+                let at = 5 * place(grid, color);
+                let w = w * u64::from(interval);
+                for (n, more) in table[at..at + 5].iter_mut().zip(added(color, w)) {
+                    *n += more;
+                }
+            }
+        }
+        number
+    }
+
+    fn replay(
+        &self,
+        first: u32,
+        grid: Grid,
+        table: &mut [u64],
+        recorded: Recorded<'_>,
+        answers: &mut [u8],
+    ) -> (u8, u32) {
+        let number = numbers::replay(first, grid, table, recorded, answers.len());
+        if number != 0 {
+            return (number, 0);
+        }
+        let (mut in_force, mut at) = (first, 0);
+        let entries = recorded.entries.as_chunks::<3>().0;
+        for (answer, &[kind, interval, count]) in answers.iter_mut().zip(entries) {
+            if kind == 0 {
+                (*answer, in_force) = self.reload(in_force, interval);
+                continue;
+            }
+            let part = at..at + count as usize;
+            let colours = &recorded.colours[3 * part.start..3 * part.end];
+            let weights = &recorded.weights[part.clone()];
+            *answer = self.batch([in_force, interval], grid, table, colours, true, weights);
+            at = part.end;
+        }
+        (0, in_force)
     }
 }

@@ -108,6 +108,6 @@ pub fn nights(
         nights.damage(d, r);
     }
     let number = nights.compare(port, r)?;
-    tally.numbers[5][usize::from(number)] += 1;
+    tally.count("compare", number);
     Ok(())
 }

@@ -1,6 +1,6 @@
 //! What a call answers, from docs/RULES.md (Rules, Grid; Rules, Sound; Rules, Answers; Rules, Lengths) and from nothing
 //! else. What a call is lent counts here by its length, unless its contents decide.
-use crate::port::{Band, Grid};
+use crate::port::{Band, Grid, Recorded};
 
 const SIZES: [usize; 7] = [2, 4, 8, 16, 32, 64, 128];
 
@@ -37,14 +37,14 @@ pub fn place([b1, b2, b3]: Grid, [r, g, b]: [u8; 3]) -> usize {
 }
 
 /// What a colour "adds w to n, w·c to each sum, w·(c1²+c2²+c3²) to the squares of its bin".
-pub fn added(color: [u8; 3], w: u32) -> [u64; 5] {
-    let w = u64::from(w);
+pub fn added(color: [u8; 3], w: impl Into<u64>) -> [u64; 5] {
+    let w = w.into();
     let [c1, c2, c3] = color.map(u64::from);
     [w, w * c1, w * c2, w * c3, w * (c1 * c1 + c2 * c2 + c3 * c3)]
 }
 
 /// The total of a sound table; none if it is not sound.
-fn sound(grid: Grid, table: &[u64]) -> Option<u128> {
+pub fn sound(grid: Grid, table: &[u64]) -> Option<u128> {
     let [_, b2, b3] = grid;
     let mut total = 0;
     for (place, numbers) in table.chunks_exact(5).enumerate() {
@@ -77,12 +77,36 @@ fn lowest(tests: &[(&dyn Fn() -> bool, u8)]) -> u8 {
 }
 
 pub fn load(grid: Grid, table: &[u64], colours: usize, weighted: bool, weights: &[u32]) -> u8 {
+    batch([1, 1], grid, table, colours, weighted, weights)
+}
+
+/// "An interval is a whole number from 1 to 4,096"
+fn is_interval(interval: u32) -> bool {
+    (1..=4096).contains(&interval)
+}
+
+/// What beginning with an interval answers, and reloading to it.
+pub fn interval(interval: u32) -> u8 {
+    lowest(&[(&|| !is_interval(interval), 13)])
+}
+
+/// What a batch answers; a load is one at interval 1. "13 and 14 come before 1, in that order"
+pub fn batch(
+    [in_force, interval]: [u32; 2],
+    grid: Grid,
+    table: &[u64],
+    colours: usize,
+    weighted: bool,
+    weights: &[u32],
+) -> u8 {
     let n = colours / 3;
     let batch = || match weighted {
-        true => weights.iter().map(|&w| u128::from(w)).sum(),
-        false => n as u128,
+        true => weights.iter().map(|&w| scaled(interval, w)).sum(),
+        false => n as u128 * scaled(interval, 1),
     };
     lowest(&[
+        (&|| !is_interval(interval), 13),
+        (&|| interval != in_force, 14),
         (&|| !is_grid(grid), 1),
         (&|| !colours.is_multiple_of(3), 3),
         (&|| weighted && weights.len() != n, 4),
@@ -92,6 +116,29 @@ pub fn load(grid: Grid, table: &[u64], colours: usize, weighted: bool, weights: 
             &|| sound(grid, table).is_some_and(|total| total + batch() > LARGEST_TOTAL),
             7,
         ),
+    ])
+}
+
+/// "each weight multiplied by the interval"
+pub fn scaled(interval: u32, weight: u32) -> u128 {
+    u128::from(interval) * u128::from(weight)
+}
+
+/// What a replay answers as a whole, with so many bytes for answers: "13 on its first interval, then 1, 5 and 6".
+pub fn replay(first: u32, grid: Grid, table: &[u64], recorded: Recorded<'_>, answers: usize) -> u8 {
+    let (entries, rest) = recorded.entries.as_chunks::<3>();
+    let colours = || entries.iter().map(|e| u128::from(e[2])).sum::<u128>();
+    lowest(&[
+        (&|| !is_interval(first), 13),
+        (&|| !is_grid(grid), 1),
+        (&|| table.len() != 5 * bins(grid), 5),
+        (&|| !rest.is_empty(), 5),
+        (&|| entries.iter().any(|e| ![0, 1].contains(&e[0])), 5),
+        (&|| entries.iter().any(|e| e[0] == 0 && e[2] != 0), 5),
+        (&|| recorded.colours.len() as u128 != 3 * colours(), 5),
+        (&|| recorded.weights.len() as u128 != colours(), 5),
+        (&|| answers < entries.len(), 5),
+        (&|| sound(grid, table).is_none(), 6),
     ])
 }
 

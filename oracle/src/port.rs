@@ -39,8 +39,16 @@ impl CutAnswer {
     }
 }
 
+/// What a replay reads: entries as numbers, and the colours and weights of all batches.
+#[derive(Clone, Copy)]
+pub struct Recorded<'a> {
+    pub entries: &'a [u32],
+    pub colours: &'a [u8],
+    pub weights: &'a [u32],
+}
+
 /// Each call answers its number; a cut its boxes and rounds too, a comparison how many bins differ and the place of the
-/// first that does.
+/// first that does, and what begins, reloads and replays the interval then in force.
 pub trait Port {
     /// How many bins a grid has and how many numbers its table, or twice 0 where a size is refused.
     fn sizes(&self, grid: Grid) -> (usize, usize);
@@ -63,6 +71,30 @@ pub trait Port {
         second: &[u64],
         differences: &mut [i64],
     ) -> (u8, usize, usize);
+
+    fn begin(&self, interval: u32) -> (u8, u32);
+
+    fn reload(&self, in_force: u32, interval: u32) -> (u8, u32);
+
+    /// `intervals` are the one in force and the batch's own.
+    fn batch(
+        &self,
+        intervals: [u32; 2],
+        grid: Grid,
+        table: &mut [u64],
+        colours: &[u8],
+        weighted: bool,
+        weights: &[u32],
+    ) -> u8;
+
+    fn replay(
+        &self,
+        first: u32,
+        grid: Grid,
+        table: &mut [u64],
+        recorded: Recorded<'_>,
+        answers: &mut [u8],
+    ) -> (u8, u32);
 
     fn cut(&self, grid: Grid, k: usize, table: &[u64], lent: Lent<'_>) -> CutAnswer;
 

@@ -7,7 +7,7 @@ use crate::{
     port::{Grid, Port},
     random::Random,
     shrink::shrink,
-    tally::Tally,
+    tally::{CALLS, Tally},
 };
 use std::{collections::HashSet, env, fs, panic, process::ExitCode, time::Instant};
 
@@ -109,11 +109,8 @@ fn report(name: &str, ran: &Ran, seconds: f64) {
             t.too_heavy
         );
     }
-    for (call, numbers) in ["load", "merge", "cut", "map", "paint", "compare"]
-        .iter()
-        .zip(t.numbers)
-    {
-        let answered: Vec<String> = (0..10)
+    for (call, numbers) in CALLS.iter().zip(t.numbers) {
+        let answered: Vec<String> = (0..numbers.len())
             .filter(|&n| numbers[n] > 0)
             .map(|n| format!("{n} {} times", numbers[n]))
             .collect();

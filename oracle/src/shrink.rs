@@ -2,6 +2,7 @@
 use crate::{
     answer::original,
     case::{Case, Kind},
+    damage::Damage,
     port::Band,
 };
 
@@ -49,17 +50,23 @@ pub fn shrink(case: &Case, differs: &dyn Fn(&Case) -> bool) -> Case {
     }
 }
 
-/// Whether the judge has the grid, k is in its bounds and the band in the frame. A comparison asks no original.
+/// Whether the judge has the grid, k is in its bounds and the band in the frame. A comparison and a recording ask no
+/// original.
 fn is_fit(case: &Case) -> bool {
     let pixels: usize = case.frame.iter().map(|f| f.1).sum();
     let colours = case.input.colors.len();
-    (original(case.grid).is_some() || matches!(case.kind, Kind::Nights { .. }))
+    let asked = !matches!(case.kind, Kind::Nights { .. } | Kind::Recordings { .. });
+    let any = case.grid.iter().all(|&size| size >= 2);
+    (original(case.grid).is_some() || any && !asked)
         && (1..=256).contains(&case.k)
         && case.band.first + case.band.pixels <= pixels
-        && match case.kind {
+        && match &case.kind {
             Kind::Whole { by_pixels, .. } => !by_pixels || case.input.total() > 0,
-            Kind::Calls { split, .. } => split <= colours,
-            Kind::Nights { from, split, .. } => from.max(split) <= colours,
+            Kind::Calls { split, .. } => *split <= colours,
+            Kind::Nights { from, split, .. } => *from.max(split) <= colours,
+            Kind::Recordings { split, entries, .. } => {
+                *split + entries.iter().map(|e| e[2] as usize).sum::<usize>() == colours
+            }
         }
 }
 
@@ -76,6 +83,15 @@ fn without(case: &Case, at: usize, count: usize) -> Case {
         Kind::Nights { from, split, .. } => {
             fewer(from);
             fewer(split);
+        }
+        Kind::Recordings { split, entries, .. } => {
+            let mut start = *split;
+            fewer(split);
+            for entry in entries {
+                let stop = start + entry[2] as usize;
+                entry[2] -= (stop.clamp(at, end) - start.clamp(at, end)) as u32;
+                start = stop;
+            }
         }
     }
     other
@@ -101,7 +117,22 @@ fn with(case: &Case, old: usize, put: impl Fn(&mut Case, usize)) -> Vec<Case> {
 /// Smaller grids first: what comes after is quicker there.
 const STEPS: [fn(&Case) -> Vec<Case>; 7] = [sizes, kinds, ks, weights, colors, frames, spares];
 
-/// Nothing by pixels, fewer batches, or fewer damages.
+/// The case with its recorded list changed.
+fn recorded(case: &Case, change: impl Fn(&mut u32, &mut Vec<[u32; 3]>, &mut Vec<Damage>)) -> Case {
+    let mut other = case.clone();
+    if let Kind::Recordings {
+        first,
+        entries,
+        damages,
+        ..
+    } = &mut other.kind
+    {
+        change(first, entries, damages);
+    }
+    other
+}
+
+/// Nothing by pixels, fewer batches, or fewer damages; fewer entries of a recorded list, or smaller intervals.
 fn kinds(case: &Case) -> Vec<Case> {
     let mut list = Vec::new();
     match &case.kind {
@@ -163,6 +194,42 @@ fn kinds(case: &Case) -> Vec<Case> {
                     *split = n;
                 }
             }));
+        }
+        Kind::Recordings {
+            split,
+            first,
+            entries,
+            damages,
+        } => {
+            for i in 0..damages.len() {
+                list.push(recorded(case, |_, _, damages| {
+                    damages.remove(i);
+                }));
+            }
+            let mut end = *split;
+            for (i, entry) in entries.iter().enumerate() {
+                let (at, colours) = (end, entry[2] as usize);
+                end = at + colours;
+                list.push(recorded(&without(case, at, colours), |_, entries, _| {
+                    entries.remove(i);
+                }));
+                for smaller in below(entry[1] as usize) {
+                    list.push(recorded(case, |_, entries, _| {
+                        entries[i][1] = smaller as u32
+                    }));
+                }
+                for smaller in below(entry[1] as usize) {
+                    list.push(recorded(case, |first, entries, _| {
+                        let old = entry[1];
+                        let same = entries.iter_mut().map(|e| &mut e[1]).chain([first]);
+                        same.filter(|n| **n == old)
+                            .for_each(|n| *n = smaller as u32);
+                    }));
+                }
+            }
+            for smaller in below(*first as usize) {
+                list.push(recorded(case, |first, _, _| *first = smaller as u32));
+            }
         }
     }
     list.retain(|c| c.kind != case.kind);

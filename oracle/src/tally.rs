@@ -13,6 +13,20 @@ pub struct Tally {
     pub negative: usize,
     pub put_back: usize,
     pub falsely_positive: usize,
-    /// Of the calls made one by one, how many answered each number: load, merge, cut, map, paint, compare.
-    pub numbers: [[usize; 10]; 6],
+    /// Of the calls made one by one, and of the entries of replays, how many answered each number.
+    pub numbers: [[usize; 15]; CALLS.len()],
+}
+
+/// The calls whose numbers are counted.
+pub const CALLS: [&str; 11] = [
+    "load", "merge", "cut", "map", "paint", "compare", "begin", "reload", "batch", "replay",
+    "entries",
+];
+
+impl Tally {
+    /// Counts a number that a call answered.
+    pub fn count(&mut self, call: &str, number: u8) {
+        let call = CALLS.iter().position(|c| *c == call).expect("a call");
+        self.numbers[call][usize::from(number)] += 1;
+    }
 }

@@ -6,7 +6,7 @@ use oracle::{
     classes::{CLASSES, Cases, Grids, Maker},
     compare::check,
     model::Model,
-    port::{Band, CutAnswer, Grid, Lent, Port},
+    port::{Band, CutAnswer, Grid, Lent, Port, Recorded},
     random::Random,
     runner::run,
     tally::Tally,
@@ -71,6 +71,37 @@ impl Port for Faulty {
         differences: &mut [i64],
     ) -> (u8, usize, usize) {
         Model.compare(grid, first, second, differences)
+    }
+
+    fn begin(&self, interval: u32) -> (u8, u32) {
+        Model.begin(interval)
+    }
+
+    fn reload(&self, in_force: u32, interval: u32) -> (u8, u32) {
+        Model.reload(in_force, interval)
+    }
+
+    fn batch(
+        &self,
+        intervals: [u32; 2],
+        grid: Grid,
+        table: &mut [u64],
+        colours: &[u8],
+        weighted: bool,
+        weights: &[u32],
+    ) -> u8 {
+        Model.batch(intervals, grid, table, colours, weighted, weights)
+    }
+
+    fn replay(
+        &self,
+        first: u32,
+        grid: Grid,
+        table: &mut [u64],
+        recorded: Recorded<'_>,
+        answers: &mut [u8],
+    ) -> (u8, u32) {
+        Model.replay(first, grid, table, recorded, answers)
     }
 
     fn cut(&self, grid: Grid, k: usize, table: &[u64], lent: Lent<'_>) -> CutAnswer {

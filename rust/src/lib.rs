@@ -4,6 +4,7 @@
 //! table is cut down to at most 256 colours. The [`Cut`] has a palette, the count of each colour and a [`ColourMap`],
 //! which maps frames to indices or paints them. Two tables are [compared](Table::compare) bin by bin. A cut depends on the colours and their weights only: in any order,
 //! any batches and any merge tree, as long as nothing is refused, they give the same palette in the same order.
+//! A [`Recorder`] counts frames that were sampled at an interval, and refuses a batch that was sampled at another.
 //!
 //! The work is done by code in Rattle, a language in which every function is proved to meet its contract: that it
 //! follows the written rules, whatever it is given. It is linked as a static library, and this crate only lends it
@@ -70,6 +71,7 @@ mod colour_map;
 mod comparison;
 mod cut;
 mod grid;
+mod recorder;
 mod refused;
 #[allow(unsafe_code)]
 mod sys;
@@ -79,6 +81,7 @@ pub use colour_map::ColourMap;
 pub use comparison::{BinDifference, Comparison};
 pub use cut::{ColourBox, Cut, WorkTable};
 pub use grid::Grid;
+pub use recorder::Recorder;
 pub use refused::Refused;
 pub use table::Table;
 
@@ -86,3 +89,8 @@ pub use table::Table;
 #[cfg(doctest)]
 #[doc = include_str!("../../docs/FROM_QUANTETTE.md")]
 struct FromQuantette;
+
+/// And those of the page on intervals.
+#[cfg(doctest)]
+#[doc = include_str!("../../docs/INTERVALS.md")]
+struct Intervals;

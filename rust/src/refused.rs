@@ -2,7 +2,8 @@ use std::{error::Error, fmt};
 
 /// Why a call was refused. A refused call has changed nothing.
 ///
-/// Each case has the number that the calls for C answer, and of the numbers that apply a call gives the lowest.
+/// Each case has the number that the calls for C answer, and of the numbers that apply a call gives the lowest, but for
+/// 13 and 14, which come before 1.
 ///
 /// ```
 /// use seluvava::{Grid, Refused};
@@ -24,20 +25,25 @@ pub enum Refused {
     StrayBytes = 3,
     /// 4: weights are given, and not one per colour.
     Weights = 4,
-    /// 5: a length is wrong, a band reaches past the frame, or a table is of another grid.
+    /// 5: a length is wrong, a band reaches past the frame, a table is of another grid, or a recorded list is
+    /// malformed.
     Length = 5,
     /// 6: a table is not sound.
     Unsound = 6,
-    /// 7: the total after a load or a merge would pass 4,294,967,295.
+    /// 7: the total after a load, a merge or a batch would pass 4,294,967,295.
     Total = 7,
     /// 8: a table with total 0 is to be cut.
     Empty = 8,
     /// 9: some entry of the map is not below the number of colours of the palette.
     MapEntry = 9,
+    /// 13: an interval is outside 1 to 4,096.
+    Interval = 13,
+    /// 14: the interval of a batch is not the one in force.
+    NotInForce = 14,
 }
 
 impl Refused {
-    const ALL: [Refused; 9] = [
+    const ALL: [Refused; 11] = [
         Refused::GridSize,
         Refused::PaletteSize,
         Refused::StrayBytes,
@@ -47,6 +53,8 @@ impl Refused {
         Refused::Total,
         Refused::Empty,
         Refused::MapEntry,
+        Refused::Interval,
+        Refused::NotInForce,
     ];
 
     /// The number of the refusal.
@@ -55,7 +63,8 @@ impl Refused {
         self as u8
     }
 
-    /// The refusal with this number. No other number than 1 to 9 has one; 0 is what a call that is done answers.
+    /// The refusal with this number. No other numbers than 1 to 9, 13 and 14 have one; 0 is what a call that is done
+    /// answers.
     ///
     /// ```
     /// use seluvava::Refused;
@@ -91,11 +100,15 @@ impl fmt::Display for Refused {
             Refused::PaletteSize => "the number of colours asked for is outside 1 to 256",
             Refused::StrayBytes => "the colour bytes are not a multiple of three",
             Refused::Weights => "weights are given, and not one per colour",
-            Refused::Length => "a length or a grid is wrong, or a band reaches past the frame",
+            Refused::Length => {
+                "a length, a grid or a recorded list is wrong, or a band reaches past the frame"
+            }
             Refused::Unsound => "a table is not sound",
             Refused::Total => "the total would pass 4,294,967,295",
             Refused::Empty => "the table to be cut has total 0",
             Refused::MapEntry => "an entry of the map is not below the palette's length",
+            Refused::Interval => "an interval is outside 1 to 4,096",
+            Refused::NotInForce => "the interval of a batch is not the one in force",
         };
         write!(f, "refused {}: {reason}", self.number())
     }

@@ -9,8 +9,9 @@
 //! - Nobody else writes to a buffer, or reads one that is not const, before the call returns: so long lasts the borrow.
 use crate::{Grid, Refused};
 use seluvava_sys::{
-    seluvava_bins, seluvava_compare, seluvava_cut, seluvava_load, seluvava_map, seluvava_merge,
-    seluvava_paint, seluvava_table_len,
+    Session, SessionAnswer, seluvava_batch, seluvava_begin, seluvava_bins, seluvava_compare,
+    seluvava_cut, seluvava_load, seluvava_map, seluvava_merge, seluvava_paint, seluvava_reload,
+    seluvava_replay, seluvava_table_len,
 };
 
 /// The bins of a grid, or 0 where it is refused.
@@ -95,6 +96,99 @@ pub fn compare(
     };
     Refused::unless_done(answer.number)?;
     Ok((answer.differ, answer.first))
+}
+
+/// The interval in force of a session that was not refused.
+fn in_force(answer: SessionAnswer) -> Result<u32, Refused> {
+    Refused::unless_done(answer.number)?;
+    Ok(answer.session.interval)
+}
+
+/// Begins a session; the interval then in force.
+pub fn begin(interval: u32) -> Result<u32, Refused> {
+    // SAFETY: nothing is lent.
+    in_force(unsafe { seluvava_begin(interval) })
+}
+
+/// Reloads a session; the interval then in force.
+pub fn reload(session: u32, interval: u32) -> Result<u32, Refused> {
+    // SAFETY: nothing is lent.
+    in_force(unsafe { seluvava_reload(Session { interval: session }, interval) })
+}
+
+/// Adds a batch that was sampled at an interval, with weights where they are given.
+pub fn batch(
+    session: u32,
+    interval: u32,
+    grid: Grid,
+    table: &mut [u64],
+    colours: &[u8],
+    weights: Option<&[u32]>,
+) -> Result<(), Refused> {
+    let [b1, b2, b3] = grid.sizes();
+    let weighted = weights.is_some();
+    let weights = weights.unwrap_or_default();
+    // SAFETY: pointers and lengths are those of slices, and `table` is the only one that is written.
+    let number = unsafe {
+        seluvava_batch(
+            Session { interval: session },
+            interval,
+            b1,
+            b2,
+            b3,
+            table.as_mut_ptr(),
+            table.len(),
+            colours.as_ptr(),
+            colours.len(),
+            weighted,
+            weights.as_ptr(),
+            weights.len(),
+        )
+    };
+    Refused::unless_done(number)
+}
+
+/// What a replay reads.
+pub struct Recorded<'a> {
+    pub entries: &'a [u32],
+    pub colours: &'a [u8],
+    pub weights: &'a [u32],
+}
+
+/// Replays a recorded list; the interval then in force.
+pub fn replay(
+    first: u32,
+    grid: Grid,
+    table: &mut [u64],
+    recorded: &Recorded<'_>,
+    answers: &mut [u8],
+) -> Result<u32, Refused> {
+    let [b1, b2, b3] = grid.sizes();
+    let Recorded {
+        entries,
+        colours,
+        weights,
+    } = *recorded;
+    // SAFETY: pointers and lengths are those of slices; `table` and `answers` are written, each lent by a `&mut` of its
+    // own.
+    in_force(unsafe {
+        seluvava_replay(
+            first,
+            b1,
+            b2,
+            b3,
+            table.as_mut_ptr(),
+            table.len(),
+            entries.as_ptr(),
+            entries.len(),
+            colours.as_ptr(),
+            colours.len(),
+            weights.as_ptr(),
+            weights.len(),
+            answers.as_mut_ptr(),
+            answers.len(),
+        )
+    })
 }
 
 /// What a cut writes.

@@ -88,6 +88,11 @@ impl Table {
         &self.numbers
     }
 
+    /// The numbers, for a call that changes them.
+    pub(crate) fn numbers_mut(&mut self) -> &mut [u64] {
+        &mut self.numbers
+    }
+
     /// The numbers, five per bin, without a copy.
     #[must_use]
     pub fn into_numbers(self) -> Vec<u64> {

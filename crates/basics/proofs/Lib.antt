@@ -1,4 +1,5 @@
 pub mod Range
+pub mod Lists
 pub mod Ends
 pub mod Determined
 pub mod Compare

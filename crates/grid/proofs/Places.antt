@@ -60,6 +60,12 @@ pub chose : (b1 b2 b3 : ℕ) (g : Grid) → gridOf b1 b2 b3 ≡ chosen.Accepted 
 unfolding gridOf
 chose b1 b2 b3 g e = chose-with b1 b2 b3 g (shiftOf b1) (shiftOf b2) (shiftOf b3) refl refl refl e
 
+-- an accepted grid is that of its sizes
+pub sizes-chosen : {g : Grid} → Accepted g → gridOf (g .size1) (g .size2) (g .size3) ≡ chosen.Accepted g
+unfolding gridOf gridWith sizeAt shiftAt choose
+sizes-chosen {g} a =
+    λ i. gridWith (g .size1) (g .size2) (g .size3) (a .size 0 i) (a .size 1 i) (a .size 2 i)
+
 -- "`rgb()` is 16, 32, 16"
 pub rgb-accepted : gridOf 16 32 16 ≡ chosen.Accepted rgbGrid
 unfolding gridOf gridWith shiftOf shiftIn choices rgbGrid

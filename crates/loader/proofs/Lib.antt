@@ -1,8 +1,11 @@
 pub mod Loading
+pub mod Totals
 pub mod Parts
-pub mod StepTables
+pub mod Scaled
+pub mod StepTable
 pub mod Merging
 pub mod Calls
+pub mod Adding
 pub mod Laws
 pub mod Order
 pub mod Plans

@@ -6,11 +6,11 @@ use mathlib.Core.List.{List, [], _∷_, _++_, List·Permᴰ, Perm}
 use mathlib.Core.HLevel.{hedberg}
 use mathlib.Core.List as L
 use Prim.Native.Nat.{ℕ, zero, suc, _+_, _-_, _*_, _≤_, _<_}
-use native.Mathlib.Nat.{zero-add, add-assoc, add-left-comm, mul-le-mul, mul-le-mul-left, mul-comm, lt-of-not-le}
-use native.Mathlib.Decide.{ℕ-discrete, decLe}
+use native.Mathlib.Nat.{zero-add, add-assoc, add-left-comm, mul-le-mul, mul-le-mul-left}
+use native.Mathlib.Decide.{ℕ-discrete}
 use native.Mathlib.Omega.{arith}
-use borrow.Author.Tests.{eq-eqb, ne-eqb, le-leb, lt-leb}
-use lib.Dec.{eqb, leb}
+use borrow.Author.Tests.{eq-eqb, ne-eqb}
+use lib.Dec.{eqb}
 use Rattle.grid.specs.declared.place.Grid.{Grid}
 use Rattle.grid.specs.declared.dimension.Span.{Span}
 use Rattle.basics.specs.Range.{listFrom, sumFrom}
@@ -29,14 +29,6 @@ use Rattle.table.proofs.Soundness.{Keeps, keeps-zero, keeps-plus, squares-above
 use Rattle.table.proofs.Soundness.{Sound, sound-by, sound-keeps, sound-same, total-is}
 use Rattle.table.proofs.Soundness.{total-same, span-is}
 use Rattle.table.proofs.Tables.{Holds}
-
--- a test of a rest is one of a sum
-pub rest-test : (m had n : ℕ) → had ≤ m → leb n (m - had) ≡ leb (had + n) m
-rest-test m had n h = go (decLe (had + n) m)
-  where
-    go : Dec (had + n ≤ m) → leb n (m - had) ≡ leb (had + n) m
-    go (yes l) = le-leb n (m - had) (omega arith) ∙ sym (le-leb (had + n) m l)
-    go (no k) = lt-leb n (m - had) (omega (arith, lt-of-not-le k)) ∙ sym (lt-leb (had + n) m (lt-of-not-le k))
 
 -- ---- sums over a list of colours
 pub over-append : (cs ds : List Weighted) (f : Weighted → ℕ) → sumOver (cs ++ ds) f ≡ sumOver cs f + sumOver ds f

@@ -2,26 +2,28 @@
 -- be added at once.
 -- Assumes nothing.
 use mathlib.Core.Path.{_≡_, refl, sym, ap, subst, _∙_}
-use mathlib.Core.Bool.{Bool, true, false, cond}
+use mathlib.Core.Bool.{Bool, true, false, _&&_, cond}
 use mathlib.Core.List.{List}
-use Prim.Native.Nat.{ℕ, zero, suc, _+_, _*_, _/_, _≤_, _<_}
+use Prim.Native.Nat.{ℕ, zero, suc, _+_, _-_, _*_, _/_, _≤_, _<_}
 use native.Mathlib.Nat.{add-zero, add-suc, suc-add, add-assoc, zero-mul, add-mul, mul-one, lt-trans}
 use native.Mathlib.Omega.{arith}
-use borrow.Author.Tests.{eq-eqb}
-use lib.Dec.{eqb, lit<}
+use borrow.Author.Tests.{eq-eqb, ltb-true}
+use lib.Dec.{eqb, ltb, lit<}
 use lib.ListN.{length, getD}
 use Rattle.grid.specs.declared.place.Grid.{Grid}
 use Rattle.pixels.specs.declared.colour.Rgb.{Rgb}
 use Rattle.basics.specs.Range.{listFrom, sumFrom}
 use Rattle.grid.specs.Grid.{binsOf, colourPlace}
 use Rattle.pixels.specs.Colour.{colourAt}
-use Rattle.basics.proofs.Range.{sum-append, sum-grow, sum-equal}
+use Rattle.pixels.specs.Equal.{equalColours}
+use Rattle.pixels.proofs.EqualColours.{one-colour}
+use Rattle.basics.proofs.Range.{and-left, and-right, sum-append, sum-grow, sum-equal, sum-scale}
 use Rattle.grid.proofs.Places.{Bytes, colour-place-lt}
 use Rattle.table.specs.Cell.{View, numberOf, cellOf}
 use Rattle.table.specs.Table.{Table, Sized, viewOf}
 use Rattle.table.specs.Sound.{limit}
 use Rattle.loader.specs.Load.{Weighted, share, adds, sumOver, weightOf, loaded, weightedAt, batchOf}
-use Rattle.loader.specs.Inner.{partOf, withPart, withColour, CellFits, PartFits}
+use Rattle.loader.specs.Inner.{lastEqual, scaledAt, partOf, withPart, withColour, CellFits, PartFits}
 use Rattle.table.proofs.Soundness.{number-below, sound-held}
 use Rattle.table.proofs.Tables.{has-cell, Holds, holds-same, holds-itself, list-holds, add-holds}
 use Rattle.table.proofs.Cells.{number-cell, number-plus}
@@ -111,22 +113,32 @@ held-more g v s e i n m c first then =
 
 -- ---- the colours of a batch
 -- their weight, by whether weights are given
-pub part-weight : (colours : List ℕ) (weighted : Bool) (weights : List ℕ) (i n : ℕ)
-    → weightOf (partOf colours weighted weights i n) ≡ cond weighted (sumFrom i n (λ k. getD weights k 0)) n
-unfolding weightOf partOf weightedAt
-part-weight colours true weights i n = over-list i n (weightedAt colours true weights) (λ d. d .weight)
-part-weight colours false weights i n =
-    over-list i n (weightedAt colours false weights) (λ d. d .weight) ∙ sum-equal i n 1 ∙ mul-one n
+pub part-weight : (scale : ℕ) (colours : List ℕ) (weighted : Bool) (weights : List ℕ) (i n : ℕ)
+    → weightOf (partOf scale colours weighted weights i n)
+    ≡ scale * cond weighted (sumFrom i n (λ k. getD weights k 0)) n
+unfolding weightOf partOf scaledAt
+part-weight scale colours weighted weights i n =
+    over-list i n (scaledAt scale colours weighted weights) (λ d. d .weight)
+    ∙ sum-scale scale i n (λ k. cond weighted (getD weights k 0) 1)
+    ∙ ap (λ (x : ℕ). scale * x) (plain weighted)
+  where
+    plain : (b : Bool)
+        → sumFrom i n (λ k. cond b (getD weights k 0) 1) ≡ cond b (sumFrom i n (λ k. getD weights k 0)) n
+    plain true = refl
+    plain false = sum-equal i n 1 ∙ mul-one n
 
 pub batch-weight : (colours : List ℕ) (weighted : Bool) (weights : List ℕ)
     → (weighted ≡ true → length weights ≡ length colours / 3)
     → weightOf (batchOf colours weighted weights)
     ≡ cond weighted (sumFrom 0 (length weights) (λ i. getD weights i 0)) (length colours / 3)
-unfolding batchOf partOf
+unfolding batchOf weightOf weightedAt
 batch-weight colours true weights e =
-    part-weight colours true weights 0 (length colours / 3)
+    over-list 0 (length colours / 3) (weightedAt colours true weights) (λ d. d .weight)
     ∙ ap (λ (n : ℕ). sumFrom 0 n (λ i. getD weights i 0)) (sym (e refl))
-batch-weight colours false weights e = part-weight colours false weights 0 (length colours / 3)
+batch-weight colours false weights e =
+    over-list 0 (length colours / 3) (weightedAt colours false weights) (λ d. d .weight)
+    ∙ sum-equal 0 (length colours / 3) 1
+    ∙ mul-one (length colours / 3)
 
 -- they are of bytes
 run-bytes : (i n : ℕ) (c : ℕ → Weighted) → ((k : ℕ) → Bytes (c k .colour)) → AllBytes (listFrom i n c)
@@ -138,34 +150,38 @@ pub colour-bytes : (colours : List ℕ) → ((k : ℕ) → getD colours k 0 < 25
 unfolding colourAt
 colour-bytes colours bytes k = record { one = bytes (3 * k); two = bytes (3 * k + 1); three = bytes (3 * k + 2) }
 
-part-bytes : (colours : List ℕ) (weighted : Bool) (weights : List ℕ) → ((k : ℕ) → getD colours k 0 < 256) → (i n : ℕ)
-    → AllBytes (partOf colours weighted weights i n)
-unfolding partOf weightedAt
-part-bytes colours weighted weights bytes i n =
-    run-bytes i n (weightedAt colours weighted weights) (colour-bytes colours bytes)
+part-bytes : (scale : ℕ) (colours : List ℕ) (weighted : Bool) (weights : List ℕ)
+    → ((k : ℕ) → getD colours k 0 < 256) → (i n : ℕ)
+    → AllBytes (partOf scale colours weighted weights i n)
+unfolding partOf scaledAt
+part-bytes scale colours weighted weights bytes i n =
+    run-bytes i n (scaledAt scale colours weighted weights) (colour-bytes colours bytes)
 
 pub all-bytes-of : (colours : List ℕ) (weighted : Bool) (weights : List ℕ) → ((k : ℕ) → getD colours k 0 < 256)
     → AllBytes (batchOf colours weighted weights)
-unfolding batchOf partOf
-all-bytes-of colours weighted weights h = part-bytes colours weighted weights h 0 (length colours / 3)
+unfolding batchOf weightedAt
+all-bytes-of colours weighted weights h =
+    run-bytes 0 (length colours / 3) (weightedAt colours weighted weights) (colour-bytes colours h)
 
 -- before the first of them
-pub held-none : (g : Grid) (t : Table) (colours : List ℕ) (weighted : Bool) (weights : List ℕ) (i : ℕ)
-    → Sized t (binsOf g) → Holds (binsOf g) t (loaded g (partOf colours weighted weights i 0) (viewOf t))
+pub held-none : (g : Grid) (t : Table) (scale : ℕ) (colours : List ℕ) (weighted : Bool) (weights : List ℕ) (i : ℕ)
+    → Sized t (binsOf g) → Holds (binsOf g) t (loaded g (partOf scale colours weighted weights i 0) (viewOf t))
 unfolding loaded partOf listFrom sumOver
-held-none g t colours weighted weights i e =
+held-none g t scale colours weighted weights i e =
     holds-same (holds-itself (binsOf g) t e) (λ p j h k. sym (add-zero (viewOf t p j)))
 
 -- after the first m of n colours that fit, those that follow fit
-module _ {most : ℕ} {g : Grid} {t : Table} {colours : List ℕ} {weighted : Bool} {weights : List ℕ} {i n : ℕ}
-    (fits : PartFits most g t colours weighted weights i n) (bytes : (k : ℕ) → getD colours k 0 < 256)
-    {s : Table} (m : ℕ) (holds : Holds (binsOf g) s (loaded g (partOf colours weighted weights i m) (viewOf t))) where
+module _ {most : ℕ} {g : Grid} {t : Table} {scale : ℕ} {colours : List ℕ} {weighted : Bool} {weights : List ℕ} {i n : ℕ}
+    (fits : PartFits most g t scale colours weighted weights i n) (bytes : (k : ℕ) → getD colours k 0 < 256)
+    {s : Table} (m : ℕ)
+    (holds : Holds (binsOf g) s (loaded g (partOf scale colours weighted weights i m) (viewOf t))) where
   part-within : (l : ℕ) → m + l ≤ n
-      → weightOf (partOf colours weighted weights i m) + weightOf (partOf colours weighted weights (i + m) l)
-      ≤ weightOf (partOf colours weighted weights i n)
+      → weightOf (partOf scale colours weighted weights i m)
+      + weightOf (partOf scale colours weighted weights (i + m) l)
+      ≤ weightOf (partOf scale colours weighted weights i n)
   unfolding partOf weightOf
   part-within l h =
-      let c = weightedAt colours weighted weights in
+      let c = scaledAt scale colours weighted weights in
       omega (
         arith,
         over-part i m l c (λ d. d .weight),
@@ -174,13 +190,14 @@ module _ {most : ℕ} {g : Grid} {t : Table} {colours : List ℕ} {weighted : Bo
         sum-grow i (m + l) n (λ k. c k .weight) h,
       )
 
-  pub fits-later : (at l : ℕ) → at ≡ i + m → m + l ≤ n → PartFits most g s colours weighted weights at l
+  pub fits-later : (at l : ℕ) → at ≡ i + m → m + l ≤ n → PartFits most g s scale colours weighted weights at l
   fits-later at l e h =
       let a = fits .table .accepted in
-      let first = partOf colours weighted weights i m in
-      let b = part-bytes colours weighted weights bytes i m in
+      let first = partOf scale colours weighted weights i m in
+      let b = part-bytes scale colours weighted weights bytes i m in
       let within = part-within l h in
       record {
+        scaled = fits .scaled;
         table = record { accepted = a; lent = holds .lent };
         is-sound =
             held-sound a first b (viewOf t) holds (record { holds = fits .is-sound })
@@ -191,30 +208,32 @@ module _ {most : ℕ} {g : Grid} {t : Table} {colours : List ℕ} {weighted : Bo
       }
 
   pub held-later : (at l : ℕ) → at ≡ i + m → {e : Table}
-      → Holds (binsOf g) e (loaded g (partOf colours weighted weights at l) (viewOf s))
-      → Holds (binsOf g) e (loaded g (partOf colours weighted weights i (m + l)) (viewOf t))
+      → Holds (binsOf g) e (loaded g (partOf scale colours weighted weights at l) (viewOf s))
+      → Holds (binsOf g) e (loaded g (partOf scale colours weighted weights i (m + l)) (viewOf t))
   unfolding partOf
   held-later at l q {e} more =
-      held-more g (viewOf t) s e i m l (weightedAt colours weighted weights) holds (rw q at more)
+      held-more g (viewOf t) s e i m l (scaledAt scale colours weighted weights) holds (rw q at more)
 
 -- a table with colours added holds what was there with them loaded
-pub part-held : (g : Grid) (t : Table) (colours : List ℕ) (weighted : Bool) (weights : List ℕ) (i n : ℕ) {e : Table}
-    → e ≡ withPart g t colours weighted weights i n
-    → Holds (binsOf g) e (loaded g (partOf colours weighted weights i n) (viewOf t))
+pub part-held : (g : Grid) (t : Table) (scale : ℕ) (colours : List ℕ) (weighted : Bool) (weights : List ℕ) (i n : ℕ)
+    {e : Table}
+    → e ≡ withPart g t scale colours weighted weights i n
+    → Holds (binsOf g) e (loaded g (partOf scale colours weighted weights i n) (viewOf t))
 unfolding withPart
-part-held g t colours weighted weights i n r =
-    rw r (list-holds (binsOf g) (loaded g (partOf colours weighted weights i n) (viewOf t)))
+part-held g t scale colours weighted weights i n r =
+    rw r (list-holds (binsOf g) (loaded g (partOf scale colours weighted weights i n) (viewOf t)))
 
 -- equal colours that fit can be added at once
-module _ {most : ℕ} {g : Grid} {t : Table} {colours : List ℕ} {weighted : Bool} {weights : List ℕ} {i n : ℕ}
-    (fits : PartFits most g t colours weighted weights i n) (bytes : (k : ℕ) → getD colours k 0 < 256)
+module _ {most : ℕ} {g : Grid} {t : Table} {scale : ℕ} {colours : List ℕ} {weighted : Bool} {weights : List ℕ} {i n : ℕ}
+    (fits : PartFits most g t scale colours weighted weights i n) (bytes : (k : ℕ) → getD colours k 0 < 256)
     (same : (k : ℕ) → k < n → colourAt colours (i + k) ≡ colourAt colours i)
-    {x : Rgb} (p : x ≡ colourAt colours i) {w : ℕ} (q : w ≡ cond weighted (sumFrom i n (λ k. getD weights k 0)) n) where
+    {x : Rgb} (p : x ≡ colourAt colours i) {w : ℕ}
+    (q : w ≡ scale * cond weighted (sumFrom i n (λ k. getD weights k 0)) n) where
   abbrev it : Weighted
   it = record { colour = x; weight = w }
 
   abbrev these : List Weighted
-  these = partOf colours weighted weights i n
+  these = partOf scale colours weighted weights i n
 
   abbrev place : ℕ
   place = colourPlace g x
@@ -223,20 +242,20 @@ module _ {most : ℕ} {g : Grid} {t : Table} {colours : List ℕ} {weighted : Bo
   inside = colour-place-lt (fits .table .accepted) (subst Bytes (sym p) (colour-bytes colours bytes i))
 
   adds-it : (r j : ℕ) → adds g it r j ≡ sumOver these (λ d. adds g d r j)
-  unfolding partOf weightedAt
+  unfolding partOf scaledAt
   adds-it r j =
-      (λ m. adds g (record { colour = p m; weight = (q ∙ sym (part-weight colours weighted weights i n)) m }) r j)
-      ∙ sym (run-adds g (colourAt colours i) (weightedAt colours weighted weights) r j i n same)
+      (λ m. adds g (record { colour = p m; weight = (q ∙ sym (part-weight scale colours weighted weights i n)) m }) r j)
+      ∙ sym (run-adds g (colourAt colours i) (scaledAt scale colours weighted weights) r j i n same)
 
   pub light : w ≤ most
-  light = omega (arith, q, part-weight colours weighted weights i n, fits .under)
+  light = omega (arith, q, part-weight scale colours weighted weights i n, fits .under)
 
   pub has-room : most ≤ limit → CellFits t (colourPlace g x) (cellOf (share (record { colour = x; weight = w })))
   unfolding adds loaded
   has-room m =
       let a = fits .table .accepted in
       let after =
-      load-sound a these (part-bytes colours weighted weights bytes i n) (record { holds = fits .is-sound })
+      load-sound a these (part-bytes scale colours weighted weights bytes i n) (record { holds = fits .is-sound })
       (fits .under) in
       let sums : (j : ℕ) → j < 5
       → numberOf (cellOf (viewOf t place)) j + numberOf (cellOf (share it)) j ≡ loaded g these (viewOf t) place j =
@@ -251,7 +270,7 @@ module _ {most : ℕ} {g : Grid} {t : Table} {colours : List ℕ} {weighted : Bo
       }
 
   pub at-once : {e : Table} → e ≡ withColour g t (record { colour = x; weight = w })
-      → Holds (binsOf g) e (loaded g (partOf colours weighted weights i n) (viewOf t))
+      → Holds (binsOf g) e (loaded g (partOf scale colours weighted weights i n) (viewOf t))
   unfolding withColour adds loaded
   at-once r =
       rw r
@@ -266,7 +285,29 @@ alone colours i k h = ap (colourAt colours) (there i k h)
     there : (i k : ℕ) → k < 1 → i + k ≡ i
     there i k h = omega arith
 
-pub own-weight : (weighted : Bool) (weights : List ℕ) (i : ℕ)
-    → cond weighted (getD weights i 0) 1 ≡ cond weighted (sumFrom i 1 (λ k. getD weights k 0)) 1
+pub own-weight : (scale : ℕ) (weighted : Bool) (weights : List ℕ) (i : ℕ)
+    → scale * cond weighted (getD weights i 0) 1 ≡ scale * cond weighted (sumFrom i 1 (λ k. getD weights k 0)) 1
 unfolding sumFrom
-own-weight weighted weights i = ap (λ (w : ℕ). cond weighted w 1) (sym (add-zero (getD weights i 0)))
+own-weight scale weighted weights i =
+    ap (λ (w : ℕ). scale * cond weighted w 1) (sym (add-zero (getD weights i 0)))
+
+-- ---- the last of 65 equal colours
+module _ (colours : List ℕ) (i n : ℕ) where
+  pub some-equal : lastEqual colours i n ≡ true → 0 < n
+  unfolding lastEqual
+  some-equal e = ltb-true 0 n (and-left (ltb 0 n) (ltb 64 (i + n) && equalColours colours ((i + n) - 65)) e)
+
+  pub last-same : n ≤ 64 → lastEqual colours i n ≡ true
+      → (k : ℕ) → k < n → colourAt colours (i + k) ≡ colourAt colours i
+  unfolding lastEqual
+  last-same few e k h =
+      let both = and-right (ltb 0 n) (ltb 64 (i + n) && equalColours colours ((i + n) - 65)) e in
+      let far = ltb-true 64 (i + n) (and-left (ltb 64 (i + n)) (equalColours colours ((i + n) - 65)) both) in
+      let equal = and-right (ltb 64 (i + n)) (equalColours colours ((i + n) - 65)) both in
+      let here : (m : ℕ) → m < n → colourAt colours (i + m) ≡ colourAt colours ((i + n) - 65) =
+      λ m l.
+      ap (colourAt colours) (there m far l) ∙ one-colour colours ((i + n) - 65) equal ((m + 65) - n) (omega arith) in
+      here k h ∙ sym (here 0 (omega arith)) ∙ ap (colourAt colours) (add-zero i)
+    where
+      there : (m : ℕ) → 64 < i + n → m < n → i + m ≡ ((i + n) - 65) + ((m + 65) - n)
+      there m f l = omega (arith, few)

@@ -1,18 +1,24 @@
 -- The steps of loading and merging, as the crate's own functions are told. Definitions only.
 use mathlib.Core.Path.{_≡_}
-use mathlib.Core.Bool.{Bool, true}
+use mathlib.Core.Bool.{Bool, true, _&&_, cond}
 use mathlib.Core.List.{List}
-use Prim.Native.Nat.{ℕ, _+_, _*_, _/_, _≤_}
+use Prim.Native.Nat.{ℕ, _+_, _-_, _*_, _/_, _≤_}
+use lib.Dec.{eqb, leb, ltb}
 use lib.ListN.{length, getD}
 use Rattle.grid.specs.declared.place.Grid.{Grid}
 use Rattle.pixels.specs.declared.colour.Rgb.{Rgb}
 use Rattle.basics.specs.Range.{listFrom, sumFrom}
-use Rattle.grid.specs.Grid.{Accepted, binsOf, colourPlace, stepsOf}
+use Rattle.grid.specs.Grid.{binsOf, colourPlace}
+use Rattle.pixels.specs.Colour.{colourAt}
+use Rattle.pixels.specs.Equal.{equalColours}
 use Rattle.table.specs.declared.cell.Cell.{Cell}
 use Rattle.table.specs.Table.{Table, viewOf, written, putAt, HasCell, Held, TableOf}
 use Rattle.table.specs.Cell.{cellOf, plusCell, SumsFit}
 use Rattle.table.specs.Sound.{sound, total}
-use Rattle.loader.specs.Load.{Weighted, share, weightOf, loaded, weightedAt}
+use Rattle.loader.specs.declared.add.Added.{Added}
+use Rattle.loader.specs.declared.add.Added.the-variants.{Total, Passed}
+use Rattle.loader.specs.Load.{Weighted, share, weightOf, loaded}
+use Rattle.loader.specs.Add.{IsScale, stepNumber}
 
 -- the sum of n weights, from weight i on
 abbrev pub weightsFrom : List ℕ → ℕ → ℕ → ℕ
@@ -26,25 +32,31 @@ allWeights weights = weightsFrom weights 0 (length weights)
 unfoldable pub squaresOf : Rgb → ℕ
 squaresOf x = x .c1 * x .c1 + x .c2 * x .c2 + x .c3 * x .c3
 
--- for each value of a component its step, and 2^32 times its square
-unfoldable pub withSquares : List ℕ → List ℕ
-withSquares steps = listFrom 0 256 (λ c. getD steps c 0 + 4294967296 * (c * c))
+-- colour i of a batch, its weight multiplied by a scale
+unfoldable pub scaledAt : ℕ → List ℕ → Bool → List ℕ → ℕ → Weighted
+scaledAt scale colours weighted weights i =
+    record { colour = colourAt colours i; weight = scale * cond weighted (getD weights i 0) 1 }
 
--- three tables are the steps of an accepted grid, with the squares
-pub record StepTables (g : Grid) (t1 t2 t3 : List ℕ) : Type 0 where
-  pub accepted : Accepted g
-  pub one : t1 ≡ withSquares (stepsOf g 0)
-  pub two : t2 ≡ withSquares (stepsOf g 1)
-  pub three : t3 ≡ withSquares (stepsOf g 2)
+-- a step table with the part of one dimension filled in
+unfoldable pub withDimension : Grid → ℕ → List ℕ → List ℕ
+withDimension g d t = listFrom 0 768 (λ i. cond (eqb (i / 256) d) (stepNumber g i) (getD t i 0))
 
 -- n colours of a batch, from colour i on
-unfoldable pub partOf : List ℕ → Bool → List ℕ → ℕ → ℕ → List Weighted
-partOf colours weighted weights i n = listFrom i n (weightedAt colours weighted weights)
+unfoldable pub partOf : ℕ → List ℕ → Bool → List ℕ → ℕ → ℕ → List Weighted
+partOf scale colours weighted weights i n = listFrom i n (scaledAt scale colours weighted weights)
+
+-- n colours from colour i on are seen to be equal: there are some, and they are the last of 65 equal ones
+unfoldable pub lastEqual : List ℕ → ℕ → ℕ → Bool
+lastEqual colours i n = ltb 0 n && (ltb 64 (i + n) && equalColours colours ((i + n) - 65))
 
 -- a table with them added
-unfoldable pub withPart : Grid → Table → List ℕ → Bool → List ℕ → ℕ → ℕ → Table
-withPart g t colours weighted weights i n =
-    written (binsOf g) (loaded g (partOf colours weighted weights i n) (viewOf t))
+unfoldable pub withPart : Grid → Table → ℕ → List ℕ → Bool → List ℕ → ℕ → ℕ → Table
+withPart g t scale colours weighted weights i n =
+    written (binsOf g) (loaded g (partOf scale colours weighted weights i n) (viewOf t))
+
+-- a total, or that it passes the limit
+unfoldable pub heldTo : ℕ → ℕ → Added
+heldTo most n = cond (leb n most) (Total n) Passed
 
 -- a table with a cell added at a place
 abbrev pub withCell : Table → ℕ → Cell → Table
@@ -62,13 +74,14 @@ pub record CellFits (t : Table) (p : ℕ) (c : Cell) : Type 0 where
 
 -- n colours of a batch, from colour i on, can be added to a sound table: they are there, with one weight a colour where
 -- weights are given, and the total fits
-pub record PartFits (most : ℕ) (g : Grid) (t : Table) (colours : List ℕ) (weighted : Bool) (weights : List ℕ)
-    (i n : ℕ) : Type 0 where
+pub record PartFits (most : ℕ) (g : Grid) (t : Table) (scale : ℕ) (colours : List ℕ) (weighted : Bool)
+    (weights : List ℕ) (i n : ℕ) : Type 0 where
+  pub scaled : IsScale scale
   pub table : TableOf g t
   pub is-sound : sound most g (viewOf t) ≡ true
   pub there : i + n ≤ length colours / 3
   pub one-each : weighted ≡ true → length weights ≡ length colours / 3
-  pub under : total g (viewOf t) + weightOf (partOf colours weighted weights i n) ≤ most
+  pub under : total g (viewOf t) + weightOf (partOf scale colours weighted weights i n) ≤ most
 
 -- a second table can be added into a first: both are sound, and the total fits
 pub record MergeFits (most : ℕ) (g : Grid) (t s : Table) : Type 0 where

@@ -1,4 +1,5 @@
 pub mod Load
 pub mod Merge
 pub mod Plan
+pub mod Add
 pub mod Inner

@@ -64,6 +64,11 @@ weightedAt colours weighted weights i =
 unfoldable pub batchOf : List ℕ → Bool → List ℕ → List Weighted
 batchOf colours weighted weights = listFrom 0 (length colours / 3) (weightedAt colours weighted weights)
 
+-- the weights of a batch of n colours, each multiplied by a scale: "Without weights each colour weighs the interval"
+unfoldable pub scaledWeights : ℕ → ℕ → Bool → List ℕ → List ℕ
+scaledWeights scale n weighted weights =
+    cond weighted (listFrom 0 (length weights) (λ i. scale * getD weights i 0)) (listFrom 0 n (λ i. scale))
+
 -- the answer to a load on an accepted grid: a limit and the answer given beyond it, whether the table's length fits,
 -- and what it holds
 unfoldable pub loadNumberOn : ℕ → ℕ → Grid → Bool → View → List ℕ → Bool → List ℕ → ℕ

@@ -1,7 +1,8 @@
 // The calls that fill a table: loading and merging.
+pub mod add;
 mod blocks;
 pub mod load;
 pub mod merge;
 mod shares;
-mod steps;
+pub mod steps;
 mod weights;

@@ -12,7 +12,8 @@ ghost use Rattle.grid.specs.Grid.{colourPlace};
 ghost use Rattle.table.specs.Cell.{cellOf};
 ghost use Rattle.table.specs.Sound.{limit};
 ghost use Rattle.loader.specs.Load.{share};
-ghost use Rattle.loader.specs.Inner.{squaresOf, withCell, withColour, StepTables, CellFits};
+ghost use Rattle.loader.specs.Add.{StepTable};
+ghost use Rattle.loader.specs.Inner.{squaresOf, withCell, withColour, CellFits};
 
 // Adds a cell to the one at a place.
 pub(crate) fn add_at(table: &mut [u64], place: usize, c: Cell)
@@ -39,21 +40,13 @@ fn share_of(x: Rgb, w: u64, squares: u64) -> Cell
 }
 
 // Adds one colour to a table.
-pub(crate) fn add_colour(
-    g: Grid,
-    table: &mut [u64],
-    t1: &[u64; 256],
-    t2: &[u64; 256],
-    t3: &[u64; 256],
-    x: Rgb,
-    w: u64,
-)
-    requires tables { ⌜ StepTables g (now t1) (now t2) (now t3) ⌝ }
+pub(crate) fn add_colour(g: Grid, table: &mut [u64], steps: &[u64; 768], x: Rgb, w: u64)
+    requires steps { ⌜ StepTable g (now steps) ⌝ }
     requires weight { ⌜ w ≤ limit ⌝ }
     requires fits { ⌜ CellFits (now table) (colourPlace g x) (cellOf (share (record { colour = x; weight = w }))) ⌝ }
     ensures { λ r. ⌜ now (table .exit) ≡ withColour g (now (table .entry)) (record { colour = x; weight = w }) ⌝ }
 {
-    let v = look_up(g, t1, t2, t3, x);
+    let v = look_up(g, steps, x);
     let p = (v % 4294967296) as usize;
     add_at(table, p, share_of(x, w, v / 4294967296));
 }

@@ -1,12 +1,13 @@
-// The weights of a batch: of one colour, of a block, and all of them against the limit.
+// The weights of a batch: of one colour, of a block, and the total with all of them.
+use crate::add::Added;
 use table::sound::LIMIT;
 ghost use mathlib.Core.Path.{_≡_};
 ghost use mathlib.Core.Bool.{true, cond};
-ghost use Prim.Native.Nat.{_+_, _-_, _≤_, _<_};
-ghost use lib.Dec.{leb};
+ghost use Prim.Native.Nat.{_+_, _-_, _*_, _≤_, _<_};
 ghost use lib.ListN.{length, getD};
 ghost use Rattle.table.specs.Sound.{limit};
-ghost use Rattle.loader.specs.Inner.{weightsFrom, allWeights};
+ghost use Rattle.loader.specs.Add.{IsScale};
+ghost use Rattle.loader.specs.Inner.{weightsFrom, allWeights, heldTo};
 
 // The sum of a block of weights.
 fn block_sum(weights: &[u32], at: usize, end: usize) -> u64
@@ -22,53 +23,61 @@ fn block_sum(weights: &[u32], at: usize, end: usize) -> u64
     sum
 }
 
-// Whether the weights, with the total that is there, stay within the limit. All of them can add up to more than
-// a u64 holds, so the sum is held to the limit after each block.
-fn weights_fit(weights: &[u32], had: u64) -> bool
-    requires { ⌜ had ≤ limit ⌝ }
-    ensures { λ r. ⌜ r ≡ leb (had + allWeights (now (weights .entry))) limit ⌝ }
+// The total with the weights added, each multiplied by the scale. All of them can add up to more than a u64 holds, so
+// the sum is held to the limit after each block.
+fn weights_total(had: u64, weights: &[u32], scale: u64) -> Added
+    requires { ⌜ (had ≤ limit) × (scale ≤ 4096) ⌝ }
+    ensures { λ r. ⌜ r ≡ heldTo limit (had + scale * allWeights (now (weights .entry))) ⌝ }
 {
     let mut total = had;
     let mut i = 0;
     while 4096 < weights.len() - i {
-        total = total + block_sum(weights, i, i + 4096);
+        total = total + scale * block_sum(weights, i, i + 4096);
         if LIMIT < total {
-            return false;
+            return Added::Passed;
         }
         i = i + 4096;
     }
-    total + block_sum(weights, i, weights.len()) <= LIMIT
+    total = total + scale * block_sum(weights, i, weights.len());
+    if LIMIT < total {
+        return Added::Passed;
+    }
+    Added::Total(total)
 }
 
-// Whether the colours of a batch, with the total that is there, stay within the limit.
-pub(crate) fn batch_fits(had: u64, n: usize, weighted: bool, weights: &[u32]) -> bool
-    requires { ⌜ had ≤ limit ⌝ }
-    ensures { λ r. ⌜ r ≡ leb (had + cond weighted (allWeights (now (weights .entry))) n) limit ⌝ }
+// The total with n colours of a batch added, each weight multiplied by the scale. Without weights n times the scale can
+// be more than a u64 holds, so n is compared with what is left, divided.
+pub(crate) fn batch_total(had: u64, n: usize, weighted: bool, weights: &[u32], scale: u64) -> Added
+    requires { ⌜ (had ≤ limit) × IsScale scale ⌝ }
+    ensures { λ r. ⌜ r ≡ heldTo limit (had + scale * cond weighted (allWeights (now (weights .entry))) n) ⌝ }
 {
     if weighted {
-        return weights_fit(weights, had);
+        return weights_total(had, weights, scale);
     }
-    n as u64 <= LIMIT - had
+    if (LIMIT - had) / scale < n as u64 {
+        return Added::Passed;
+    }
+    Added::Total(had + scale * n as u64)
 }
 
-// The weight of colour i.
-pub(crate) fn weight_at(weighted: bool, weights: &[u32], i: usize) -> u64
-    requires { ⌜ (weighted ≡ true → i < length (now weights)) ⌝ }
-    ensures { λ r. ⌜ r ≡ cond weighted (getD (now (weights .entry)) i 0) 1 ⌝ }
+// The weight of colour i, multiplied by the scale.
+pub(crate) fn weight_at(weighted: bool, weights: &[u32], scale: u64, i: usize) -> u64
+    requires { ⌜ (scale ≤ 4096) × (weighted ≡ true → i < length (now weights)) ⌝ }
+    ensures { λ r. ⌜ r ≡ scale * cond weighted (getD (now (weights .entry)) i 0) 1 ⌝ }
 {
     if weighted {
-        return weights[i] as u64;
+        return scale * weights[i] as u64;
     }
-    1
+    scale
 }
 
-// The weight of the 64 colours from colour i on.
-pub(crate) fn block_weight(weighted: bool, weights: &[u32], i: usize) -> u64
-    requires { ⌜ (weighted ≡ true → i + 64 ≤ length (now weights)) ⌝ }
-    ensures { λ r. ⌜ r ≡ cond weighted (weightsFrom (now (weights .entry)) i 64) 64 ⌝ }
+// The weight of n colours from colour i on, multiplied by the scale.
+pub(crate) fn block_weight(weighted: bool, weights: &[u32], scale: u64, i: usize, n: usize) -> u64
+    requires { ⌜ (n ≤ 64) × (scale ≤ 4096) × (weighted ≡ true → i + n ≤ length (now weights)) ⌝ }
+    ensures { λ r. ⌜ r ≡ scale * cond weighted (weightsFrom (now (weights .entry)) i n) n ⌝ }
 {
     if weighted {
-        return block_sum(weights, i, i + 64);
+        return scale * block_sum(weights, i, i + n);
     }
-    64
+    scale * n as u64
 }

@@ -1,6 +1,6 @@
 -- "Where what is handed back is an enum, a definition sets out the answer and the values for each of its cases. The
--- promises use that definition.": what a caller is told of a size, of three sizes, of a table and of the best position
--- of a box.
+-- promises use that definition.": what a caller is told of a size, of three sizes, of a table, of a batch added to one
+-- and of the best position of a box.
 -- Assumes nothing.
 use mathlib.Core.Path.{_≡_, refl, ap, _∙_}
 use mathlib.Core.Logic.{_⊎_, inl, inr}
@@ -18,12 +18,15 @@ use Rattle.grid.specs.Grid.{gridWith, gridOf, gridAnswer}
 use Rattle.table.specs.Cell.{View}
 use Rattle.table.specs.Sound.{limit, total, sound, soundTotal, soundAnswer}
 use Rattle.table.proofs.Total.{total-told, unsound-told}
+use Rattle.loader.specs.Load.{Weighted, weightOf}
+use Rattle.loader.specs.Add.{addedTo, addedAnswer}
+use Rattle.loader.proofs.Adding.{added-fits, added-passes}
 use Rattle.boxes.specs.declared.sides.Bounds.{Bounds}
 use Rattle.boxes.specs.Box.{Within}
 use Rattle.spread.specs.Cut.{positionAnswer, bestCut}
 use Rattle.spread.specs.Best.{Candidate, Tells}
 use Rattle.spread.proofs.Least.{best-told}
-use Rattle.promises.specs.Answers.{Among, NotAmong, ShiftTold, GridTold, SoundTold}
+use Rattle.promises.specs.Answers.{Among, NotAmong, ShiftTold, GridTold, SoundTold, AddedTold}
 use Rattle.promises.proofs.Each.{each}
 
 -- ---- a size
@@ -88,6 +91,14 @@ sound-told g v =
     record {
       done = λ e. ap soundAnswer (total-told limit g v e);
       refused = λ e. ap soundAnswer (unsound-told limit g v e);
+    }
+
+-- ---- a batch added to a table
+pub added-told : (had : ℕ) (cs : List Weighted) → AddedTold had (weightOf cs) (addedAnswer (addedTo limit had cs))
+added-told had cs =
+    record {
+      done = λ h. ap addedAnswer (added-fits limit had cs h);
+      refused = λ h. ap addedAnswer (added-passes limit had cs h);
     }
 
 -- ---- the best position of a box: "either a position with its float score, or that no position exists; the second

@@ -27,8 +27,17 @@ use Rattle.table.proofs.layout.put_at as put-at
 use Rattle.table.proofs.cell.plus as plus
 use Rattle.table.proofs.cell.minus as minus
 use Rattle.table.proofs.sound.sound_total as sound-total
+use Rattle.loader.specs.declared.add.Added.{Added}
+use Rattle.loader.proofs.steps.fill_steps as fill-steps
+use Rattle.loader.proofs.add.add_batch as add-batch
+use Rattle.loader.proofs.load.load_scaled as load-scaled
 use Rattle.loader.proofs.load.load as load
 use Rattle.loader.proofs.merge.merge as merge
+use Rattle.recorder.specs.declared.session.SessionAnswer.{SessionAnswer}
+use Rattle.recorder.proofs.session.begin as begin
+use Rattle.recorder.proofs.session.reload as reload
+use Rattle.recorder.proofs.batch.batch as batch
+use Rattle.recorder.proofs.replay.replay as replay
 use Rattle.compare.specs.declared.call.Compared.{Compared}
 use Rattle.compare.proofs.call.compare as compare
 use Rattle.sums.proofs.moments.moments as moments
@@ -68,6 +77,10 @@ use Rattle.seluvava.proofs.tables.seluvava_table_len as exported-table-len
 use Rattle.seluvava.proofs.tables.seluvava_load as exported-load
 use Rattle.seluvava.proofs.tables.seluvava_merge as exported-merge
 use Rattle.seluvava.proofs.tables.seluvava_compare as exported-compare
+use Rattle.seluvava.proofs.recordings.seluvava_begin as exported-begin
+use Rattle.seluvava.proofs.recordings.seluvava_reload as exported-reload
+use Rattle.seluvava.proofs.recordings.seluvava_batch as exported-batch
+use Rattle.seluvava.proofs.recordings.seluvava_replay as exported-replay
 use Rattle.seluvava.proofs.cut.seluvava_cut as exported-cut
 use Rattle.seluvava.proofs.frames.seluvava_map as exported-map
 use Rattle.seluvava.proofs.frames.seluvava_paint as exported-paint
@@ -155,6 +168,18 @@ pub sound-total-determined : Determines 1 sound-total.Kinds.ps sound-total.Kinds
 sound-total-determined κs a r s x y p q = determined p q
 
 -- ---- loader
+pub fill-steps-determined : Determines 1 fill-steps.Kinds.ps fill-steps.Kinds.r fill-steps.Reads.Learnt
+    (λ κs r e. now (e .0))
+fill-steps-determined κs a r s x y p q = determined p q
+
+pub add-batch-determined : Determines {A = Added × List ℕ} 4 add-batch.Kinds.ps add-batch.Kinds.r add-batch.Reads.Learnt
+    (λ κs r e. (r, now (e .1 .0)))
+add-batch-determined κs a r s x y p q = both (determined (p .0) (q .0)) (determined (p .1) (q .1))
+
+pub load-scaled-determined : Determines {A = ℕ × List ℕ} 3 load-scaled.Kinds.ps load-scaled.Kinds.r
+    load-scaled.Reads.Learnt (λ κs r e. (r, now (e .1 .1 .1 .1 .0)))
+load-scaled-determined κs a r s x y p q = both (determined (p .0) (q .0)) (determined (p .1) (q .1))
+
 pub load-determined : Determines {A = ℕ × List ℕ} 3 load.Kinds.ps load.Kinds.r load.Reads.Learnt
     (λ κs r e. (r, now (e .1 .1 .1 .0)))
 load-determined κs a r s x y p q = both (determined (p .0) (q .0)) (determined (p .1) (q .1))
@@ -162,6 +187,22 @@ load-determined κs a r s x y p q = both (determined (p .0) (q .0)) (determined 
 pub merge-determined : Determines {A = ℕ × List ℕ} 2 merge.Kinds.ps merge.Kinds.r merge.Reads.Learnt
     (λ κs r e. (r, now (e .1 .1 .1 .0)))
 merge-determined κs a r s x y p q = both (determined (p .0) (q .0)) (determined (p .1) (q .1))
+
+-- ---- recorder
+pub begin-determined : Determines 0 begin.Kinds.ps begin.Kinds.r begin.Reads.Learnt (λ κs r e. r)
+begin-determined κs a r s x y p q = determined p q
+
+pub reload-determined : Determines 0 reload.Kinds.ps reload.Kinds.r reload.Reads.Learnt (λ κs r e. r)
+reload-determined κs a r s x y p q = determined p q
+
+pub batch-determined : Determines {A = ℕ × List ℕ} 3 batch.Kinds.ps batch.Kinds.r batch.Reads.Learnt
+    (λ κs r e. (r, now (e .1 .1 .1 .1 .1 .0)))
+batch-determined κs a r s x y p q = both (determined (p .0) (q .0)) (determined (p .1) (q .1))
+
+pub replay-determined : Determines {A = SessionAnswer × (List ℕ × List ℕ)} 5 replay.Kinds.ps replay.Kinds.r
+    replay.Reads.Learnt (λ κs r e. (r, (now (e .1 .1 .1 .1 .0), now (e .1 .1 .1 .1 .1 .1 .1 .1 .0))))
+replay-determined κs a r s x y p q =
+    both (determined (p .0) (q .0)) (both (determined (p .1 .0) (q .1 .0)) (determined (p .1 .1) (q .1 .1)))
 
 -- ---- compare
 pub compare-determined : Determines {A = Compared × List ℤ} 3 compare.Kinds.ps compare.Kinds.r compare.Reads.Learnt
@@ -274,6 +315,24 @@ exported-merge-determined κs a r s x y p q = both (determined (p .0) (q .0)) (d
 pub exported-compare-determined : Determines {A = Compared × List ℤ} 3 exported-compare.Kinds.ps
     exported-compare.Kinds.r exported-compare.Reads.Learnt (λ κs r e. (r, now (e .1 .1 .1 .1 .1 .0)))
 exported-compare-determined κs a r s x y p q = both (determined (p .0) (q .0)) (determined (p .1) (q .1))
+
+pub exported-begin-determined : Determines 0 exported-begin.Kinds.ps exported-begin.Kinds.r
+    exported-begin.Reads.Learnt (λ κs r e. r)
+exported-begin-determined κs a r s x y p q = determined p q
+
+pub exported-reload-determined : Determines 0 exported-reload.Kinds.ps exported-reload.Kinds.r
+    exported-reload.Reads.Learnt (λ κs r e. r)
+exported-reload-determined κs a r s x y p q = determined p q
+
+pub exported-batch-determined : Determines {A = ℕ × List ℕ} 3 exported-batch.Kinds.ps exported-batch.Kinds.r
+    exported-batch.Reads.Learnt (λ κs r e. (r, now (e .1 .1 .1 .1 .1 .0)))
+exported-batch-determined κs a r s x y p q = both (determined (p .0) (q .0)) (determined (p .1) (q .1))
+
+pub exported-replay-determined : Determines {A = SessionAnswer × (List ℕ × List ℕ)} 5 exported-replay.Kinds.ps
+    exported-replay.Kinds.r exported-replay.Reads.Learnt
+    (λ κs r e. (r, (now (e .1 .1 .1 .1 .0), now (e .1 .1 .1 .1 .1 .1 .1 .1 .0))))
+exported-replay-determined κs a r s x y p q =
+    both (determined (p .0) (q .0)) (both (determined (p .1 .0) (q .1 .0)) (determined (p .1 .1) (q .1 .1)))
 
 pub exported-cut-determined : Determines {A = CutAnswer × Lent} 8 exported-cut.Kinds.ps exported-cut.Kinds.r
     exported-cut.Reads.Learnt

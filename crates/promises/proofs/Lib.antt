@@ -17,3 +17,12 @@ pub mod Determined
 pub mod Finite
 pub mod Rounds
 pub mod Remainders
+pub mod RecorderColours
+pub mod RecorderSteps
+pub mod RecorderStands
+pub mod Recorder
+pub mod RecorderOrder
+pub mod RecorderJoined
+pub mod RecorderParts
+pub mod RecorderNumbers
+pub mod RecorderCalls

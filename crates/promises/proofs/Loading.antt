@@ -27,21 +27,21 @@ module _ (b1 b2 b3 : ℕ) (t : List ℕ) where
   weight-0-adds-nothing xs ys us ws c1 c2 c3 e = weightless xs ys us ws c1 c2 c3 e b1 b2 b3 t
 
   -- "An empty batch changes nothing": done or refused, the table is as it was
-  pub empty-batch : (given : Bool) (weights : List ℕ) → loadLater b1 b2 b3 t [] given weights ≡ t
-  empty-batch given weights = empty-kept b1 b2 b3 t given weights
+  pub empty-batch : (weighted : Bool) (weights : List ℕ) → loadLater b1 b2 b3 t [] weighted weights ≡ t
+  empty-batch weighted weights = empty-kept b1 b2 b3 t weighted weights
 
   -- and so does a colour of weight 0 alone
   pub weight-0-alone : (c1 c2 c3 : ℕ) → loadLater b1 b2 b3 t (c1 ∷ c2 ∷ c3 ∷ []) true (0 ∷ []) ≡ t
   weight-0-alone c1 c2 c3 = weight-0-adds-nothing [] [] [] [] c1 c2 c3 (omega arith) .1 ∙ empty-batch true []
 
   -- "it is refused only as any other load is": not for a table of the right length that is sound, however full
-  pub empty-accepted : (given : Bool) (weights : List ℕ) {g : Grid} → gridOf b1 b2 b3 ≡ chosen.Accepted g
-      → (given ≡ true → length weights ≡ 0) → Sized t (binsOf g) → sound limit g (viewOf t) ≡ true
-      → loadNumber b1 b2 b3 t [] given weights ≡ 0
-  empty-accepted given weights {g} e none lent is-sound =
-      load-accepts b1 b2 b3 t [] given weights e (omega arith) none lent is-sound
+  pub empty-accepted : (weighted : Bool) (weights : List ℕ) {g : Grid} → gridOf b1 b2 b3 ≡ chosen.Accepted g
+      → (weighted ≡ true → length weights ≡ 0) → Sized t (binsOf g) → sound limit g (viewOf t) ≡ true
+      → loadNumber b1 b2 b3 t [] weighted weights ≡ 0
+  empty-accepted weighted weights {g} e none lent is-sound =
+      load-accepts b1 b2 b3 t [] weighted weights e (omega arith) none lent is-sound
       (omega (
         arith,
-        empty-weight given weights,
+        empty-weight weighted weights,
         total-high {most = limit} {g = g} {v = viewOf t} (record { holds = is-sound }),
       ))

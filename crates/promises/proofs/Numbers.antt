@@ -40,21 +40,13 @@ use Rattle.mapper.proofs.Laws.{map-refused, map-says, map-accepts}
 use Rattle.painter.specs.Paint.{paintNumberOn, paintNumber, paintLater, CanPaint}
 use Rattle.painter.proofs.Laws.{paint-refused, paint-says, paint-accepts}
 use Rattle.seluvava.specs.Cut.{Lent, hasRoom, allLong, callNumberOn, callNumber, cutAnswer}
-use Rattle.promises.specs.Numbers.{Tests, applies, lowestFrom, lowestOf, noGrid, onBins, loadTests, loadApplies}
+use Rattle.promises.specs.Numbers.{Tests, applies, chain, ascends, lowestFrom, lowestOf, noGrid, onBins}
+use Rattle.promises.specs.Numbers.{loadTests, loadApplies}
 use Rattle.promises.specs.Numbers.{mergeTests, mergeApplies, cutTests, cutApplies, callApplies, bandTests}
 use Rattle.promises.specs.Numbers.{compareTests, compareApplies, mapApplies, paintApplies, OnGrid, CanLoad}
 use Rattle.promises.specs.Numbers.{CanMerge, CanCompare}
 
 -- ---- a chain of refusals whose answers do not descend gives the lowest that applies
-unfoldable chain : Tests → ℕ
-chain [] = 0
-chain (x ∷ xs) = refuse (x .1) (x .0) (chain xs)
-
--- answers from n to 9, none lower than the one before
-unfoldable ascends : ℕ → Tests → Bool
-ascends n [] = true
-ascends n (x ∷ xs) = leb n (x .0) && (leb (x .0) 9 && ascends (x .0) xs)
-
 none-applies : (more n : ℕ) → lowestFrom n more (λ m. false) ≡ 0
 unfolding lowestFrom
 none-applies zero n = refl
@@ -79,7 +71,7 @@ none-below (x ∷ xs) n m a h =
     let rest = and-right (leb (x .0) 9) _ (and-right (leb n (x .0)) _ a) in
     rw (ne-eqb (x .0) m (λ e. omega (arith, least, e)), none-below xs (x .0) m rest (omega (arith, least))) refl
 
-lowest : (xs : Tests) (n : ℕ) → 1 ≤ n → ascends n xs ≡ true → chain xs ≡ lowestOf (applies xs)
+pub lowest : (xs : Tests) (n : ℕ) → 1 ≤ n → ascends n xs ≡ true → chain xs ≡ lowestOf (applies xs)
 unfolding chain ascends applies lowestOf refuse
 lowest [] n least a = sym (none-applies 9 1)
 lowest (x ∷ xs) n least a = go (x .1) (lowest xs (x .0) (omega (arith, from, least)) rest)
@@ -115,16 +107,17 @@ both false b n rest = refl
 
 -- ---- the lowest answer of each call
 module _ (b1 b2 b3 : ℕ) where
-  pub load-lowest : (t colours : List ℕ) (given : Bool) (weights : List ℕ)
-      → loadNumber b1 b2 b3 t colours given weights ≡ lowestOf (loadApplies b1 b2 b3 t colours given weights)
+  pub load-lowest : (t colours : List ℕ) (weighted : Bool) (weights : List ℕ)
+      → loadNumber b1 b2 b3 t colours weighted weights ≡ lowestOf (loadApplies b1 b2 b3 t colours weighted weights)
   unfolding loadApplies loadTests chain ascends noGrid onBins onGrid gridAnswer refuse
-  load-lowest t colours given weights = go (gridOf b1 b2 b3) refl
-      ∙ lowest (loadTests (gridOf b1 b2 b3) t colours given weights) 1 (omega arith) refl
+  load-lowest t colours weighted weights = go (gridOf b1 b2 b3) refl
+      ∙ lowest (loadTests (gridOf b1 b2 b3) t colours weighted weights) 1 (omega arith) refl
     where
       go : (c : Chosen) → gridOf b1 b2 b3 ≡ c
-          → loadNumber b1 b2 b3 t colours given weights ≡ chain (loadTests (gridOf b1 b2 b3) t colours given weights)
-      go (chosen.Accepted g) e = load-tests b1 b2 b3 t colours given weights e ∙ rw e refl
-      go chosen.Refused e = sym (load-no-grid b1 b2 b3 t colours given weights e .0) ∙ rw e refl
+          → loadNumber b1 b2 b3 t colours weighted weights
+          ≡ chain (loadTests (gridOf b1 b2 b3) t colours weighted weights)
+      go (chosen.Accepted g) e = load-tests b1 b2 b3 t colours weighted weights e ∙ rw e refl
+      go chosen.Refused e = sym (load-no-grid b1 b2 b3 t colours weighted weights e .0) ∙ rw e refl
 
   pub merge-lowest : (t s : List ℕ) → mergeNumber b1 b2 b3 t s ≡ lowestOf (mergeApplies b1 b2 b3 t s)
   unfolding mergeApplies mergeTests chain ascends noGrid onBins onGrid gridAnswer refuse
@@ -268,11 +261,11 @@ module _ (b1 b2 b3 : ℕ) where
 
 -- ---- a call is done exactly where it is given this
 module _ (b1 b2 b3 : ℕ) where
-  pub load-exactly : (t colours : List ℕ) (given : Bool) (weights : List ℕ)
-      → (loadNumber b1 b2 b3 t colours given weights ≡ 0) ↔ OnGrid b1 b2 b3 (CanLoad t colours given weights)
-  load-exactly t colours given weights = (
+  pub load-exactly : (t colours : List ℕ) (weighted : Bool) (weights : List ℕ)
+      → (loadNumber b1 b2 b3 t colours weighted weights ≡ 0) ↔ OnGrid b1 b2 b3 (CanLoad t colours weighted weights)
+  load-exactly t colours weighted weights = (
     λ e.
-        let d = load-says b1 b2 b3 t colours given weights e in
+        let d = load-says b1 b2 b3 t colours weighted weights e in
         record {
           g = d .g;
           chosen = d .chosen;
@@ -286,7 +279,7 @@ module _ (b1 b2 b3 : ℕ) where
           };
         },
     λ o. let c = o .can in
-        load-accepts b1 b2 b3 t colours given weights (o .chosen) (c .threes) (c .paired) (c .lent) (c .is-sound)
+        load-accepts b1 b2 b3 t colours weighted weights (o .chosen) (c .threes) (c .paired) (c .lent) (c .is-sound)
         (c .fits),
   )
 
@@ -354,9 +347,9 @@ module _ (b1 b2 b3 : ℕ) where
 
   -- ---- a refusal writes nothing
   module _ {n : ℕ} where
-    pub refused-load : (t colours : List ℕ) (given : Bool) (weights : List ℕ)
-        → loadNumber b1 b2 b3 t colours given weights ≡ suc n → loadLater b1 b2 b3 t colours given weights ≡ t
-    refused-load t colours given weights e = load-refused b1 b2 b3 t colours given weights e
+    pub refused-load : (t colours : List ℕ) (weighted : Bool) (weights : List ℕ)
+        → loadNumber b1 b2 b3 t colours weighted weights ≡ suc n → loadLater b1 b2 b3 t colours weighted weights ≡ t
+    refused-load t colours weighted weights e = load-refused b1 b2 b3 t colours weighted weights e
 
     pub refused-merge : (t s : List ℕ) → mergeNumber b1 b2 b3 t s ≡ suc n → mergeLater b1 b2 b3 t s ≡ t
     refused-merge t s e = merge-refused b1 b2 b3 t s e

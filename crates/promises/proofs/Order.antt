@@ -17,7 +17,7 @@ use Rattle.cutter.specs.Cut.{Buffers, cutRecord, cutLater}
 use Rattle.promises.specs.Order.{SameCut, CutAlike}
 
 -- a cut sees nothing of a table but its numbers
-same-cut : (g : Grid) (b1 b2 b3 k : ℕ) (b : Buffers) {t s : List ℕ} → t ≡ s → SameCut g b1 b2 b3 k b t s
+pub same-cut : (g : Grid) (b1 b2 b3 k : ℕ) (b : Buffers) {t s : List ℕ} → t ≡ s → SameCut g b1 b2 b3 k b t s
 same-cut g b1 b2 b3 k b e =
     record {
       boxes = λ i. cutRecord b1 b2 b3 k (e i) b;

@@ -4,9 +4,10 @@ use mathlib.Core.Path.{_≡_}
 use mathlib.Core.Logic.{_⊎_}
 use mathlib.Core.Bool.{Bool, true, false}
 use mathlib.Core.List.{List, [], _∷_, List·Memᴰ}
-use Prim.Native.Nat.{ℕ}
+use Prim.Native.Nat.{ℕ, _+_, _≤_, _<_}
 use Rattle.basics.specs.Answer.{Answer}
 use Rattle.grid.specs.Size.{choices}
+use Rattle.table.specs.Sound.{limit}
 
 -- answer 0, done, with its values; and the answer of a refusal, with none
 abbrev pub answered : List ℕ → Answer
@@ -36,3 +37,8 @@ pub record GridTold (b1 b2 b3 : ℕ) (a : Answer) : Type 0 where
 pub record SoundTold (is-sound : Bool) (total : ℕ) (a : Answer) : Type 0 where
   pub done : is-sound ≡ true → a ≡ answered (total ∷ [])
   pub refused : is-sound ≡ false → a ≡ refusedBy 6
+
+-- of a batch added to a table: the total then, or 7, "would pass 4,294,967,295"
+pub record AddedTold (had more : ℕ) (a : Answer) : Type 0 where
+  pub done : had + more ≤ limit → a ≡ answered ((had + more) ∷ [])
+  pub refused : limit < had + more → a ≡ refusedBy 7

@@ -13,3 +13,5 @@ pub mod Listing
 pub mod Finite
 pub mod Rounds
 pub mod Remainders
+pub mod Recorder
+pub mod RecorderNumbers

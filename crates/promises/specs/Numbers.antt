@@ -6,6 +6,7 @@ use Prim.Native.Nat.{ℕ, zero, suc, _+_, _*_, _/_, _%_, _≤_}
 use lib.Dec.{eqb, leb, ltb}
 use lib.IntN.{ℤ}
 use lib.ListN.{length}
+use Rattle.basics.specs.Answer.{refuse}
 use Rattle.grid.specs.declared.place.Grid.{Grid}
 use Rattle.grid.specs.declared.place.Chosen.{Chosen}
 use Rattle.grid.specs.declared.place.Chosen.the-variants as chosen
@@ -36,6 +37,16 @@ lowestFrom n (suc more) f = cond (f n) n (lowestFrom (suc n) more f)
 unfoldable pub lowestOf : (ℕ → Bool) → ℕ
 lowestOf f = lowestFrom 1 9 f
 
+-- the answer of the first test that holds, or 0
+unfoldable pub chain : Tests → ℕ
+chain [] = 0
+chain (x ∷ xs) = refuse (x .1) (x .0) (chain xs)
+
+-- answers from n to 9, none lower than the one before
+unfoldable pub ascends : ℕ → Tests → Bool
+ascends n [] = true
+ascends n (x ∷ xs) = leb n (x .0) && (leb (x .0) 9 && ascends (x .0) xs)
+
 -- "a grid size not among the seven" (`grid-told`)
 unfoldable pub noGrid : Chosen → Bool
 noGrid c = eqb (gridAnswer c .number) 1
@@ -46,17 +57,17 @@ onBins c test = onGrid c false test
 
 -- "load 1, 3, 4, 5, 6, 7"
 unfoldable pub loadTests : Chosen → List ℕ → List ℕ → Bool → List ℕ → Tests
-loadTests c t colours given weights =
+loadTests c t colours weighted weights =
     (1, noGrid c)
     ∷ (3, not (eqb (length colours % 3) 0))
-    ∷ (4, given && not (eqb (length weights) (length colours / 3)))
+    ∷ (4, weighted && not (eqb (length weights) (length colours / 3)))
     ∷ (5, onBins c (λ g. not (isSized t (binsOf g))))
     ∷ (6, onBins c (λ g. not (sound limit g (viewOf t))))
-    ∷ (7, onBins c (λ g. ltb limit (total g (viewOf t) + weightOf (batchOf colours given weights))))
+    ∷ (7, onBins c (λ g. ltb limit (total g (viewOf t) + weightOf (batchOf colours weighted weights))))
     ∷ []
 
 unfoldable pub loadApplies : ℕ → ℕ → ℕ → List ℕ → List ℕ → Bool → List ℕ → ℕ → Bool
-loadApplies b1 b2 b3 t colours given weights = applies (loadTests (gridOf b1 b2 b3) t colours given weights)
+loadApplies b1 b2 b3 t colours weighted weights = applies (loadTests (gridOf b1 b2 b3) t colours weighted weights)
 
 -- "merge 1, 5, 6, 7 (either table unsound is 6)"
 unfoldable pub mergeTests : Chosen → List ℕ → List ℕ → Tests
@@ -138,12 +149,12 @@ pub record OnGrid (b1 b2 b3 : ℕ) (Can : Grid → Type 0) : Type 0 where
   pub can : Can g
 
 -- of a load, no 3, 4, 5, 6, 7
-pub record CanLoad (t colours : List ℕ) (given : Bool) (weights : List ℕ) (g : Grid) : Type 0 where
+pub record CanLoad (t colours : List ℕ) (weighted : Bool) (weights : List ℕ) (g : Grid) : Type 0 where
   pub threes : length colours % 3 ≡ 0
-  pub paired : given ≡ true → length weights ≡ length colours / 3
+  pub paired : weighted ≡ true → length weights ≡ length colours / 3
   pub lent : Sized t (binsOf g)
   pub is-sound : sound limit g (viewOf t) ≡ true
-  pub fits : total g (viewOf t) + weightOf (batchOf colours given weights) ≤ limit
+  pub fits : total g (viewOf t) + weightOf (batchOf colours weighted weights) ≤ limit
 
 -- of a merge, no 5, 6, 7
 pub record CanMerge (t s : List ℕ) (g : Grid) : Type 0 where

@@ -1,8 +1,9 @@
 //! The port: the exported calls of the static library.
-use oracle::port::{Band, CutAnswer, Grid, Lent, Port};
+use oracle::port::{Band, CutAnswer, Grid, Lent, Port, Recorded};
 use seluvava_sys::{
-    seluvava_bins, seluvava_compare, seluvava_cut, seluvava_load, seluvava_map, seluvava_merge,
-    seluvava_paint, seluvava_table_len,
+    Session, SessionAnswer, seluvava_batch, seluvava_begin, seluvava_bins, seluvava_compare,
+    seluvava_cut, seluvava_load, seluvava_map, seluvava_merge, seluvava_paint, seluvava_reload,
+    seluvava_replay, seluvava_table_len,
 };
 use std::ptr;
 
@@ -21,6 +22,10 @@ fn start_mut<T>(list: &mut [T]) -> *mut T {
     } else {
         list.as_mut_ptr()
     }
+}
+
+fn told(answer: SessionAnswer) -> (u8, u32) {
+    (answer.number, answer.session.interval)
 }
 
 pub struct Library;
@@ -90,6 +95,74 @@ impl Port for Library {
             )
         };
         (answer.number, answer.differ, answer.first)
+    }
+
+    fn begin(&self, interval: u32) -> (u8, u32) {
+        told(unsafe { seluvava_begin(interval) })
+    }
+
+    fn reload(&self, in_force: u32, interval: u32) -> (u8, u32) {
+        told(unsafe { seluvava_reload(Session { interval: in_force }, interval) })
+    }
+
+    fn batch(
+        &self,
+        [in_force, interval]: [u32; 2],
+        [b1, b2, b3]: Grid,
+        table: &mut [u64],
+        colours: &[u8],
+        weighted: bool,
+        weights: &[u32],
+    ) -> u8 {
+        unsafe {
+            seluvava_batch(
+                Session { interval: in_force },
+                interval,
+                b1,
+                b2,
+                b3,
+                start_mut(table),
+                table.len(),
+                start(colours),
+                colours.len(),
+                weighted,
+                start(weights),
+                weights.len(),
+            )
+        }
+    }
+
+    fn replay(
+        &self,
+        first: u32,
+        [b1, b2, b3]: Grid,
+        table: &mut [u64],
+        recorded: Recorded<'_>,
+        answers: &mut [u8],
+    ) -> (u8, u32) {
+        let Recorded {
+            entries,
+            colours,
+            weights,
+        } = recorded;
+        told(unsafe {
+            seluvava_replay(
+                first,
+                b1,
+                b2,
+                b3,
+                start_mut(table),
+                table.len(),
+                start(entries),
+                entries.len(),
+                start(colours),
+                colours.len(),
+                start(weights),
+                weights.len(),
+                start_mut(answers),
+                answers.len(),
+            )
+        })
     }
 
     fn cut(&self, [b1, b2, b3]: Grid, k: usize, table: &[u64], lent: Lent<'_>) -> CutAnswer {

@@ -1,7 +1,7 @@
 //! Makes the damages of a case.
 use crate::{
     case::{Case, Kind},
-    damage::{DAMAGES, Damage, OF_NIGHTS},
+    damage::{DAMAGES, Damage, OF_NIGHTS, OF_RECORDINGS},
     numbers::{added, place},
     random::Random,
 };
@@ -13,12 +13,14 @@ const HUGE: [i64; 6] = [1 << 32, (1 << 32) + 2, -1, -2, i64::MIN, i64::MAX];
 pub fn one(case: &Case, r: &mut Random) -> Damage {
     let what = match case.kind {
         Kind::Nights { .. } => r.one_of(&OF_NIGHTS),
+        Kind::Recordings { .. } => r.one_of(&OF_RECORDINGS),
         _ => r.one_of(&DAMAGES),
     };
     let at = match what {
         "number" | "second-number" => number_place(case, r),
         "entry" => r.from(0, case.bins() - 1),
         "size" => r.from(0, 2),
+        "kind" | "listed-interval" | "listed-colours" => r.from(0, entries_of(case)),
         _ => 0,
     };
     let (k, huge) = (case.k as i64, r.one_of(&HUGE));
@@ -35,6 +37,13 @@ pub fn one(case: &Case, r: &mut Random) -> Damage {
             let to = r.one_of(&[0, 1, 2, 3, 4, 766, 767, 768, 769, 770, 771, 774]);
             r.one_of(&[-3, -2, -1, 1, 2, 3, to - 3 * k])
         }
+        "in-force" | "own" | "listed-interval" => interval(r),
+        "kind" => r.one_of(&[0, 1, 2, 3, 256, 65_537, u32::MAX.into()]),
+        // The larger ones add up past 2^32 with what the others may be.
+        "listed-colours" => {
+            let (past, more) = (1 << 32, r.from(0, 9) as i64);
+            r.one_of(&[0, 1, 2, more, past - 1, past - 2, past - more - 1, past / 2])
+        }
         // The last two add up past the largest number with what the other of the two may be.
         "first" | "pixels" => r.one_of(&[0, 1, pixels - 1, pixels, pixels + 1, huge, -pixels, -1]),
         _ => r.one_of(&[-1, 1, -2, 2, -3, 3, -4, 4, -5, 5, -1_000_000_000]),
@@ -43,6 +52,20 @@ pub fn one(case: &Case, r: &mut Random) -> Damage {
         what,
         place: at,
         value,
+    }
+}
+
+/// An interval, or a number that is none.
+fn interval(r: &mut Random) -> i64 {
+    let any = r.from(1, 4096) as i64;
+    r.one_of(&[0, 1, 2, 4096, 4097, 65_537, u32::MAX.into(), any])
+}
+
+/// How many entries the recorded list of a case has.
+fn entries_of(case: &Case) -> usize {
+    match &case.kind {
+        Kind::Recordings { entries, .. } => entries.len(),
+        _ => 0,
     }
 }
 
@@ -60,7 +83,7 @@ fn number_place(case: &Case, r: &mut Random) -> usize {
 fn numbers_of(case: &Case, first: bool, bin: usize) -> [i64; 5] {
     let (from, split) = match case.kind {
         Kind::Whole { .. } => return [0; 5],
-        Kind::Calls { split, .. } => (split, split),
+        Kind::Calls { split, .. } | Kind::Recordings { split, .. } => (split, split),
         Kind::Nights { from, split, .. } => (from, split),
     };
     let mut numbers = [0; 5];

@@ -28,6 +28,20 @@ pub struct CompareAnswer {
     pub first: usize,
 }
 
+/// A session: the interval in force.
+#[repr(C)]
+#[derive(Clone, Copy)]
+pub struct Session {
+    pub interval: u32,
+}
+
+/// What begin, reload and replay answer.
+#[repr(C)]
+pub struct SessionAnswer {
+    pub number: u8,
+    pub session: Session,
+}
+
 // SAFETY: types and order are those of the header.
 unsafe extern "C" {
     pub fn seluvava_bins(b1: usize, b2: usize, b3: usize) -> usize;
@@ -68,6 +82,42 @@ unsafe extern "C" {
         differences: *mut i64,
         differences_len: usize,
     ) -> CompareAnswer;
+
+    pub fn seluvava_begin(interval: u32) -> SessionAnswer;
+
+    pub fn seluvava_reload(session: Session, interval: u32) -> SessionAnswer;
+
+    pub fn seluvava_batch(
+        session: Session,
+        interval: u32,
+        b1: usize,
+        b2: usize,
+        b3: usize,
+        table: *mut u64,
+        table_len: usize,
+        colours: *const u8,
+        colours_len: usize,
+        weighted: bool,
+        weights: *const u32,
+        weights_len: usize,
+    ) -> u8;
+
+    pub fn seluvava_replay(
+        first: u32,
+        b1: usize,
+        b2: usize,
+        b3: usize,
+        table: *mut u64,
+        table_len: usize,
+        entries: *const u32,
+        entries_len: usize,
+        colours: *const u8,
+        colours_len: usize,
+        weights: *const u32,
+        weights_len: usize,
+        answers: *mut u8,
+        answers_len: usize,
+    ) -> SessionAnswer;
 
     pub fn seluvava_cut(
         b1: usize,

@@ -2,14 +2,17 @@
 -- Assumes nothing.
 use mathlib.Core.Path.{_≡_, sym, subst, _∙_}
 use mathlib.Core.Bool.{Bool}
+use mathlib.Core.List.{List}
 use Prim.Native.Nat.{ℕ, _<_, _+_}
 use native.Mathlib.Omega.{arith}
 use borrow.Author.Needs.{needs}
 use denote.Ref.{now}
 use lib.ListN.{getD}
+use Rattle.grid.specs.declared.place.Grid.{Grid}
 use Rattle.pixels.specs.Colour.{colourAt}
 use Rattle.pixels.proofs.EqualColours.{one-colour}
 use Rattle.table.proofs.Tables.{holds-list}
+use Rattle.table.specs.Table.{Table}
 use Rattle.table.specs.Sound.{limit}
 use Rattle.loader.specs.Inner.{withPart, PartFits}
 use Rattle.loader.proofs.Parts.{light, has-room, at-once}
@@ -27,6 +30,13 @@ same f k h =
     let a = f .before .before .before .before .before .args in
     one-colour (now (a .colours)) (a .at) (sym (f .before .equal-colours .ensures) ∙ f .if1 .taken) k (omega arith)
 
+-- what is known to be so can be said by constants
+constants : {g : Grid} {t : Table} {m n : ℕ} {colours : List ℕ} {a b : Bool} {weights : List ℕ} {at : ℕ} → m ≡ n
+    → a ≡ b → PartFits limit g t m colours a weights at 64 → PartFits limit g t n colours b weights at 64
+constants {g} {t} {m} {n} {colours} {a} {b} {weights} {at} e q fits =
+    subst (λ (x : ℕ). PartFits limit g t x colours b weights at 64) e
+    (subst (λ (x : Bool). PartFits limit g t m colours x weights at 64) q fits)
+
 equal-colours-requires : tie.Need-equal-colours-requires
 equal-colours-requires c κs = c .before .before .before .pre .1 .0
 
@@ -36,7 +46,7 @@ colour-requires c κs = omega arith
 block-weight-requires : tie.Need-block-weight-requires
 block-weight-requires c κs =
     let fits = c .before .before .before .before .before .before .pre .0 in
-    λ given. omega (arith, fits .there, fits .one-each given)
+    (omega arith, fits .scaled .few, λ given. omega (arith, fits .there, fits .one-each given))
 
 add-colour-requires : tie.Need-add-colour-requires
 add-colour-requires c κs =
@@ -64,33 +74,39 @@ returns c =
 
 add-each-requires : tie.Need-add-each-requires
 add-each-requires c κs =
-    let s = c .before .before .before .before .before .before .before in
-    let a = s .args in (
-      subst (λ (b : Bool). PartFits limit (a .g) (now (a .table)) (now (a .colours)) b (now (a .weights)) (a .at) 64)
-          (c .before .if2 .taken) (s .pre .0),
-      s .pre .1 .1,
-    )
+    let s = c .before .before .before .before .before .before .before .before in
+    (constants (c .before .before .if2 .taken) (c .before .if3 .taken) (s .pre .0), s .pre .1 .1)
 
 same-length-2 : tie.Need-same-length-2
 same-length-2 c = search needs
 
 returns-2 : tie.Need-returns-2
-returns-2 c = rw (c .before .before .before .before .if2 .taken) (c .before .before .add-each .ensures)
+returns-2 c =
+    let b = c .before .before .before .before in
+    rw (b .before .if2 .taken, b .if3 .taken) (c .before .before .add-each .ensures)
 
 add-each-requires-2 : tie.Need-add-each-requires-2
 add-each-requires-2 c κs =
-    let s = c .before .before .before .before .before .before .before in
-    let a = s .args in (
-      subst (λ (b : Bool). PartFits limit (a .g) (now (a .table)) (now (a .colours)) b (now (a .weights)) (a .at) 64)
-          (c .before .if2 .left) (s .pre .0),
-      s .pre .1 .1,
-    )
+    let s = c .before .before .before .before .before .before .before .before in
+    (constants (c .before .before .if2 .taken) (c .before .if3 .left) (s .pre .0), s .pre .1 .1)
 
 same-length-3 : tie.Need-same-length-3
 same-length-3 c = search needs
 
 returns-3 : tie.Need-returns-3
-returns-3 c = rw (c .before .before .before .before .if2 .left) (c .before .before .add-each2 .ensures)
+returns-3 c =
+    let b = c .before .before .before .before in
+    rw (b .before .if2 .taken, b .if3 .left) (c .before .before .add-each2 .ensures)
+
+add-each-requires-3 : tie.Need-add-each-requires-3
+add-each-requires-3 c κs =
+    let s = c .before .before .before .before .before .before .before in (s .pre .0, s .pre .1 .1)
+
+same-length-4 : tie.Need-same-length-4
+same-length-4 c = search needs
+
+returns-4 : tie.Need-returns-4
+returns-4 c = c .before .before .add-each3 .ensures
 
 pub add-block-spec : {M : Type 1} → statement M
 add-block-spec =
@@ -107,4 +123,7 @@ add-block-spec =
     returns-2
     add-each-requires-2
     same-length-3
-    returns-3)
+    returns-3
+    add-each-requires-3
+    same-length-4
+    returns-4)

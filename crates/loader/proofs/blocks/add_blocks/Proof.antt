@@ -16,11 +16,11 @@ use Rattle.loader.proofs.blocks.add_blocks.Statement.{statement}
 use Rattle.loader.proofs.blocks.add_blocks.Tie as tie
 
 abbrev Inv-loop : tie.InvT-loop
-Inv-loop g table₀ t1 t2 t3 colours weighted weights n i₀ table i =
-    (i ≤ n) × Holds (binsOf g) table (loaded g (partOf colours weighted weights 0 i) (viewOf table₀))
+Inv-loop g table₀ steps colours weighted weights scale n i₀ table i =
+    (i ≤ n) × Holds (binsOf g) table (loaded g (partOf scale colours weighted weights 0 i) (viewOf table₀))
 
 abbrev μ-loop : tie.MeasureT-loop
-μ-loop g table₀ t1 t2 t3 colours weighted weights n i₀ table i = n - i
+μ-loop g table₀ steps colours weighted weights scale n i₀ table i = n - i
 
 -- each colour is of bytes
 bytes : (l : tie.At-loop Inv-loop μ-loop) (k : ℕ)
@@ -32,7 +32,7 @@ loop-holds c =
     let s = c .before .before .before in
     let a = s .args in (
       omega arith,
-      held-none (a .g) (now (a .table)) (now (a .colours)) (a .weighted) (now (a .weights)) 0
+      held-none (a .g) (now (a .table)) (a .scale) (now (a .colours)) (a .weighted) (now (a .weights)) 0
           (s .pre .0 .table .lent),
     )
 
@@ -61,26 +61,27 @@ loop-again c =
     let a = s .args in (
       omega arith,
       held-later (s .pre .0) (bytes k) (l .i) (l .inv .1) (l .i) 64 (omega arith)
-          (part-held (a .g) (l .table) (now (a .colours)) (a .weighted) (now (a .weights)) (l .i) 64
+          (part-held (a .g) (l .table) (a .scale) (now (a .colours)) (a .weighted) (now (a .weights)) (l .i) 64
           (c .before .before .add-block .ensures)),
     )
 
-sub-add-each : tie.Need-sub-add-each Inv-loop μ-loop
-sub-add-each c = omega arith
+sub-add-last : tie.Need-sub-add-last Inv-loop μ-loop
+sub-add-last c = omega arith
 
-add-each-requires : tie.Need-add-each-requires Inv-loop μ-loop
-add-each-requires c κs =
+add-last-requires : tie.Need-add-last-requires Inv-loop μ-loop
+add-last-requires c κs =
     let l = c .before .before .loop in
     let s = c .before .before .before .before .before .before in (
       fits-later (s .pre .0) (bytes (c .before .before)) (l .i) (l .inv .1) (l .i) (s .args .n - l .i) (omega arith)
           (omega arith),
-      s .pre .1,
+      (omega arith, s .pre .1),
     )
 
 all-held : (c : tie.After-slice-known3 Inv-loop μ-loop) →
     let a = c .before .before .before .before .before .before .before .before .before .args in
-    Holds (binsOf (a .g)) (c .before .before .add-each .last .1 .0)
-    (loaded (a .g) (partOf (now (a .colours)) (a .weighted) (now (a .weights)) 0 (a .n)) (viewOf (now (a .table))))
+    Holds (binsOf (a .g)) (c .before .before .add-last .last .1 .0)
+    (loaded (a .g) (partOf (a .scale) (now (a .colours)) (a .weighted) (now (a .weights)) 0 (a .n))
+    (viewOf (now (a .table))))
 all-held c =
     let k = c .before .before .before .before .before in
     let l = k .loop in
@@ -89,8 +90,8 @@ all-held c =
     let all : l .i + (a .n - l .i) ≡ a .n = omega arith in
     rw all at
     (held-later (s .pre .0) (bytes k) (l .i) (l .inv .1) (l .i) (a .n - l .i) (omega arith)
-    (part-held (a .g) (l .table) (now (a .colours)) (a .weighted) (now (a .weights)) (l .i) (a .n - l .i)
-    (c .before .before .add-each .ensures)))
+    (part-held (a .g) (l .table) (a .scale) (now (a .colours)) (a .weighted) (now (a .weights)) (l .i) (a .n - l .i)
+    (c .before .before .add-last .ensures)))
 
 same-length : tie.Need-same-length Inv-loop μ-loop
 same-length c =
@@ -113,7 +114,7 @@ add-blocks-spec =
     add-i
     loop-less
     loop-again
-    sub-add-each
-    add-each-requires
+    sub-add-last
+    add-last-requires
     same-length
     returns)

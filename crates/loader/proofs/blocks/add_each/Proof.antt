@@ -16,11 +16,11 @@ use Rattle.loader.proofs.blocks.add_each.Statement.{statement}
 use Rattle.loader.proofs.blocks.add_each.Tie as tie
 
 abbrev Inv-loop : tie.InvT-loop
-Inv-loop g table₀ t1 t2 t3 colours weighted weights at n k₀ table k =
-    (k ≤ n) × Holds (binsOf g) table (loaded g (partOf colours weighted weights at k) (viewOf table₀))
+Inv-loop g table₀ steps colours weighted weights scale at n k₀ table k =
+    (k ≤ n) × Holds (binsOf g) table (loaded g (partOf scale colours weighted weights at k) (viewOf table₀))
 
 abbrev μ-loop : tie.MeasureT-loop
-μ-loop g table₀ t1 t2 t3 colours weighted weights at n k₀ table k = n - k
+μ-loop g table₀ steps colours weighted weights scale at n k₀ table k = n - k
 
 -- each colour is of bytes, and the next fits the table that there is
 bytes : (l : tie.In-loop Inv-loop μ-loop) (k : ℕ)
@@ -29,7 +29,7 @@ bytes l k = omega (arith, l .before .before .before .shared-slice-known .given k
 
 next : (l : tie.In-loop Inv-loop μ-loop) →
     let a = l .before .before .before .before .before .args in
-    PartFits limit (a .g) (l .before .loop .table) (now (a .colours)) (a .weighted) (now (a .weights))
+    PartFits limit (a .g) (l .before .loop .table) (a .scale) (now (a .colours)) (a .weighted) (now (a .weights))
     (a .at + l .before .loop .k) 1
 next l =
     fits-later (l .before .before .before .before .before .pre .0) (bytes l) (l .before .loop .k)
@@ -40,7 +40,7 @@ loop-holds c =
     let s = c .before .before .before in
     let a = s .args in (
       omega arith,
-      held-none (a .g) (now (a .table)) (now (a .colours)) (a .weighted) (now (a .weights)) (a .at)
+      held-none (a .g) (now (a .table)) (a .scale) (now (a .colours)) (a .weighted) (now (a .weights)) (a .at)
           (s .pre .0 .table .lent),
     )
 
@@ -51,14 +51,15 @@ colour-requires : tie.Need-colour-requires Inv-loop μ-loop
 colour-requires c κs = omega (arith, next c .there)
 
 weight-at-requires : tie.Need-weight-at-requires Inv-loop μ-loop
-weight-at-requires c κs = λ given. omega (arith, next (c .before) .there, next (c .before) .one-each given)
+weight-at-requires c κs =
+    let fits = next (c .before) in (fits .scaled .few, λ given. omega (arith, fits .there, fits .one-each given))
 
 add-colour-requires : tie.Need-add-colour-requires Inv-loop μ-loop
 add-colour-requires c κs =
     let l = c .before .before .before in
     let a = l .before .before .before .before .before .args in
     let same = alone (now (a .colours)) (a .at + l .before .loop .k) in
-    let own = own-weight (a .weighted) (now (a .weights)) (a .at + l .before .loop .k) in
+    let own = own-weight (a .scale) (a .weighted) (now (a .weights)) (a .at + l .before .loop .k) in
     let w = c .before .weight-at .ensures ∙ own in (
       l .before .before .before .before .before .pre .1,
       (
@@ -79,7 +80,7 @@ loop-again c =
     let s = l .before .before .before .before .before in
     let a = s .args in
     let same = alone (now (a .colours)) (a .at + l .before .loop .k) in
-    let own = own-weight (a .weighted) (now (a .weights)) (a .at + l .before .loop .k) in
+    let own = own-weight (a .scale) (a .weighted) (now (a .weights)) (a .at + l .before .loop .k) in
     let w = c .before .before .before .before .weight-at .ensures ∙ own in (
       omega arith,
       held-later (s .pre .0) (bytes l) (l .before .loop .k) (l .before .loop .inv .1) _ 1 refl

@@ -5,13 +5,13 @@ use native.Mathlib.Omega.{arith}
 use borrow.Author.Needs.{needs}
 use Rattle.grid.proofs.Places.{Bytes}
 use Rattle.loader.specs.Inner.{withColour}
-use Rattle.loader.proofs.StepTables.{place-below, squares-above}
+use Rattle.loader.proofs.StepTable.{place-below, squares-above}
 use Rattle.loader.proofs.shares.add_colour.Statement.{statement}
 use Rattle.loader.proofs.shares.add_colour.Tie as tie
 
 is-bytes : (s : tie.Start) → Bytes (s .args .x)
 is-bytes s =
-    let known = s .good .1 .1 .1 .1 .1 .0 in
+    let known = s .good .1 .1 .1 .0 in
     record { one = omega (arith, known); two = omega (arith, known); three = omega (arith, known) }
 
 look-up-requires : tie.Need-look-up-requires

@@ -8,7 +8,7 @@ use Rattle.table.proofs.Cells.{cell-is}
 use Rattle.loader.specs.Load.{share}
 use Rattle.loader.specs.Inner.{squaresOf}
 use Rattle.loader.proofs.Loading.{times-high}
-use Rattle.loader.proofs.StepTables.{squares-small}
+use Rattle.loader.proofs.StepTable.{squares-small}
 use Rattle.loader.proofs.shares.share_of.Statement.{statement}
 use Rattle.loader.proofs.shares.share_of.Tie as tie
 

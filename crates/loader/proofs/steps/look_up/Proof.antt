@@ -3,13 +3,13 @@
 use native.Mathlib.Omega.{arith}
 use borrow.Author.Needs.{needs}
 use Rattle.grid.proofs.Places.{Bytes}
-use Rattle.loader.proofs.StepTables.{looked-up, place-small, squares-small}
+use Rattle.loader.proofs.StepTable.{looked-up, place-small, squares-small}
 use Rattle.loader.proofs.steps.look_up.Statement.{statement}
 use Rattle.loader.proofs.steps.look_up.Tie as tie
 
 is-bytes : (s : tie.Start) → Bytes (s .args .x)
 is-bytes s =
-    let known = s .good .1 .1 .1 .1 .0 in
+    let known = s .good .1 .1 .0 in
     record { one = omega (arith, known); two = omega (arith, known); three = omega (arith, known) }
 
 cast-i1 : tie.Need-cast-i1
@@ -18,8 +18,14 @@ cast-i1 c = search needs
 cast-i2 : tie.Need-cast-i2
 cast-i2 c = search needs
 
+add-i2 : tie.Need-add-i2
+add-i2 c = search needs
+
 cast-i3 : tie.Need-cast-i3
 cast-i3 c = search needs
+
+add-i3 : tie.Need-add-i3
+add-i3 c = search needs
 
 mul-result : tie.Need-mul-result
 mul-result c = search needs
@@ -62,7 +68,9 @@ look-up-spec =
     (tie.spec
     cast-i1
     cast-i2
+    add-i2
     cast-i3
+    add-i3
     mul-result
     element-copy-out-result
     mul-result-2

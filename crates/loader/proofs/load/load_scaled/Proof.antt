@@ -1,0 +1,245 @@
+-- `loader::load::load_scaled` meets its contract: the refusals in their order, and then the batch is added.
+-- Assumes nothing.
+use mathlib.Core.List.{List}
+use mathlib.Core.Logic.{⊎-elim}
+use mathlib.Core.Bool.{true, false, true≢false, not, _&&_}
+use mathlib.Core.Path.{_≡_, refl, sym, ap, _∙_}
+use Prim.Native.Nat.{ℕ, _/_}
+use borrow.Author.Needs.{needs}
+use denote.Ref.{now}
+use lib.ListN.{length}
+use lib.Dec.{eqb}
+use Rattle.grid.specs.declared.place.Chosen.the-variants as chosen
+use Rattle.grid.specs.declared.place.Grid.{Grid}
+use Rattle.grid.specs.Grid.{gridOf, Accepted}
+use Rattle.grid.proofs.Places.{chose}
+use Rattle.table.specs.Sound.{limit}
+use Rattle.table.specs.Table.{Table, TableOf}
+use Rattle.table.proofs.Tables.{sized-by, not-sized-by}
+use Rattle.table.proofs.Total.{unsound-says, total-says}
+use Rattle.loader.specs.declared.add.Added.{Added}
+use Rattle.loader.specs.Load.{scaledWeights, loadNumber, loadLater}
+use Rattle.loader.specs.Add.{Known, Whole, addedAnswer}
+use Rattle.loader.proofs.Calls.{pairs, load-no-grid, load-not-threes, load-not-paired, load-length, load-unsound}
+use Rattle.loader.proofs.Scaled.{scaled-pairs, given-length}
+use Rattle.loader.proofs.Adding.{number-says, later-says}
+use Rattle.loader.proofs.load.load_scaled.Statement.{statement}
+use Rattle.loader.proofs.load.load_scaled.Tie as tie
+
+-- where the call stood: on entry, once the grid is accepted, once the weights pair, and once the length is right
+abbrev entry : tie.After-known-told → tie.Start
+entry k = k .before .before .before .before .before .before .before
+
+abbrev on : tie.Joined2 → tie.After-known-told
+on k = k .before .before
+
+abbrev with-weights : tie.Else4 → tie.Joined2
+with-weights k = k .before .before
+
+abbrev with-length : tie.After-known-told2 → tie.Else4
+with-length k = k .before .before .before .before .before
+
+-- the grid, once it is accepted
+abbrev grid : tie.After-known-told → Grid
+grid k = k .before .g .given .0 .0
+
+on-grid : (k : tie.After-known-told) → let a = entry k .args in
+    gridOf (a .b1) (a .b2) (a .b3) ≡ chosen.Accepted (grid k)
+on-grid k = sym (k .before .before .before .grid-of .ensures) ∙ k .before .g .given .1
+
+accepted : (k : tie.After-known-told) → Accepted (grid k)
+accepted k = chose _ _ _ (grid k) (on-grid k) .accepted
+
+-- one weight a colour, where weights are given
+abbrev OneEach : tie.Joined2 → Type 0
+OneEach k = let a = entry (on k) .args in length (now (a .weights)) ≡ length (now (a .colours)) / 3
+
+one-each : (k : tie.Joined2) → entry (on k) .args .weighted ≡ true → OneEach k
+one-each k given =
+    ⊎-elim {C = OneEach k}
+    (λ w. w .1 .left)
+    (λ w. absurd (true≢false (sym given ∙ w .left)))
+    (k .if2 .came)
+
+whole : (k : tie.Joined2) → let a = entry (on k) .args in Whole (now (a .colours)) (a .weighted) (now (a .weights))
+whole k = record { threes = k .before .if1 .left; paired = one-each k }
+
+-- the weights, multiplied, pair with the colours as they do
+abbrev scaled : tie.After-known-told → List ℕ
+scaled k =
+    let a = entry k .args in
+    scaledWeights (a .scale) (length (now (a .colours)) / 3) (a .weighted) (now (a .weights))
+
+paired : (k : tie.Joined2)
+    → (true && not (eqb (length (scaled (on k))) (length (now (entry (on k) .args .colours)) / 3))) ≡ false
+paired k =
+    let a = entry (on k) .args in
+    scaled-pairs (a .scale) (now (a .colours)) (a .weighted) (now (a .weights))
+    ∙ pairs (a .weighted) (length (now (a .weights))) (length (now (a .colours)) / 3) (one-each k)
+
+-- the table, once its length is right
+abbrev table : tie.Else4 → Table
+table k = now (entry (on (with-weights k)) .args .table)
+
+the-table : (k : tie.Else4) → TableOf (grid (on (with-weights k))) (table k)
+the-table k =
+    record {
+      accepted = accepted (on (with-weights k));
+      lent = sized-by (k .if4 .left ∙ k .before .table-len .ensures);
+    }
+
+-- its total, once it is sound
+abbrev had : tie.After-known-told2 → ℕ
+had k = k .before .had .given .0 .0
+
+abbrev its-grid : tie.After-known-told2 → Grid
+its-grid k = grid (on (with-weights (with-length k)))
+
+known : (k : tie.After-known-told2) → Known limit (its-grid k) (table (with-length k)) (had k)
+known k =
+    let says =
+    total-says limit _ _ (had k) (sym (k .before .before .before .sound-total .ensures) ∙ k .before .had .given .1) in
+    record { table = the-table (with-length k); is-sound = says .0; total-is = says .1 }
+
+-- the call, once the batch is added or has passed the limit
+abbrev before-adding : tie.After-add-batch → tie.After-known-told2
+before-adding k = k .before .before .before .before .before
+
+abbrev Ends : tie.After-add-batch → ℕ → Type 0
+Ends k n =
+    let b = on (with-weights (with-length (before-adding k))) in
+    let a = entry b .args in
+    (n ≡ loadNumber (a .b1) (a .b2) (a .b3) (now (a .table)) (now (a .colours)) true (scaled b))
+    × (k .add-batch .last .1 .0
+    ≡ loadLater (a .b1) (a .b2) (a .b3) (now (a .table)) (now (a .colours)) true (scaled b))
+
+ended : (k : tie.After-add-batch) {r : Added} → k .add-batch .result ≡ r → Ends k (addedAnswer r .number)
+ended k e =
+    let l = before-adding k in
+    let w = with-weights (with-length l) in
+    let a = entry (on w) .args in (
+      sym (number-says (a .b1) (a .b2) (a .b3) (on-grid (on w)) (known l) (whole w) (a .scale)
+          ∙ ap (λ (x : Added). addedAnswer x .number) (sym (k .add-batch .ensures .0) ∙ e)),
+      k .add-batch .ensures .1
+          ∙ sym (later-says (a .b1) (a .b2) (a .b3) (on-grid (on w)) (known l) (whole w) (a .scale)),
+    )
+
+grid-of-requires : tie.Need-grid-of-requires
+grid-of-requires c κs = search needs
+
+enum-known-g : tie.Need-enum-known-g
+enum-known-g c = search needs
+
+enum-told : tie.Need-enum-told
+enum-told c = search needs
+
+returns : tie.Need-returns
+returns c =
+    let a = c .before .before .before .before .before .before .args in
+    load-no-grid (a .b1) (a .b2) (a .b3) (now (a .table)) (now (a .colours)) true
+    (scaledWeights (a .scale) (length (now (a .colours)) / 3) (a .weighted) (now (a .weights)))
+    (sym (c .before .before .grid-of .ensures) ∙ c .enum-told .given .1)
+
+returns-2 : tie.Need-returns-2
+returns-2 c =
+    let a = entry (c .before) .args in
+    load-not-threes (a .b1) (a .b2) (a .b3) (now (a .table)) (now (a .colours)) true (scaled (c .before))
+    (on-grid (c .before)) (c .if1 .taken)
+
+returns-3 : tie.Need-returns-3
+returns-3 c =
+    let a = entry (c .before .before .before) .args in
+    let many = given-length (a .scale) (now (a .colours)) (a .weighted) (now (a .weights)) (c .before .if2 .taken) in
+    load-not-paired (a .b1) (a .b2) (a .b3) (now (a .table)) (now (a .colours)) true
+    (scaled (c .before .before .before))
+    (on-grid (c .before .before .before)) (c .before .before .if1 .left) refl (λ e. c .if3 .taken (sym many ∙ e))
+
+table-len-requires : tie.Need-table-len-requires
+table-len-requires c κs = accepted (c .before .before)
+
+returns-4 : tie.Need-returns-4
+returns-4 c =
+    let w = c .before .before in
+    let a = entry (on w) .args in
+    load-length (a .b1) (a .b2) (a .b3) (now (a .table)) (now (a .colours)) true (scaled (on w))
+    (on-grid (on w)) (w .before .if1 .left) (paired w)
+    (not-sized-by (λ e. c .if4 .taken (e ∙ sym (c .before .table-len .ensures))))
+
+sound-total-requires : tie.Need-sound-total-requires
+sound-total-requires c κs = the-table (c .before)
+
+enum-known-had : tie.Need-enum-known-had
+enum-known-had c = search needs
+
+enum-told-2 : tie.Need-enum-told-2
+enum-told-2 c = search needs
+
+same-length : tie.Need-same-length
+same-length c = search needs
+
+returns-5 : tie.Need-returns-5
+returns-5 c =
+    let l = c .before .before .before .before in
+    let w = with-weights l in
+    let a = entry (on w) .args in
+    load-unsound (a .b1) (a .b2) (a .b3) (now (a .table)) (now (a .colours)) true (scaled (on w))
+    (on-grid (on w)) (w .before .if1 .left) (paired w) (the-table l .lent)
+    (unsound-says limit _ _ (sym (c .before .before .sound-total .ensures) ∙ c .enum-told2 .given .1))
+
+fill-steps-requires : tie.Need-fill-steps-requires
+fill-steps-requires c κs = (known (c .before) .table .accepted, refl)
+
+add-batch-requires : tie.Need-add-batch-requires
+add-batch-requires c κs =
+    let k = c .before .before .before .before in
+    let w = with-weights (with-length k) in (
+      known k,
+      (
+        record { accepted = known k .table .accepted; filled = c .before .before .fill-steps .ensures },
+        (whole w, entry (on w) .pre),
+      ),
+    )
+
+enum-known-total : tie.Need-enum-known-total
+enum-known-total c = search needs
+
+enum-told-3 : tie.Need-enum-told-3
+enum-told-3 c = search needs
+
+same-length-2 : tie.Need-same-length-2
+same-length-2 c = search needs
+
+returns-6 : tie.Need-returns-6
+returns-6 c = ended (c .before .before .before .before) (c .enum-told3 .given .1)
+
+same-length-3 : tie.Need-same-length-3
+same-length-3 c = search needs
+
+returns-7 : tie.Need-returns-7
+returns-7 c = ended (c .before .before .before .before .before) (c .before .total .given .1)
+
+pub load-scaled-spec : {M : Type 1} → statement M
+load-scaled-spec =
+    tie.close
+    (tie.spec
+    grid-of-requires
+    enum-known-g
+    enum-told
+    returns
+    returns-2
+    returns-3
+    table-len-requires
+    returns-4
+    sound-total-requires
+    enum-known-had
+    enum-told-2
+    same-length
+    returns-5
+    fill-steps-requires
+    add-batch-requires
+    enum-known-total
+    enum-told-3
+    same-length-2
+    returns-6
+    same-length-3
+    returns-7)

@@ -1,0 +1,65 @@
+-- Adding a batch to a table that is known to be sound, each weight multiplied by a scale, by a step table that is
+-- filled once (Rules, Load; Rules, Record). Definitions only.
+use mathlib.Core.Path.{_≡_}
+use mathlib.Core.Bool.{Bool, true, cond}
+use mathlib.Core.List.{List, [], _∷_}
+use Prim.Native.Nat.{ℕ, _+_, _*_, _/_, _%_, _≤_}
+use lib.Dec.{leb}
+use lib.ListN.{length, getD}
+use Rattle.grid.specs.declared.place.Grid.{Grid}
+use Rattle.basics.specs.Answer.{Answer}
+use Rattle.basics.specs.Range.{listFrom}
+use Rattle.grid.specs.Grid.{Accepted, binsOf, stepsOf}
+use Rattle.table.specs.Table.{Table, viewOf, written, TableOf}
+use Rattle.table.specs.Sound.{sound, total}
+use Rattle.loader.specs.declared.add.Added.{Added}
+use Rattle.loader.specs.declared.add.Added.the-variants.{Total, Passed}
+use Rattle.loader.specs.Load.{Weighted, weightOf, loaded, batchOf, scaledWeights}
+
+-- ---- what is lent
+-- for each dimension and each value of a component its step, and 2^32 times its square: 256 numbers a dimension
+unfoldable pub stepNumber : Grid → ℕ → ℕ
+stepNumber g i = getD (stepsOf g (i / 256)) (i % 256) 0 + 4294967296 * ((i % 256) * (i % 256))
+
+unfoldable pub stepTable : Grid → List ℕ
+stepTable g = listFrom 0 768 (stepNumber g)
+
+-- a list is the step table of an accepted grid
+pub record StepTable (g : Grid) (steps : List ℕ) : Type 0 where
+  pub accepted : Accepted g
+  pub filled : steps ≡ stepTable g
+
+-- a sound table, with its total
+pub record Known (most : ℕ) (g : Grid) (t : Table) (had : ℕ) : Type 0 where
+  pub table : TableOf g t
+  pub is-sound : sound most g (viewOf t) ≡ true
+  pub total-is : had ≡ total g (viewOf t)
+
+-- a batch that neither 3 nor 4 refuses
+pub record Whole (colours : List ℕ) (weighted : Bool) (weights : List ℕ) : Type 0 where
+  pub threes : length colours % 3 ≡ 0
+  pub paired : weighted ≡ true → length weights ≡ length colours / 3
+
+-- what a weight is multiplied by: an interval, or 1
+pub record IsScale (scale : ℕ) : Type 0 where
+  pub some : 1 ≤ scale
+  pub few : scale ≤ 4096
+
+-- ---- what comes of it
+-- the colours of a batch, each weight multiplied
+abbrev pub scaledBatch : ℕ → List ℕ → Bool → List ℕ → List Weighted
+scaledBatch scale colours weighted weights =
+    batchOf colours true (scaledWeights scale (length colours / 3) weighted weights)
+
+-- the total then, or that it would pass the limit
+unfoldable pub addedTo : ℕ → ℕ → List Weighted → Added
+addedTo most had cs = cond (leb (had + weightOf cs) most) (Total (had + weightOf cs)) Passed
+
+-- the answer and the values of each case
+abbrev pub addedAnswer : Added → Answer
+addedAnswer (Total n) = record { number = 0; values = n ∷ [] }
+addedAnswer Passed = record { number = 7; values = [] }
+
+-- the table then
+unfoldable pub addedLater : ℕ → Grid → Table → ℕ → List Weighted → Table
+addedLater most g t had cs = cond (leb (had + weightOf cs) most) (written (binsOf g) (loaded g cs (viewOf t))) t

@@ -1,0 +1,9 @@
+pub mod Sessions
+pub mod Batches
+pub mod Fitting
+pub mod Stands
+pub mod Laws
+pub mod Replays
+pub mod Steps
+pub mod Rest
+pub mod Worked

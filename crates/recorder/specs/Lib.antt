@@ -1,0 +1,4 @@
+pub mod Session
+pub mod Batch
+pub mod Replay
+pub mod Inner
