@@ -32,7 +32,7 @@ asImage file rest =
     let n = headerAnswer (headerOf file) .number in
     refuse (eqb n 10) 10
     (refuse (eqb n 11) 11
-    (refuse (not (onImage (headerOf file) false (pixelsFit (length file)))) 12 rest))
+    (refuse (onImage (headerOf file) false (λ f. not (pixelsFit (length file) f))) 12 rest))
 
 -- the answer to loading a file, and the table after it: "as its bare triples"
 unfoldable pub ppmNumber : ℕ → ℕ → ℕ → Table → List ℕ → ℕ
