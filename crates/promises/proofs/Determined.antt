@@ -38,6 +38,8 @@ use Rattle.recorder.proofs.session.begin as begin
 use Rattle.recorder.proofs.session.reload as reload
 use Rattle.recorder.proofs.batch.batch as batch
 use Rattle.recorder.proofs.replay.replay as replay
+use Rattle.ppm.proofs.header.read_header as read-header
+use Rattle.ppm.proofs.load.load_ppm as load-ppm
 use Rattle.compare.specs.declared.call.Compared.{Compared}
 use Rattle.compare.proofs.call.compare as compare
 use Rattle.sums.proofs.moments.moments as moments
@@ -77,6 +79,8 @@ use Rattle.seluvava.proofs.tables.seluvava_table_len as exported-table-len
 use Rattle.seluvava.proofs.tables.seluvava_load as exported-load
 use Rattle.seluvava.proofs.tables.seluvava_merge as exported-merge
 use Rattle.seluvava.proofs.tables.seluvava_compare as exported-compare
+use Rattle.seluvava.proofs.files.seluvava_ppm_header as exported-ppm-header
+use Rattle.seluvava.proofs.files.seluvava_load_ppm as exported-load-ppm
 use Rattle.seluvava.proofs.recordings.seluvava_begin as exported-begin
 use Rattle.seluvava.proofs.recordings.seluvava_reload as exported-reload
 use Rattle.seluvava.proofs.recordings.seluvava_batch as exported-batch
@@ -204,6 +208,14 @@ pub replay-determined : Determines {A = SessionAnswer × (List ℕ × List ℕ)}
 replay-determined κs a r s x y p q =
     both (determined (p .0) (q .0)) (both (determined (p .1 .0) (q .1 .0)) (determined (p .1 .1) (q .1 .1)))
 
+-- ---- ppm
+pub read-header-determined : Determines 1 read-header.Kinds.ps read-header.Kinds.r read-header.Reads.Learnt (λ κs r e. r)
+read-header-determined κs a r s x y p q = determined p q
+
+pub load-ppm-determined : Determines {A = ℕ × List ℕ} 2 load-ppm.Kinds.ps load-ppm.Kinds.r load-ppm.Reads.Learnt
+    (λ κs r e. (r, now (e .1 .1 .1 .0)))
+load-ppm-determined κs a r s x y p q = both (determined (p .0) (q .0)) (determined (p .1) (q .1))
+
 -- ---- compare
 pub compare-determined : Determines {A = Compared × List ℤ} 3 compare.Kinds.ps compare.Kinds.r compare.Reads.Learnt
     (λ κs r e. (r, now (e .1 .1 .1 .1 .1 .0)))
@@ -315,6 +327,14 @@ exported-merge-determined κs a r s x y p q = both (determined (p .0) (q .0)) (d
 pub exported-compare-determined : Determines {A = Compared × List ℤ} 3 exported-compare.Kinds.ps
     exported-compare.Kinds.r exported-compare.Reads.Learnt (λ κs r e. (r, now (e .1 .1 .1 .1 .1 .0)))
 exported-compare-determined κs a r s x y p q = both (determined (p .0) (q .0)) (determined (p .1) (q .1))
+
+pub exported-ppm-header-determined : Determines 1 exported-ppm-header.Kinds.ps exported-ppm-header.Kinds.r
+    exported-ppm-header.Reads.Learnt (λ κs r e. r)
+exported-ppm-header-determined κs a r s x y p q = determined p q
+
+pub exported-load-ppm-determined : Determines {A = ℕ × List ℕ} 2 exported-load-ppm.Kinds.ps exported-load-ppm.Kinds.r
+    exported-load-ppm.Reads.Learnt (λ κs r e. (r, now (e .1 .1 .1 .0)))
+exported-load-ppm-determined κs a r s x y p q = both (determined (p .0) (q .0)) (determined (p .1) (q .1))
 
 pub exported-begin-determined : Determines 0 exported-begin.Kinds.ps exported-begin.Kinds.r
     exported-begin.Reads.Learnt (λ κs r e. r)
