@@ -3,7 +3,7 @@
 use mathlib.Core.Path.{_≡_, refl, sym, ap, subst, _∙_}
 use mathlib.Core.Bool.{Bool, true, false, cond}
 use mathlib.Core.List.{List, [], _∷_, _++_}
-use Prim.Native.Nat.{ℕ, _%_}
+use Prim.Native.Nat.{ℕ, _+_, _%_}
 use borrow.Author.Tests.{eqb-true}
 use lib.ListN.{length, take}
 use lib.Seq.{length-take-le}
@@ -46,15 +46,15 @@ pub one-more : {s m e : Progress} {had : Bool} (more : Bool) → had ≡ true �
 one-more {s} {m} more e c d = with-one more (subst (AllCame s m) e c) d
 
 -- what a batch of which some bytes are filled gives
-pub batch-came : {t later batch : List ℕ} {filled lowest : ℕ} {r : Loaded} → Filled batch filled
+pub batch-came : {t later batch : List ℕ} {filled lowest : ℕ} (had : ℕ) {r : Loaded} → Filled batch filled
     → r ≡ batchAnswer t batch filled lowest → later ≡ batchLater t batch filled
-    → Came (progress lowest t) (progress (r .number) later) (r .more)
+    → Came (progress lowest t had) (progress (r .number) later (had + filled)) (r .more)
 unfolding afterBatch batchAnswer batchLater
-batch-came {t} {later} {batch} {filled} {lowest} {r} f e l =
+batch-came {t} {later} {batch} {filled} {lowest} had {r} f e l =
     record {
       batch = take filled batch;
       whole = λ m. ap (λ (n : ℕ). n % 3)
           (length-take-le filled batch (f .there)
           ∙ eqb-true filled (length batch) (sym (ap (λ (x : Loaded). x .more) e) ∙ m)) ∙ f .whole;
-      loaded = λ i. progress (e i .number) (l i);
+      loaded = λ i. progress (e i .number) (l i) (had + sym (length-take-le filled batch (f .there)) i);
     }
