@@ -2,7 +2,7 @@
 use mathlib.Core.Path.{_≡_}
 use mathlib.Core.Bool.{Bool, true, false, not, _&&_}
 use mathlib.Core.List.{List, [], _∷_, _++_}
-use Prim.Native.Nat.{ℕ, _-_, _*_}
+use Prim.Native.Nat.{ℕ, _-_, _*_, _%_, _≤_, _<_}
 use lib.Dec.{eqb}
 use lib.ListN.{length, take, drop}
 use Rattle.basics.specs.Answer.{refuse}
@@ -35,10 +35,15 @@ frameAnswer h bytes lowest =
     (refuse (eqb n 11) 11
     (refuse (onImage h false (λ f. not (eqb bytes (3 * (f .width * f .height))))) 12 lowest))
 
--- a header came and was read, and where it tells an image, the pixels behind it with some bytes more were loaded as
--- the first batch; where more may follow they split no pixel
-pub record HeaderCame (before after : Progress) (more : Bool) (h : Header) : Type 0 where
-  pub first : List ℕ
-  pub is : h ≡ headerOf first
+-- ---- what the program's functions are told of what they read
+-- a buffer for batches of whole pixels, of at most 16,384
+pub record Room (space : List ℕ) : Type 0 where
+  pub some : 0 < length space
+  pub whole : length space % 3 ≡ 0
+  pub few : length space ≤ 49152
+
+-- a batch came behind the bytes that were there, and was loaded with them; where more may follow they split no pixel
+pub record CameBehind (front : List ℕ) (before after : Progress) (more : Bool) : Type 0 where
   pub rest : List ℕ
-  pub loaded : after ≡ onImage h before (λ f. afterBatch before (drop (f .pixels) first ++ rest))
+  pub whole : more ≡ true → length (front ++ rest) % 3 ≡ 0
+  pub loaded : after ≡ afterBatch before (front ++ rest)

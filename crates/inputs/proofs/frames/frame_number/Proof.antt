@@ -22,13 +22,13 @@ enum-told-2 : tie.Need-enum-told-2
 enum-told-2 c = search needs
 
 returns : tie.Need-returns
-returns c = 
+returns c =
     let k = c .before .before .before in
     let a = k .before .before .args in
     is-whole (a .bytes) (a .lowest) (k .header .given .1) (c .if1 .taken)
 
 returns-2 : tie.Need-returns-2
-returns-2 c = 
+returns-2 c =
     let k = c .before .before .before in
     let a = k .before .before .args in
     is-other (a .bytes) (a .lowest) (k .header .given .1) (c .if1 .left)
