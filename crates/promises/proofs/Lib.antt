@@ -26,3 +26,4 @@ pub mod RecorderJoined
 pub mod RecorderParts
 pub mod RecorderNumbers
 pub mod RecorderCalls
+pub mod Grammar
