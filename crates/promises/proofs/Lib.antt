@@ -28,3 +28,4 @@ pub mod RecorderJoined
 pub mod RecorderParts
 pub mod RecorderNumbers
 pub mod RecorderCalls
+pub mod Grammar

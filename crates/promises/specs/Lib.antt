@@ -16,3 +16,4 @@ pub mod Rounds
 pub mod Remainders
 pub mod Recorder
 pub mod RecorderNumbers
+pub mod Grammar
