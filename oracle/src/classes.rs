@@ -1,6 +1,6 @@
 //! Makes the cases of each class.
 mod damages;
-mod ppm;
+pub mod ppm;
 mod recordings;
 
 use crate::{

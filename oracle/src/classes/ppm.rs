@@ -88,7 +88,7 @@ fn maximum(r: &mut Random) -> u128 {
 }
 
 /// A header for so many pixels, with whitespace and comments wherever they may stand, and at times with a flaw.
-fn header(r: &mut Random, pixels: usize) -> Vec<u8> {
+pub fn header(r: &mut Random, pixels: usize) -> Vec<u8> {
     let other = [b"P5".as_slice(), b"P3", b"p6", b"P", b" P6", b"P66"];
     let mut header = match r.once_in(24) {
         true => r.one_of(&other).to_vec(),
