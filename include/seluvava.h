@@ -60,8 +60,8 @@
  *  13  an interval outside 1..4,096
  *  14  the interval of a batch is not the one in force
  *
- * The lowest answer from 1 to 9 that applies is given; where none applies, the answer is 0. 10, 11 and 12 come before 1,
- * in that order, and so do 13 and 14, which no call answers that answers one of these. Any answer but 0 is a refusal,
+ * The lowest answer from 1 to 9 that applies is given; where none applies, the answer is 0. 10, 11 and 12 come before
+ * 1, in that order, and so do 13 and 14, which no call answers that answers one of these. Any answer but 0 is a refusal,
  * which writes nothing: every lent byte stays as it was.
  */
 #ifndef SELUVAVA_H
@@ -121,9 +121,9 @@ struct seluvava_ppm_answer {
 
 /*
  * The header of a PPM, as Netpbm writes colour images (P6): `P6`, a gap, the width, a gap, the height, a gap, the
- * maximum, one whitespace; then come the pixels. Whitespace is a blank, TAB, CR or LF. A gap has whitespace and comments
- * in any order, with at least one whitespace that is no part of a comment; a comment goes from `#` through the next CR
- * or LF. A number is decimal digits, one or more. Width and height are each 1 to 65,535.
+ * maximum, one whitespace; then come the pixels. Whitespace is a blank, TAB, CR or LF. A gap has whitespace and
+ * comments in any order, with at least one whitespace that is no part of a comment; a comment goes from `#` through the
+ * next CR or LF. A number is decimal digits, one or more. Width and height are each 1 to 65,535.
  *
  *   file      the bytes of the file, or as many of its first ones as have the header. What follows the header is not
  *             looked at: whether there are 3 * width * height bytes from `pixels` on, load_ppm asks.

@@ -1,5 +1,5 @@
-//! PPM files, good or damaged, against the rules (Rules, Frames; Rules, Answers). The original reads none, so that every
-//! grid is one of the judge's here.
+//! PPM files, good or damaged, against the rules (Rules, Frames; Rules, Answers). The original reads none, so that
+//! every grid is one of the judge's here.
 use crate::{
     buffer::{Buffer, Differs, same},
     calls::{add_one, resize, table_of},

@@ -50,8 +50,8 @@ pub fn shrink(case: &Case, differs: &dyn Fn(&Case) -> bool) -> Case {
     }
 }
 
-/// Whether the judge has the grid, k is in its bounds and the band in the frame. A comparison, a recording and a file ask
-/// no original.
+/// Whether the judge has the grid, k is in its bounds and the band in the frame. A comparison, a recording and a file
+/// ask no original.
 fn is_fit(case: &Case) -> bool {
     let pixels: usize = case.frame.iter().map(|f| f.1).sum();
     let colours = case.input.colors.len();

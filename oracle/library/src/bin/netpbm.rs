@@ -1,7 +1,7 @@
-//! Holds the header of a PPM to Netpbm itself: makes headers from a seed, asks `pamfile` and the library about each, and
-//! where both accept one, `pamtopnm` for the image. Netpbm takes more than the rules do (docs/DIFFERENCES.md); here it
-//! is read once more as it reads, with the reasons why the rules refuse what it takes. A header about which the three
-//! do not tell the same is told, and the status is then not 0.
+//! Holds the header of a PPM to Netpbm itself: makes headers from a seed, asks `pamfile` and the library about each,
+//! and where both accept one, `pamtopnm` for the image. Netpbm takes more than the rules do (docs/DIFFERENCES.md); here
+//! it is read once more as it reads, with the reasons why the rules refuse what it takes. A header about which the
+//! three do not tell the same is told, and the status is then not 0.
 //!
 //! The arguments are the number of headers and the seed.
 #[path = "../library.rs"]
