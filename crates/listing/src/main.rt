@@ -138,18 +138,6 @@ struct Progress {
     failed: bool,
 }
 
-// Before anything is read.
-fn start() -> Progress
-    ensures { λ r. ⌜ r ≡ record { number = 0; bytes = 0; more = true; failed = false } ⌝ }
-{
-    Progress {
-        number: 0,
-        bytes: 0,
-        more: true,
-        failed: false,
-    }
-}
-
 // Loads the next batch, the bytes that are there in front of it. A batch that is not full is the last one, and so is one
 // whose reading failed.
 fn load_next(table: &mut [u64], space: &mut [u8], there: usize, had: Progress) -> Progress
@@ -159,7 +147,7 @@ fn load_next(table: &mut [u64], space: &mut [u8], there: usize, had: Progress) -
     ensures came { λ r. ⌜ CameBehind (take there (now (space .entry)))
         (progress (had .number) (now (table .entry)) (had .bytes))
         (progress (r .number) (now (table .exit)) (r .bytes)) (r .more) ⌝ }
-    ensures few { λ r. ⌜ r .bytes ≤ had .bytes + 49152 ⌝ }
+    ensures few { λ r. ⌜ r .bytes ≤ had .bytes + length (now (space .entry)) ⌝ }
 {
     let batch = fill(space, there);
     let loaded = lines::batches::load_batch(table, space, batch.bytes, had.number);
@@ -195,7 +183,13 @@ fn load_triples(table: &mut [u64], space: &mut [u8]) -> Progress
     ensures { λ r. ⌜ AllCame (progress 0 (now (table .entry)) 0) (progress (r .number) (now (table .exit)) (r .bytes))
         (r .more) ⌝ }
 {
-    let first = load_next(table, space, 0, start());
+    let none = Progress {
+        number: 0,
+        bytes: 0,
+        more: true,
+        failed: false,
+    };
+    let first = load_next(table, space, 0, none);
     let filled = first.bytes as usize;
     hint(space, filled);
     if !first.more {
@@ -204,17 +198,18 @@ fn load_triples(table: &mut [u64], space: &mut [u8]) -> Progress
     load_rest(table, space, first)
 }
 
-// A PPM: its header, and how its pixels were loaded.
-struct Framed {
+// The header of a PPM, how many bytes of its pixels are at the front of a batch, and whether a read failed.
+struct Begun {
     header: Header,
-    input: Progress,
+    there: usize,
+    failed: bool,
 }
 
-// Loads a PPM. Its header is read from the first batch, and the pixels behind it are moved to the front, so that the
-// batches after it split no pixel.
-fn load_frame(table: &mut [u64], space: &mut [u8]) -> Framed
-    requires { ⌜ Room (now space) ⌝ }
-    ensures { λ r. ⌜ Read (r .header) ⌝ }
+// Reads a header from the first batch, and moves the pixels behind it to the front, so that the batches after it split
+// no pixel.
+fn begin_frame(space: &mut [u8]) -> Begun
+    ensures read { λ r. ⌜ Read (r .header) ⌝ }
+    ensures there { λ r. ⌜ r .there ≤ length (now (space .exit)) ⌝ }
 {
     let first = fill(space, 0);
     let filled = first.bytes;
@@ -223,25 +218,35 @@ fn load_frame(table: &mut [u64], space: &mut [u8]) -> Framed
         if filled == space.len() {
             complain(b"the header is no PPM's, or is longer than a batch, 49152 bytes");
         }
-        return Framed {
+        return Begun {
             header,
-            input: Progress {
-                number: 0,
-                bytes: 0,
-                more: false,
-                failed: first.failed,
-            },
+            there: 0,
+            failed: first.failed,
         };
     };
-    let there = inputs::frames::to_front(space, f.pixels, filled);
-    let input = load_next(table, space, there, start());
-    if !input.more {
-        return Framed { header, input };
-    }
-    Framed {
+    Begun {
         header,
-        input: load_rest(table, space, input),
+        there: inputs::frames::to_front(space, f.pixels, filled),
+        failed: first.failed,
     }
+}
+
+// Loads the pixels of a PPM, of which some bytes are at the front of a batch.
+fn load_pixels(table: &mut [u64], space: &mut [u8], there: usize) -> Progress
+    requires there { ⌜ there ≤ length (now space) ⌝ }
+    requires room { ⌜ Room (now space) ⌝ }
+{
+    let none = Progress {
+        number: 0,
+        bytes: 0,
+        more: true,
+        failed: false,
+    };
+    let first = load_next(table, space, there, none);
+    if !first.more {
+        return first;
+    }
+    load_rest(table, space, first)
 }
 
 // ---- Listing
@@ -257,17 +262,28 @@ fn list(table: &[u64], number: u8, failed: bool) {
     write(&text[0..n]);
 }
 
+// Lists a PPM. Where the header tells no image there is nothing to load.
+fn list_frame(table: &mut [u64], space: &mut [u8])
+    requires { ⌜ Room (now space) ⌝ }
+{
+    let begun = begin_frame(space);
+    let header = begun.header;
+    let Header::Image(f) = header else {
+        list(table, inputs::frames::frame_number(header, 0, 0), begun.failed);
+        return;
+    };
+    let input = load_pixels(table, space, begun.there);
+    let number = inputs::frames::frame_number(header, input.bytes, input.number);
+    list(table, number, input.failed);
+}
+
 fn main() {
     let mut table = lines::batches::empty_table();
     let mut space = [0; 49152];
     if has_argument(b"--ppm") {
-        let frame = load_frame(&mut table, &mut space);
-        let header = frame.header;
-        let input = frame.input;
-        let number = inputs::frames::frame_number(header, input.bytes, input.number);
-        list(&table, number, input.failed);
-    } else {
-        let input = load_triples(&mut table, &mut space);
-        list(&table, input.number, input.failed);
+        list_frame(&mut table, &mut space);
+        return;
     }
+    let input = load_triples(&mut table, &mut space);
+    list(&table, input.number, input.failed);
 }

@@ -44,12 +44,13 @@ loop-less c = omega arith
 loop-again : tie.Need-loop-again Inv-loop μ-loop
 loop-again c =
     let l = c .before .before .before .before .before .before .before .before .before .loop in
+    let s = c .before .before .before .before .before .before .before .before .before .before .before .before in
     let n = c .before .before .before .before .load-next .ensures in (
       one-more _ (c .before .before .before .before .before .before .before .if1 .taken) (l .inv .0)
           (behind-came (n .0)),
       search needs,
       search needs,
-      omega (arith, l .inv .3, n .1),
+      omega (arith, l .inv .3, n .1, l .inv .2, s .pre .0 .few),
     )
 
 same-length : tie.Need-same-length Inv-loop μ-loop
