@@ -20,6 +20,8 @@ use std::{
 /// Why the rules refuse what Netpbm takes.
 type Reasons = BTreeSet<&'static str>;
 
+const MAXIMUM: &str = "a maximum other than 255";
+
 /// A header as Netpbm reads it: width, height and maximum, and where the pixels start.
 #[derive(Debug, PartialEq)]
 struct Read {
@@ -112,7 +114,7 @@ impl Reader<'_> {
             self.reasons.insert("a side above 65,535");
         }
         if maximum != 255 {
-            self.reasons.insert("a maximum other than 255");
+            self.reasons.insert(MAXIMUM);
         }
         Some(Read {
             numbers,
@@ -153,14 +155,45 @@ fn told(file: &[u8]) -> Option<[u64; 3]> {
 /// Up to which size an image is laid behind its header.
 const MOST_PIXELS: usize = 100_000;
 
-/// Which way one header went, or what is not the same.
-fn compare(header: &[u8], r: &mut Random) -> Result<String, String> {
+/// The lines that one header is counted on, or what is not the same.
+type Compared = Result<Vec<String>, String>;
+
+fn line(text: &str) -> Compared {
+    Ok(vec![String::from(text)])
+}
+
+/// A header that Netpbm takes, and that the rules refuse for some reasons.
+fn taken_by_netpbm(number: u8, reasons: Reasons) -> Compared {
+    let of_maximum = reasons.iter().eq([&MAXIMUM]);
+    if number != if of_maximum { 11 } else { 10 } {
+        return Err(format!("{number} is answered, for {reasons:?}"));
+    }
+    let all = reasons.iter().map(|why| format!("    {why}"));
+    Ok([format!("the library alone refuses, with {number}")]
+        .into_iter()
+        .chain(all)
+        .collect())
+}
+
+/// A header that both take, so that `pamtopnm` has to find the pixels where they are laid.
+fn taken_by_both(header: &[u8], [width, height]: [usize; 2], r: &mut Random) -> Compared {
+    if width * height > MOST_PIXELS {
+        return line("both take it, as a header alone");
+    }
+    let pixels: Vec<u8> = (0..3 * width * height).map(|_| r.draw() as u8).collect();
+    let image = asked("pamtopnm", &[], &[header, &pixels].concat());
+    let plain = format!("P6\n{width} {height}\n255\n");
+    match image == Some([plain.as_bytes(), &pixels].concat()) {
+        true => line("both take it, and the image is the same"),
+        false => Err(String::from("pamtopnm has another image")),
+    }
+}
+
+fn compare(header: &[u8], r: &mut Random) -> Compared {
     let (number, [width, height, start]) = Library.ppm_header(header);
     if !header.starts_with(b"P6") {
         return match number {
-            10 => Ok(String::from(
-                "no P6, which Netpbm may take as a file of another kind",
-            )),
+            10 => line("no P6: the library refuses, and Netpbm was not asked"),
             _ => Err(format!("{number} is answered")),
         };
     }
@@ -177,38 +210,17 @@ fn compare(header: &[u8], r: &mut Random) -> Result<String, String> {
     let Some(read) = read else {
         return match number {
             0 => Err(String::from("Netpbm refuses what the library takes")),
-            _ => Ok(String::from("both refuse")),
+            _ => line("both refuse"),
         };
     };
     if !reader.reasons.is_empty() {
-        let reasons: Vec<_> = reader.reasons.into_iter().collect();
-        let reasons = reasons.join(", ");
-        let expected = if reasons == "a maximum other than 255" {
-            11
-        } else {
-            10
-        };
-        return match number == expected {
-            true => Ok(format!(
-                "the library answers {number}, Netpbm takes: {reasons}"
-            )),
-            false => Err(format!("{number} is answered, for {reasons}")),
-        };
+        return taken_by_netpbm(number, reader.reasons);
     }
     let ours = ([width as u64, height as u64, 255], start);
     if number != 0 || ours != (read.numbers, read.start) {
         return Err(format!("{number} {ours:?} is answered, read is {read:?}"));
     }
-    if width * height > MOST_PIXELS {
-        return Ok(String::from("both accept, as a header alone"));
-    }
-    let pixels: Vec<u8> = (0..3 * width * height).map(|_| r.draw() as u8).collect();
-    let image = asked("pamtopnm", &[], &[&header[..start], &pixels].concat());
-    let plain = format!("P6\n{width} {height}\n255\n");
-    match image == Some([plain.as_bytes(), &pixels].concat()) {
-        true => Ok(String::from("both accept, and the image is the same")),
-        false => Err(String::from("pamtopnm has another image")),
-    }
+    taken_by_both(&header[..start], [width, height], r)
 }
 
 fn main() -> ExitCode {
@@ -219,21 +231,23 @@ fn main() -> ExitCode {
     };
     let (headers, seed) = (argument(1, 5_000), argument(2, 1));
     let r = &mut Random(seed);
-    let mut ways: BTreeMap<String, usize> = BTreeMap::new();
+    let mut counts: BTreeMap<String, usize> = BTreeMap::new();
     let mut differ = 0;
     for _ in 0..headers {
         let pixels = r.from(1, 24);
         let header = ppm::header(r, pixels);
         match compare(&header, r) {
-            Ok(way) => *ways.entry(way).or_default() += 1,
+            Ok(lines) => lines
+                .into_iter()
+                .for_each(|line| *counts.entry(line).or_default() += 1),
             Err(differs) => {
                 println!("{}\n  {differs}", header.escape_ascii());
                 differ += 1;
             }
         }
     }
-    for (way, count) in ways {
-        println!("{count}: {way}");
+    for (line, count) in counts {
+        println!("{count:5} {line}");
     }
     println!("seed {seed}: {headers} headers, {differ} without a reason");
     match differ {
