@@ -123,7 +123,7 @@ impl Ppm {
 
     /// Loads the file, and every beginning of it, which is refused.
     fn load(&self, port: &dyn Port, r: &mut Random) -> Result<u8, Differs> {
-        // "10, 11 and 12 come before 1, in that order"
+        // "10 to 14 come before 1, in that order"
         let said = match self.pixels() {
             Ok(bytes) => numbers::load(self.grid, &self.table, bytes.len(), false, &[]),
             Err(number) => number,

@@ -269,7 +269,11 @@ fn list_frame(table: &mut [u64], space: &mut [u8])
     let begun = begin_frame(space);
     let header = begun.header;
     let Header::Image(f) = header else {
-        list(table, inputs::frames::frame_number(header, 0, 0), begun.failed);
+        list(
+            table,
+            inputs::frames::frame_number(header, 0, 0),
+            begun.failed,
+        );
         return;
     };
     let input = load_pixels(table, space, begun.there);

@@ -68,6 +68,14 @@ module _ (file : List ℕ) where
       go Maximum e p = absurd (omega arith)
       go Malformed e p = absurd (omega arith)
 
+  pub image-pixels : asImage file 0 ≡ 0 → {f : Frame} → headerOf file ≡ Image f
+      → length (pixelsOf file) ≡ 3 * (f .width * f .height)
+  unfolding asImage onImage headerAnswer pixelsFit refuse
+  image-pixels p {f} e =
+      pixels-left e
+      ∙ eqb-true (length file - f .pixels) (3 * (f .width * f .height))
+      (not-false (eqb (length file - f .pixels) (3 * (f .width * f .height))) (passed _ 11 0 (rw e at p) .0))
+
   pub whole-passes : Whole file → asImage file 0 ≡ 0
   unfolding asImage onImage headerAnswer pixelsFit refuse
   whole-passes w =

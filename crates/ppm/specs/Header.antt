@@ -97,7 +97,7 @@ unfoldable pub isSide : ℕ → Bool
 isSide n = leb 1 n && leb n 65535
 
 -- what three numbers with one whitespace behind them say, of a file of so many bytes: "a side that is none is malformed",
--- and then "a maximum other than 255"
+-- and then a maximum that is another
 unfoldable pub imageOf : ℕ → ℕ → ℕ → ℕ → List ℕ → Header
 imageOf bytes width height maximum rest =
     cond (startsBlank rest && (isSide width && isSide height))

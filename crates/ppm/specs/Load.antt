@@ -26,7 +26,7 @@ pixelsFit bytes f = eqb (bytes - f .pixels) (3 * (f .width * f .height))
 unfoldable pub pixelsOf : List ℕ → List ℕ
 pixelsOf file = onImage (headerOf file) [] (λ f. drop (f .pixels) file)
 
--- 10, 11 or 12 where it applies, else what comes after it: "10, 11 and 12 come before 1, in that order"
+-- 10, 11 or 12 where it applies, else what comes after it: "10 to 14 come before 1, in that order"
 unfoldable pub asImage : List ℕ → ℕ → ℕ
 asImage file rest =
     let n = headerAnswer (headerOf file) .number in

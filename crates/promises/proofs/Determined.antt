@@ -67,6 +67,9 @@ use Rattle.band.proofs.number.band_number as band-number
 use Rattle.band.proofs.look_up.index_at as index-at
 use Rattle.mapper.proofs.call.map as map
 use Rattle.painter.proofs.call.paint as paint
+use Rattle.inputs.proofs.looks.begins_with as begins-with
+use Rattle.inputs.proofs.frames.to_front as to-front
+use Rattle.inputs.proofs.frames.frame_number as frame-number
 use Rattle.lines.specs.declared.batches.Loaded.{Loaded}
 use Rattle.lines.proofs.batches.empty_table as empty-table
 use Rattle.lines.proofs.batches.load_batch as load-batch
@@ -293,6 +296,18 @@ map-determined κs a r s x y p q = both (determined (p .0) (q .0)) (determined (
 pub paint-determined : Determines {A = ℕ × List ℕ} 3 paint.Kinds.ps paint.Kinds.r paint.Reads.Learnt
     (λ κs r e. (r, now (e .1 .1 .1 .1 .1 .0)))
 paint-determined κs a r s x y p q = both (determined (p .0) (q .0)) (determined (p .1) (q .1))
+
+-- ---- inputs
+pub begins-with-determined : Determines 2 begins-with.Kinds.ps begins-with.Kinds.r begins-with.Reads.Learnt (λ κs r e. r)
+begins-with-determined κs a r s x y p q = determined p q
+
+pub to-front-determined : Determines {A = ℕ × List ℕ} 1 to-front.Kinds.ps to-front.Kinds.r to-front.Reads.Learnt
+    (λ κs r e. (r, now (e .0)))
+to-front-determined κs a r s x y p q = both (determined (p .0) (q .0)) (determined (p .1) (q .1))
+
+pub frame-number-determined : Determines 0 frame-number.Kinds.ps frame-number.Kinds.r frame-number.Reads.Learnt
+    (λ κs r e. r)
+frame-number-determined κs a r s x y p q = determined p q
 
 -- ---- lines
 pub empty-table-determined : Determines 0 empty-table.Kinds.ps empty-table.Kinds.r empty-table.Reads.Learnt

@@ -21,9 +21,10 @@ use Rattle.loader.proofs.Calls.{load-no-grid}
 use Rattle.loader.proofs.Laws.{load-tests, load-says, load-accepts}
 use Rattle.loader.proofs.Parts.{batch-weight}
 use Rattle.ppm.specs.declared.header.Frame.{Frame}
+use Rattle.ppm.specs.declared.header.Header.the-variants.{Image}
 use Rattle.ppm.specs.Header.{headerOf, headerAnswer}
 use Rattle.ppm.specs.Load.{onImage, pixelsFit, pixelsOf, asImage, ppmNumber, ppmLater}
-use Rattle.ppm.proofs.Laws.{Whole, file-then, file-whole, whole-passes, ppm-loads, ppm-refused, ppm-whole}
+use Rattle.ppm.proofs.Laws.{Whole, file-then, file-whole, image-pixels, whole-passes, ppm-loads, ppm-refused, ppm-whole}
 use Rattle.promises.specs.Numbers.{Tests, applies, chain, ascends, earliestOf, noGrid, onBins, OnGrid}
 use Rattle.promises.specs.Frames.{fileTests, pixelTests, ppmTests, ppmApplies, CanLoadPpm}
 use Rattle.promises.proofs.Earliest.{early}
@@ -44,22 +45,20 @@ given-applies (x ∷ xs) {n} e = go (x .1) e (given-applies xs)
         any false = refl
 
 module _ (b1 b2 b3 : ℕ) (t : Table) (file : List ℕ) where
-  abbrev answer : ℕ
-  answer = ppmNumber b1 b2 b3 t file
-
-  abbrev later : Table
-  later = ppmLater b1 b2 b3 t file
-
   -- "loaded as its bare triples are"
   pub as-triples : asImage file 0 ≡ 0
-      → (answer ≡ loadNumber b1 b2 b3 t (pixelsOf file) false [])
-      × (later ≡ loadLater b1 b2 b3 t (pixelsOf file) false [])
+      → (ppmNumber b1 b2 b3 t file ≡ loadNumber b1 b2 b3 t (pixelsOf file) false [])
+      × (ppmLater b1 b2 b3 t file ≡ loadLater b1 b2 b3 t (pixelsOf file) false [])
   as-triples e = ppm-loads file b1 b2 b3 t e
 
-  -- and they are in threes
-  pub in-threes : (e : asImage file 0 ≡ 0) → let f = file-whole file e .frame in
-      (length (pixelsOf file) % 3 ≡ 0) × (length (pixelsOf file) / 3 ≡ f .width * f .height)
-  in-threes e = let w = file-whole file e in (omega (arith, w .pixels), omega (arith, w .pixels))
+  whole-threes : asImage file 0 ≡ 0 → length (pixelsOf file) % 3 ≡ 0
+  whole-threes e = let w = file-whole file e in omega (arith, w .pixels)
+
+  -- and they are in threes, as many as the header says
+  pub in-threes : asImage file 0 ≡ 0 → (f : Frame) → headerOf file ≡ Image f
+      → (length (pixelsOf file) % 3 ≡ 0) × (length (pixelsOf file) / 3 ≡ f .width * f .height)
+  in-threes e f q =
+      let n = image-pixels file e q in (whole-threes e, omega (arith, n))
 
   -- ---- the earliest answer
   weighs : weightOf (batchOf (pixelsOf file) false []) ≡ length (pixelsOf file) / 3
@@ -83,7 +82,7 @@ module _ (b1 b2 b3 : ℕ) (t : Table) (file : List ℕ) where
           ∙ rw e refl
       go chosen.Refused e = sym (load-no-grid b1 b2 b3 t (pixelsOf file) false [] e .0) ∙ rw e refl
 
-  ppm-chain : answer ≡ chain (ppmTests (gridOf b1 b2 b3) t file)
+  ppm-chain : ppmNumber b1 b2 b3 t file ≡ chain (ppmTests (gridOf b1 b2 b3) t file)
   unfolding ppmNumber ppmTests fileTests asImage chain whenDone
   ppm-chain = go (asImage file 0) refl
     where
@@ -91,29 +90,29 @@ module _ (b1 b2 b3 : ℕ) (t : Table) (file : List ℕ) where
       rest = chain (pixelTests (gridOf b1 b2 b3) t (length (pixelsOf file) / 3))
 
       go : (n : ℕ) → asImage file 0 ≡ n → asImage file (loadNumber b1 b2 b3 t (pixelsOf file) false []) ≡ asImage file rest
-      go zero e = ap (asImage file) (load-chain (in-threes e .0))
+      go zero e = ap (asImage file) (load-chain (whole-threes e))
       go (suc n) e = file-then file _ ∙ same (asImage file 0) e ∙ sym (file-then file rest)
         where
           same : (m : ℕ) → m ≡ suc n
               → whenDone m (loadNumber b1 b2 b3 t (pixelsOf file) false []) m ≡ whenDone m rest m
           same m q = rw q refl
 
-  pub ppm-earliest : answer ≡ earliestOf (ppmApplies b1 b2 b3 t file)
+  pub ppm-earliest : ppmNumber b1 b2 b3 t file ≡ earliestOf (ppmApplies b1 b2 b3 t file)
   unfolding ppmApplies ppmTests fileTests pixelTests ascends
   ppm-earliest =
       ppm-chain ∙ early (fileTests file) (pixelTests (gridOf b1 b2 b3) t (length (pixelsOf file) / 3)) refl refl
 
   -- 3 and 4 do not occur
-  pub never-3 : answer ≡ 3 → ⊥
+  pub never-3 : ppmNumber b1 b2 b3 t file ≡ 3 → ⊥
   unfolding ppmTests fileTests pixelTests applies
   never-3 e = true≢false (sym (given-applies (ppmTests (gridOf b1 b2 b3) t file) (sym ppm-chain ∙ e)))
 
-  pub never-4 : answer ≡ 4 → ⊥
+  pub never-4 : ppmNumber b1 b2 b3 t file ≡ 4 → ⊥
   unfolding ppmTests fileTests pixelTests applies
   never-4 e = true≢false (sym (given-applies (ppmTests (gridOf b1 b2 b3) t file) (sym ppm-chain ∙ e)))
 
   -- ---- done exactly where it is given this
-  pub ppm-exactly : (answer ≡ 0) ↔ OnGrid b1 b2 b3 (CanLoadPpm t file)
+  pub ppm-exactly : (ppmNumber b1 b2 b3 t file ≡ 0) ↔ OnGrid b1 b2 b3 (CanLoadPpm t file)
   ppm-exactly = (
     λ e.
         let passes = ppm-whole file b1 b2 b3 t e in
@@ -139,5 +138,5 @@ module _ (b1 b2 b3 : ℕ) (t : Table) (file : List ℕ) where
   )
 
   -- ---- a refusal writes nothing
-  pub refused-ppm : {n : ℕ} → answer ≡ suc n → later ≡ t
+  pub refused-ppm : {n : ℕ} → ppmNumber b1 b2 b3 t file ≡ suc n → ppmLater b1 b2 b3 t file ≡ t
   refused-ppm e = ppm-refused file b1 b2 b3 t e

@@ -1,4 +1,4 @@
--- The calls of the recorder: 13 and 14 come before 1, in that order, and then the lowest answer that applies is given;
+-- The calls of the recorder: 13 and 14 come before 1, and then the lowest answer that applies is given;
 -- where none applies, it is 0.
 -- Assumes nothing.
 use mathlib.Core.Path.{_≡_, refl, sym, ap, _∙_}

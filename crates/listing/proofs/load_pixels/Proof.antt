@@ -22,8 +22,7 @@ returns c = search needs
 load-rest-requires : tie.Need-load-rest-requires
 load-rest-requires c κs =
     let first = c .before .before .before .before .before .before .before .before in
-    let s = first .before .before .before .before .before in
-    (
+    let s = first .before .before .before .before .before in (
       room-same (s .pre .1) (search needs),
       (not-false _ (c .before .before .if1 .left), omega (arith, first .load-next .ensures .1, s .pre .1 .few)),
     )
