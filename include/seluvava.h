@@ -8,16 +8,17 @@
  * go by them, and the archive exports just these names. WHAT A CALLER SEES TO stands under LENT BUFFERS and ROUNDING:
  * no call can test it.
  *
- * load counts colours into a table, merge adds a second table into a first, compare tells where two tables differ, cut
- * makes of a table a palette of at most 256 colours and a map to it, and map and paint take the pixels of a frame to
- * that palette. begin, reload and batch record frames that were sampled at an interval, and replay does a whole list of
- * such reloads and batches.
+ * load counts colours into a table, and load_ppm those of a PPM file; merge adds a second table into a first, compare
+ * tells where two tables differ, cut makes of a table a palette of at most 256 colours and a map to it, and map and
+ * paint take the pixels of a frame to that palette. begin, reload and batch record frames that were sampled at an
+ * interval, and replay does a whole list of such reloads and batches.
  * docs/CHOOSING.md has what to know first: which grid, what comes back inexactly, how to save a table.
  * docs/INTERVALS.md has a recording as an example, with every answer.
  *
- * GRID. Each call is told three sizes, one for each component of a colour, each from 2, 4, 8, 16, 32, 64, 128.
- * The bin of component c at size s is c * s / 256, rounded down. With sizes b1, b2, b3, bin (r, g, b) stands at place
- * (r * b2 + g) * b3 + b. The choice of the Rust crate quantette for RGB is SELUVAVA_RGB: 16, 32, 16.
+ * GRID. Each call that is lent a table or a map is told three sizes, one for each component of a colour, each from
+ * 2, 4, 8, 16, 32, 64, 128. The bin of component c at size s is c * s / 256, rounded down. With sizes b1, b2, b3, bin
+ * (r, g, b) stands at place (r * b2 + g) * b3 + b. The choice of the Rust crate quantette for RGB is SELUVAVA_RGB:
+ * 16, 32, 16.
  *
  * TABLE. Five numbers per bin, from 5 * place on: weight n, three component sums, the sum of squared components.
  * An empty table is all zeros. A table is sound if, in each bin, every component sum lies between n * low and
@@ -41,7 +42,8 @@
  * enough for each, as tests/stack.c measures. Of a C library the archive takes memcpy and memset and nothing else; a
  * program without one brings these two.
  *
- * ANSWERS. What load, merge, batch, map and paint hand back, and compare, begin, reload, replay and cut in `number`:
+ * ANSWERS. What load, load_ppm, merge, batch, map and paint hand back, and ppm_header, compare, begin, reload, replay
+ * and cut in `number`:
  *
  *   0  done
  *   1  a grid size not among the seven
@@ -53,12 +55,15 @@
  *   7  the total after a load, a merge or a batch would pass 4,294,967,295
  *   8  cut of a table with total 0
  *   9  some entry of the map is not below the palette's length
+ *  10  the header of a PPM is malformed
+ *  11  the maximum of a PPM is not 255
+ *  12  a PPM has more or fewer bytes of pixels than its header says
  *  13  an interval outside 1..4,096
  *  14  the interval of a batch is not the one in force
  *
- * The lowest answer from 1 to 9 that applies is given; where none applies, the answer is 0. 13 and 14 come before 1,
- * in that order. No call answers 10, 11 or 12. Any answer but 0 is a refusal, which writes nothing: every lent byte
- * stays as it was.
+ * The lowest answer from 1 to 9 that applies is given; where none applies, the answer is 0. 10, 11 and 12 come before
+ * 1, in that order, and so do 13 and 14, which no call answers that answers one of these. Any answer but 0 is a refusal,
+ * which writes nothing: every lent byte stays as it was.
  */
 #ifndef SELUVAVA_H
 #define SELUVAVA_H
@@ -72,9 +77,9 @@ extern "C" {
 #endif
 
 /* The version of the calls, the crate for Rust and the pages. */
-#define SELUVAVA_VERSION "0.5.0"
+#define SELUVAVA_VERSION "0.6.0"
 #define SELUVAVA_VERSION_MAJOR 0
-#define SELUVAVA_VERSION_MINOR 5
+#define SELUVAVA_VERSION_MINOR 6
 #define SELUVAVA_VERSION_PATCH 0
 
 /* The three sizes for RGB, as every call takes them: 8,192 bins. */
@@ -103,6 +108,43 @@ uint8_t seluvava_load(size_t b1, size_t b2, size_t b3,
                       const uint8_t *colours, size_t colours_len,
                       bool weighted,
                       const uint32_t *weights, size_t weights_len);
+
+/*
+ * What the header of a PPM says: its number, the width and height of the image in pixels, and at which byte of the file
+ * the pixels start. A refusal has zeros beside its number.
+ */
+struct seluvava_ppm_answer {
+    uint8_t number;
+    size_t width;
+    size_t height;
+    size_t pixels;
+};
+
+/*
+ * The header of a PPM, as Netpbm writes colour images (P6): `P6`, a gap, the width, a gap, the height, a gap, the
+ * maximum, one whitespace; then come the pixels. Whitespace is a blank, TAB, CR or LF. A gap has whitespace and
+ * comments in any order, with at least one whitespace that is no part of a comment; a comment goes from `#` through the
+ * next CR or LF. A number is decimal digits, one or more. Width and height are each 1 to 65,535.
+ *
+ *   file      the bytes of the file, or as many of its first ones as have the header. What follows the header is not
+ *             looked at: whether there are 3 * width * height bytes from `pixels` on, load_ppm asks.
+ *
+ * Answers 0, 10, 11.
+ */
+struct seluvava_ppm_answer seluvava_ppm_header(const uint8_t *file, size_t file_len);
+
+/*
+ * Load a PPM: adds the pixels of a file to a table, each with weight 1. They are read where they stand in the file, and
+ * the table is what load makes of these bytes.
+ *
+ *   table     5 * bins numbers, sound. Changed.
+ *   file      the bytes of the file: a header, 3 * width * height bytes of pixels, and no byte more.
+ *
+ * Answers 0, 1, 5, 6, 7, 10, 11, 12.
+ */
+uint8_t seluvava_load_ppm(size_t b1, size_t b2, size_t b3,
+                          uint64_t *table, size_t table_len,
+                          const uint8_t *file, size_t file_len);
 
 /*
  * Merge: adds a second table into a first, number by number.

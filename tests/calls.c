@@ -1,7 +1,8 @@
 /*
  * Every call of seluvava.h, held to docs/RULES.md: the cases P1 to P10, every number of every call, alone and two
- * at a time, lengths one off, NULL with length 0, bands, batches and frames of every length up to 200, and every
- * recorded list of up to three entries out of ten; and all of it once more with the processor's flush modes set.
+ * at a time, lengths one off, NULL with length 0, bands, batches and frames of every length up to 200, every
+ * recorded list of up to three entries out of ten, and PPM files cut at every byte and with every byte in the place of
+ * each of their headers; and all of it once more with the processor's flush modes set.
  * What a lent buffer must hold afterwards is said here once more, in C, by the same rules.
  */
 #define _DEFAULT_SOURCE
@@ -18,7 +19,7 @@
 /* ---- What a call is asked with */
 
 enum buffer {
-    TABLE, SECOND, DIFFERENCES, WORK, COLOURS, WEIGHTS, ENTRIES, ANSWERS, PALETTE, COUNTS, REMAINDERS, MAP, BOXES,
+    TABLE, SECOND, DIFFERENCES, WORK, COLOURS, WEIGHTS, PPM, ENTRIES, ANSWERS, PALETTE, COUNTS, REMAINDERS, MAP, BOXES,
     SPREADS, FRAME, INDICES, BUFFERS
 };
 
@@ -30,7 +31,7 @@ struct asked {
     size_t length[BUFFERS];
     uint64_t table[321], second[321], work[321];
     int64_t differences[321];
-    uint8_t colours[3 * PIXELS];
+    uint8_t colours[3 * PIXELS], ppm[3 * PIXELS + 60];
     uint32_t weights[PIXELS], entries[24];
     uint8_t answers[12], palette[780];
     uint32_t counts[260], remainders[780];
@@ -48,6 +49,7 @@ static const struct {
     [TABLE] = {"table", AT(table), 8},       [SECOND] = {"second", AT(second), 8},
     [WORK] = {"work", AT(work), 8},          [DIFFERENCES] = {"differences", AT(differences), 8},
     [COLOURS] = {"colours", AT(colours), 1}, [WEIGHTS] = {"weights", AT(weights), 4},
+    [PPM] = {"file", AT(ppm), 1},
     [ENTRIES] = {"entries", AT(entries), 4}, [ANSWERS] = {"answers", AT(answers), 1},
     [PALETTE] = {"palette", AT(palette), 1}, [COUNTS] = {"counts", AT(counts), 4},
     [MAP] = {"map", AT(map), 1},             [REMAINDERS] = {"remainders", AT(remainders), 4},
@@ -56,7 +58,7 @@ static const struct {
 };
 
 /* Which buffers a call is lent, and which of them it may change. */
-enum call { LOAD, MERGE, COMPARE, BATCH, REPLAY, CUT, MAPPING, PAINT, CALLS };
+enum call { LOAD, LOAD_PPM, MERGE, COMPARE, BATCH, REPLAY, CUT, MAPPING, PAINT, HEADER, CALLS };
 #define BIT(n) (1u << (n))
 #define RESULTS (BIT(PALETTE) | BIT(COUNTS) | BIT(REMAINDERS) | BIT(MAP) | BIT(BOXES) | BIT(SPREADS))
 
@@ -65,6 +67,7 @@ static const struct {
     unsigned lent, changed;
 } calls[] = {
     [LOAD] = {"load", BIT(TABLE) | BIT(COLOURS) | BIT(WEIGHTS), BIT(TABLE)},
+    [LOAD_PPM] = {"load_ppm", BIT(TABLE) | BIT(PPM), BIT(TABLE)},
     [MERGE] = {"merge", BIT(TABLE) | BIT(SECOND), BIT(TABLE)},
     [COMPARE] = {"compare", BIT(TABLE) | BIT(SECOND) | BIT(DIFFERENCES), BIT(DIFFERENCES)},
     [BATCH] = {"batch", BIT(TABLE) | BIT(COLOURS) | BIT(WEIGHTS), BIT(TABLE)},
@@ -73,6 +76,7 @@ static const struct {
     [CUT] = {"cut", BIT(TABLE) | BIT(WORK) | RESULTS, BIT(WORK) | RESULTS},
     [MAPPING] = {"map", BIT(MAP) | BIT(FRAME) | BIT(INDICES), BIT(INDICES)},
     [PAINT] = {"paint", BIT(MAP) | BIT(PALETTE) | BIT(FRAME), BIT(FRAME)},
+    [HEADER] = {"ppm_header", BIT(PPM), 0},
 };
 
 /* What a call hands back, of whatever it has. */
@@ -80,17 +84,27 @@ struct answer {
     unsigned number;
     size_t boxes, rounds, differ, first;
     uint32_t interval;
+    size_t width, height, start;
 };
 
 static struct answer answer_of(enum call call, const struct asked *q, void *const *at)
 {
-    struct answer answer = {0, 0, 0, 0, 0, 0};
+    struct answer answer = {.number = 0};
     const size_t b1 = q->b1, b2 = q->b2, b3 = q->b3, *length = q->length;
     switch (call) {
     case LOAD:
         answer.number = seluvava_load(b1, b2, b3, at[TABLE], length[TABLE], at[COLOURS], length[COLOURS],
                                       q->weighted != 0, at[WEIGHTS], length[WEIGHTS]);
         break;
+    case LOAD_PPM:
+        answer.number = seluvava_load_ppm(b1, b2, b3, at[TABLE], length[TABLE], at[PPM], length[PPM]);
+        break;
+    case HEADER: {
+        const struct seluvava_ppm_answer header = seluvava_ppm_header(at[PPM], length[PPM]);
+        answer = (struct answer){.number = header.number, .width = header.width, .height = header.height,
+                                 .start = header.pixels};
+        break;
+    }
     case MERGE:
         answer.number = seluvava_merge(b1, b2, b3, at[TABLE], length[TABLE], at[SECOND], length[SECOND]);
         break;
@@ -98,7 +112,7 @@ static struct answer answer_of(enum call call, const struct asked *q, void *cons
         const struct seluvava_compare_answer compared =
             seluvava_compare(b1, b2, b3, at[TABLE], length[TABLE], at[SECOND], length[SECOND], at[DIFFERENCES],
                              length[DIFFERENCES]);
-        answer = (struct answer){compared.number, 0, 0, compared.differ, compared.first, 0};
+        answer = (struct answer){.number = compared.number, .differ = compared.differ, .first = compared.first};
         break;
     }
     case BATCH:
@@ -109,7 +123,7 @@ static struct answer answer_of(enum call call, const struct asked *q, void *cons
         const struct seluvava_session_answer replayed =
             seluvava_replay(q->own, b1, b2, b3, at[TABLE], length[TABLE], at[ENTRIES], length[ENTRIES],
                             at[COLOURS], length[COLOURS], at[WEIGHTS], length[WEIGHTS], at[ANSWERS], length[ANSWERS]);
-        answer = (struct answer){replayed.number, 0, 0, 0, 0, replayed.session.interval};
+        answer = (struct answer){.number = replayed.number, .interval = replayed.session.interval};
         break;
     }
     case CUT: {
@@ -118,7 +132,7 @@ static struct answer answer_of(enum call call, const struct asked *q, void *cons
                          at[PALETTE], length[PALETTE], at[COUNTS], length[COUNTS],
                          at[REMAINDERS], length[REMAINDERS], at[MAP], length[MAP],
                          at[BOXES], length[BOXES], at[SPREADS], length[SPREADS]);
-        answer = (struct answer){cut.number, cut.boxes, cut.rounds, 0, 0, 0};
+        answer = (struct answer){.number = cut.number, .boxes = cut.boxes, .rounds = cut.rounds};
         break;
     }
     case MAPPING:
@@ -139,18 +153,21 @@ static size_t place(const struct asked *q, const uint8_t *c)
     return (c[0] * q->b1 / 256 * q->b2 + c[1] * q->b2 / 256) * q->b3 + c[2] * q->b3 / 256;
 }
 
+static void add_colour(struct asked *q, const uint8_t *c, uint64_t w)
+{
+    uint64_t *cell = q->table + 5 * place(q, c);
+    cell[0] += w;
+    for (size_t d = 0; d < 3; d++) {
+        cell[1 + d] += w * c[d];
+        cell[4] += w * c[d] * c[d];
+    }
+}
+
 /* Colours from one on, each weight multiplied. */
 static void added(struct asked *q, size_t from, size_t colours, bool weighted, uint64_t scale)
 {
-    for (size_t i = from; i < from + colours; i++) {
-        const uint8_t *c = q->colours + 3 * i;
-        uint64_t *cell = q->table + 5 * place(q, c), w = scale * (weighted ? q->weights[i] : 1);
-        cell[0] += w;
-        for (size_t d = 0; d < 3; d++) {
-            cell[1 + d] += w * c[d];
-            cell[4] += w * c[d] * c[d];
-        }
-    }
+    for (size_t i = from; i < from + colours; i++)
+        add_colour(q, q->colours + 3 * i, scale * (weighted ? q->weights[i] : 1));
 }
 
 static void loaded(struct asked *q)
@@ -161,6 +178,78 @@ static void loaded(struct asked *q)
 static void batched(struct asked *q)
 {
     added(q, 0, q->length[COLOURS] / 3, q->weighted != 0, q->own);
+}
+
+static bool is_digit(uint8_t c)
+{
+    return '0' <= c && c <= '9';
+}
+
+static bool is_line_end(uint8_t c)
+{
+    return c == '\r' || c == '\n';
+}
+
+static bool is_whitespace(uint8_t c)
+{
+    return c == ' ' || c == '\t' || is_line_end(c);
+}
+
+/* The gap from a place of the file on, and the number behind it, which is 65,536 where it is more. Answers the place
+ * behind them, or 0 where they do not stand there. */
+static size_t field(const struct asked *q, size_t at, size_t *value)
+{
+    const size_t end = q->length[PPM];
+    bool whitespace = false;
+    for (; at < end && (q->ppm[at] == '#' || is_whitespace(q->ppm[at])); at++) {
+        if (q->ppm[at] != '#') whitespace = true;
+        else
+            while (at < end && !is_line_end(q->ppm[at])) at++;
+    }
+    if (!whitespace || at >= end || !is_digit(q->ppm[at])) return 0;
+    for (*value = 0; at < end && is_digit(q->ppm[at]); at++) {
+        *value = 10 * *value + q->ppm[at] - '0';
+        if (*value > 65536) *value = 65536;
+    }
+    return at;
+}
+
+/* What the header of the file says. */
+static struct answer header_of(const struct asked *q)
+{
+    const struct answer malformed = {.number = 10};
+    size_t value[3], at = 2;
+    if (q->length[PPM] < 2 || q->ppm[0] != 'P' || q->ppm[1] != '6') return malformed;
+    for (size_t i = 0; i < 3; i++) {
+        at = field(q, at, &value[i]);
+        if (at == 0) return malformed;
+    }
+    if (at == q->length[PPM] || !is_whitespace(q->ppm[at])) return malformed;
+    for (size_t i = 0; i < 2; i++)
+        if (value[i] < 1 || value[i] > 65535) return malformed;
+    if (value[2] != 255) return (struct answer){.number = 11};
+    return (struct answer){.width = value[0], .height = value[1], .start = at + 1};
+}
+
+/* What loading the file answers, as far as the file decides. */
+static unsigned file_answer(const struct asked *q)
+{
+    const struct answer header = header_of(q);
+    if (header.number != 0) return header.number;
+    return q->length[PPM] - header.start == 3 * header.width * header.height ? 0 : 12;
+}
+
+static void file_loaded(struct asked *q)
+{
+    for (size_t p = header_of(q).start; p < q->length[PPM]; p += 3) add_colour(q, q->ppm + p, 1);
+}
+
+static void header_read(const struct asked *q, struct answer answer)
+{
+    const struct answer header = header_of(q);
+    check(answer.width == header.width && answer.height == header.height, "a size of %zu by %zu and not %zu by %zu",
+          answer.width, answer.height, header.width, header.height);
+    check(answer.start == header.start, "pixels from %zu on and not from %zu", answer.start, header.start);
 }
 
 static bool is_interval(uint32_t interval)
@@ -336,9 +425,12 @@ static struct answer ask(enum call call, struct asked *q, unsigned number, const
     answer = answer_of(call, q, at);
     check(answer.number == number, "answered %u and not %u", answer.number, number);
     if (number != 0)
-        check(!answer.boxes && !answer.rounds && !answer.differ && !answer.first && !answer.interval,
+        check(!answer.boxes && !answer.rounds && !answer.differ && !answer.first && !answer.interval && !answer.width &&
+              !answer.height && !answer.start,
               "a refusal told more than its number");
     else if (call == LOAD) loaded(q);
+    else if (call == LOAD_PPM) file_loaded(q);
+    else if (call == HEADER) header_read(q, answer);
     else if (call == MERGE) merged(q);
     else if (call == COMPARE) compared(q, answer.differ, answer.first);
     else if (call == BATCH) batched(q);
@@ -457,15 +549,26 @@ static void ask_worked(const struct worked *w)
 
 /* ---- Every number of every call */
 
+/* A header and so many pixels, as the file to lend. */
+static void lay_file(struct asked *q, const char *header, size_t length, size_t pixels)
+{
+    need(length + 3 * pixels <= sizeof q->ppm, "room for a file");
+    memcpy(q->ppm, header, length);
+    memcpy(q->ppm + length, q->colours, 3 * pixels);
+    q->length[PPM] = length + 3 * pixels;
+}
+
 /* What nothing refuses, over the grid 4,2,8, with no element lent that is not needed. Five colours of weights 3, 2, 7,
  * 0, 1 are in both tables, and are the batch, those of the recorded list and the frame. Behind them stand some noise
  * and pixels of one colour. Interval 3 is in force. The list has a batch, a reload and a batch that are accepted, a
- * batch and a reload that are not, and one more batch that is. */
+ * batch and a reload that are not, and one more batch that is. The file is of 3 by 2 pixels: the five colours, and one
+ * of the noise; they start at byte 21. */
 static struct asked good(void)
 {
     static const uint8_t known[] = {10, 20, 5, 100, 5, 9, 255, 255, 255, 0, 128, 31, 200, 0, 64};
     static const uint32_t weights[] = {3, 2, 7, 0, 1};
     static const uint32_t entries[] = {1, 3, 2, 0, 4096, 0, 1, 4096, 1, 1, 3, 1, 0, 4097, 0, 1, 4096, 1};
+    static const char header[] = "P6 # 9\r\n003\t2#\n \r255\n";
     struct asked q;
     uint32_t noise = 1;
     memset(&q, 0xa5, sizeof q);
@@ -480,6 +583,7 @@ static struct asked good(void)
     memcpy(q.weights, weights, sizeof weights);
     memcpy(q.entries, entries, sizeof entries);
     memcpy(q.frame, q.colours, sizeof q.frame);
+    lay_file(&q, header, sizeof header - 1, 6);
     for (size_t i = 0; i < COUNT(q.map); i++) q.map[i] = (uint8_t)(i % 3);
     for (size_t i = 0; i < COUNT(q.palette); i++) q.palette[i] = (uint8_t)(7 * i);
     q.length[TABLE] = q.length[SECOND] = q.length[DIFFERENCES] = q.length[WORK] = 320;
@@ -498,11 +602,12 @@ static struct asked good(void)
 }
 
 #define PUT(member, value) AT(member), value
-#define ALL (BIT(CALLS) - 1)
 #define TWO (BIT(MERGE) | BIT(COMPARE))
 #define LOADS (BIT(LOAD) | BIT(BATCH))
-#define TABLES (LOADS | TWO | BIT(REPLAY) | BIT(CUT))
+#define TABLES (LOADS | BIT(LOAD_PPM) | TWO | BIT(REPLAY) | BIT(CUT))
 #define FRAMES (BIT(MAPPING) | BIT(PAINT))
+#define ALL (TABLES | FRAMES)
+#define FILES (BIT(LOAD_PPM) | BIT(HEADER))
 
 /* Who looks at 32 bits alone takes it for n. */
 #define MORE_THAN(n) ((UINT64_C(1) << 32) + (n))
@@ -515,6 +620,29 @@ static const struct change {
     size_t at, size;
     uint64_t to;
 } changes[] = {
+    {FILES, 10, "no file", PUT(length[PPM], 0)},
+    {FILES, 10, "file that ends behind its P6", PUT(length[PPM], 2)},
+    {FILES, 10, "file that ends behind its maximum", PUT(length[PPM], 20)},
+    {FILES, 10, "file of another kind", PUT(ppm[1], '5')},
+    {FILES, 10, "file that begins with a blank", PUT(ppm[0], ' ')},
+    {FILES, 10, "byte 0 behind the P6", PUT(ppm[2], 0)},
+    {FILES, 10, "width 0", PUT(ppm[10], '0')},
+    {FILES, 10, "width behind a form feed", PUT(ppm[7], '\f')},
+    {FILES, 10, "no gap behind the width", PUT(ppm[11], '-')},
+    {FILES, 10, "height 0", PUT(ppm[12], '0')},
+    {FILES, 10, "comment that takes the maximum in", PUT(ppm[17], '#')},
+    {FILES, 10, "comment behind the maximum", PUT(ppm[20], '#')},
+    {FILES, 10, "vertical tab behind the maximum", PUT(ppm[20], '\v')},
+    {FILES, 11, "maximum 254", PUT(ppm[19], '4')},
+    {FILES, 11, "maximum 256", PUT(ppm[19], '6')},
+    {FILES, 11, "maximum 155", PUT(ppm[17], '1')},
+    {BIT(LOAD_PPM), 12, "file one byte short", PUT(length[PPM], 38)},
+    {BIT(LOAD_PPM), 12, "file one byte long", PUT(length[PPM], 40)},
+    {BIT(LOAD_PPM), 12, "file one pixel long", PUT(length[PPM], 42)},
+    {BIT(LOAD_PPM), 12, "file of no pixels", PUT(length[PPM], 21)},
+    {BIT(LOAD_PPM), 12, "width 2", PUT(ppm[10], '2')},
+    {BIT(LOAD_PPM), 12, "width 4", PUT(ppm[10], '4')},
+    {BIT(LOAD_PPM), 12, "height 9", PUT(ppm[12], '9')},
     {BIT(BATCH) | BIT(REPLAY), 13, "interval 0", PUT(own, 0)},
     {BIT(BATCH) | BIT(REPLAY), 13, "interval 4,097", PUT(own, 4097)},
     {BIT(BATCH) | BIT(REPLAY), 13, "interval 3 and 65,536", PUT(own, 65539)},
@@ -625,7 +753,8 @@ static const struct change {
     {BIT(BATCH), 7, "total one past the limit with the table's", PUT(table[0], LIMIT - 48)},
     {BIT(BATCH), 7, "weight that is 2 when multiplied in 32 bits", PUT(weights[1], (LIMIT + 3) / 3)},
     {LOADS, 7, "weight that is the limit", PUT(weights[4], LIMIT)},
-    {LOADS | BIT(MERGE), 7, "full table", PUT(table[0], LIMIT - 10)},
+    {LOADS | BIT(LOAD_PPM) | BIT(MERGE), 7, "full table", PUT(table[0], LIMIT - 10)},
+    {BIT(LOAD_PPM), 7, "total one past the limit", PUT(table[0], LIMIT - 15)},
     {BIT(MERGE), 7, "total one past the limit", PUT(second[0], LIMIT - 22)},
     {FRAMES, 9, "the map's first entry the palette's length", PUT(map[0], 3)},
     {FRAMES, 9, "the map's last entry 255", PUT(map[63], 255)},
@@ -640,6 +769,15 @@ static const struct change {
     {BIT(COMPARE), 0, "another sum in the second table", PUT(second[81], 201)},
     {BIT(COMPARE), 0, "other squares in the second table", PUT(second[84], 20001)},
     {BIT(LOAD), 0, "total at the limit", PUT(weights[2], LIMIT - 19)},
+    {BIT(LOAD_PPM), 0, "total at the limit", PUT(table[0], LIMIT - 16)},
+    {BIT(LOAD_PPM), 0, "weights not said to be given", PUT(weighted, 0)},
+    {FILES, 0, "comment that ends at LF", PUT(ppm[6], '\n')},
+    {FILES, 0, "CR in the place of a TAB", PUT(ppm[11], '\r')},
+    {FILES, 0, "pixels that begin with a blank", PUT(ppm[21], ' ')},
+    {FILES, 0, "pixels that begin with a digit", PUT(ppm[21], '5')},
+    {FILES, 0, "pixels that begin like a comment", PUT(ppm[21], '#')},
+    {BIT(HEADER), 0, "width 4", PUT(ppm[10], '4')},
+    {BIT(HEADER), 0, "file of no pixels", PUT(length[PPM], 21)},
     {BIT(BATCH), 0, "total two below the limit", PUT(weights[2], (LIMIT - 33) / 3)},
     {BIT(BATCH), 0, "total at the limit with the table's", PUT(table[0], LIMIT - 49)},
     {BIT(MERGE), 0, "total at the limit", PUT(second[0], LIMIT - 23)},
@@ -674,10 +812,10 @@ static void change(struct asked *q, const struct change *c)
     memcpy((unsigned char *)q + c->at, &c->to, c->size);
 }
 
-/* Whether an answer comes before another: 13 and 14 before 1. */
+/* Whether an answer comes before another: 10 to 14 before 1. */
 static bool comes_before(unsigned one, unsigned two)
 {
-    return (one + 3) % 16 < (two + 3) % 16;
+    return (one + 6) % 16 < (two + 6) % 16;
 }
 
 /* Each change alone, and each two refusals together: the one that comes before the other is given. */
@@ -786,6 +924,93 @@ static void ask_compared(void)
         memset(q.second, 0, sizeof q.second);
         memcpy((turned ? q.table : q.second) + 315, white, sizeof white);
         ask(COMPARE, &q, 0, "white as often as can be", turned ? "nothing" : "nothing before");
+    }
+}
+
+/* ---- Files */
+
+#define TEXT(bytes) bytes, sizeof bytes - 1
+
+static const struct {
+    const char *header;
+    size_t length;
+    unsigned number;
+    size_t width, height;
+} headers[] = {
+    {TEXT("P6 3 2 255 "), 0, 3, 2},
+    {TEXT("P6\n3 2\n255\n"), 0, 3, 2},
+    {TEXT("P6\r3\r\n2\t255\r"), 0, 3, 2},
+    {TEXT("P6 0003 00000000000000000000000000000000000000002 0255\t"), 0, 3, 2},
+    {TEXT("P6# 9 9 255 \n 3 # # 7\n#\r2\n#\n#\0\377\n255\n"), 0, 3, 2},
+    {TEXT("P6#\r\n3#\n\n2 #\n255 "), 0, 3, 2},
+    {TEXT("P6 1 6 255\n"), 0, 1, 6},
+    {TEXT("P6 6 1 255\n"), 0, 6, 1},
+    {TEXT("P6 65535 65535 255\n"), 12, 65535, 65535},
+    {TEXT("P6 1 65535 255\n"), 12, 1, 65535},
+    {TEXT("P6 7 1 255\n"), 12, 7, 1},
+    {TEXT("P6 3 65536 255\n"), 10, 0, 0},
+    {TEXT("P6 65536 2 255\n"), 10, 0, 0},
+    {TEXT("P6 4294967299 2 255\n"), 10, 0, 0},
+    {TEXT("P6 3 18446744073709551618 255\n"), 10, 0, 0},
+    {TEXT("P6 340282366920938463463374607431768211459 2 255\n"), 10, 0, 0},
+    {TEXT("P6 3 2 0\n"), 11, 0, 0},
+    {TEXT("P6 3 2 65535\n"), 11, 0, 0},
+    {TEXT("P6 3 2 65791\n"), 11, 0, 0},
+    {TEXT("P6 3 2 4294967551\n"), 11, 0, 0},
+    {TEXT("P6 3 2 18446744073709551871\n"), 11, 0, 0},
+    {TEXT("P6 0 2 254\n"), 10, 0, 0},
+    {TEXT("P6 3 2 254#"), 10, 0, 0},
+    {TEXT("P6 3 255\n"), 10, 0, 0},
+    {TEXT("P63 2 255\n"), 10, 0, 0},
+    {TEXT("P6 3 2 -1\n"), 10, 0, 0},
+    {TEXT("P6 +3 2 255\n"), 10, 0, 0},
+    {TEXT("P6#\n3 2 255\n"), 10, 0, 0},
+    {TEXT("P6 3#\r2 255\n"), 10, 0, 0},
+    {TEXT("P6 3 2#\n#\n255\n"), 10, 0, 0},
+    {TEXT("P6 3 2 #255 "), 10, 0, 0},
+};
+
+/* Each header with six pixels behind it, and none. */
+static void ask_headers(void)
+{
+    for (size_t i = 0; i < COUNT(headers); i++) {
+        const unsigned number = headers[i].number, header = number == 12 ? 0 : number;
+        struct asked q = good();
+        lay_file(&q, headers[i].header, headers[i].length, 6);
+        for (unsigned bare = 0; bare < 2; bare++) {
+            const struct answer told = ask(HEADER, &q, header, headers[i].header, bare ? "no pixels" : "six pixels");
+            check(told.width == headers[i].width && told.height == headers[i].height, "another size");
+            check(told.start == (header ? 0 : headers[i].length), "other pixels");
+            ask(LOAD_PPM, &q, bare && !number ? 12 : number, headers[i].header, bare ? "no pixels" : "six pixels");
+            q.length[PPM] = headers[i].length;
+        }
+    }
+}
+
+/* Files with the good header and with a plain one, cut at every byte; and each byte of the header in turn is every
+ * byte. */
+static void ask_files(void)
+{
+    for (unsigned plain = 0; plain < 2; plain++) {
+        struct asked file = good(), q;
+        if (plain) lay_file(&file, TEXT("P6\n3 2\n255\n"), 6);
+        const size_t length = file.length[PPM], start = length - 18;
+        for (size_t end = 0; end <= length; end++) {
+            q = file;
+            q.length[PPM] = end;
+            ask(HEADER, &q, end < start ? 10 : 0, "file that was cut", "");
+            ask(LOAD_PPM, &q, end < start ? 10 : end < length ? 12 : 0, "file that was cut", "");
+        }
+        for (size_t at = 0; at < start; at++) {
+            for (unsigned byte = 0; byte < 256; byte++) {
+                char words[60];
+                snprintf(words, sizeof words, "file with byte %u at place %zu", byte, at);
+                q = file;
+                q.ppm[at] = (uint8_t)byte;
+                ask(HEADER, &q, header_of(&q).number, words, "");
+                ask(LOAD_PPM, &q, file_answer(&q), words, "");
+            }
+        }
     }
 }
 
@@ -961,6 +1186,19 @@ static void ask_split(size_t pixels, const char *words)
     }
 }
 
+/* A file of so many pixels in one row, and in one column; none at all is no image. */
+static void ask_image(size_t pixels)
+{
+    for (unsigned column = 0; column < 2; column++) {
+        char header[40];
+        struct asked q = good();
+        const int length = snprintf(header, sizeof header, column ? "P6 1 %zu 255\n" : "P6 %zu 1 255\n", pixels);
+        lay_file(&q, header, (size_t)length, pixels);
+        ask(LOAD_PPM, &q, pixels ? 0 : 10, header, "");
+        ask(HEADER, &q, pixels ? 0 : 10, header, "");
+    }
+}
+
 static void ask_length(size_t pixels)
 {
     char words[120];
@@ -976,6 +1214,7 @@ static void ask_length(size_t pixels)
     q.weighted = 0;
     ask(LOAD, &q, 0, words, "no weights");
     ask(BATCH, &q, 0, words, "no weights");
+    ask_image(pixels);
     ask_split(pixels, words);
     q.k = pixels + 1;
     q.length[PALETTE] = 3 * q.k;
@@ -1010,6 +1249,8 @@ static void ask_all(void)
     ask_empty();
     ask_squares();
     ask_compared();
+    ask_headers();
+    ask_files();
     ask_sessions();
     ask_lists();
     ask_counts();

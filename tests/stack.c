@@ -18,12 +18,13 @@
 #define PIXELS 4096
 #define K 256
 #define BATCHES 64
+#define HEADER "P6 # a comment\n64 64\n255\n"
 
 /* All that is lent, and the last answer. */
 struct lent {
     uint64_t table[5 * BINS], second[5 * BINS], work[5 * BINS];
     int64_t differences[5 * BINS];
-    uint8_t frame[3 * PIXELS], indices[PIXELS];
+    uint8_t frame[3 * PIXELS], indices[PIXELS], file[sizeof HEADER - 1 + 3 * PIXELS];
     uint32_t weights[PIXELS], counts[K], remainders[3 * K];
     uint32_t entries[6 * BATCHES];
     uint8_t answers[2 * BATCHES];
@@ -55,6 +56,19 @@ static void load_weighted(struct lent *l)
 {
     l->answer = seluvava_load(B1, B2, B3, l->second, COUNT(l->second), l->frame, COUNT(l->frame), true, l->weights,
                               COUNT(l->weights));
+}
+
+/* A PPM is the frame behind a header. */
+static void ppm_header(struct lent *l)
+{
+    memcpy(l->file, HEADER, sizeof HEADER - 1);
+    memcpy(l->file + sizeof HEADER - 1, l->frame, COUNT(l->frame));
+    l->answer = seluvava_ppm_header(l->file, COUNT(l->file)).pixels;
+}
+
+static void load_ppm(struct lent *l)
+{
+    l->answer = seluvava_load_ppm(B1, B2, B3, l->table, COUNT(l->table), l->file, COUNT(l->file));
 }
 
 static void merge(struct lent *l)
@@ -124,9 +138,20 @@ static const struct call {
     void (*make)(struct lent *);
     size_t answer;
 } calls[] = {
-    {"bins", bins, BINS},  {"numbers", numbers, 5 * BINS}, {"load", load, 0},   {"load with weights", load_weighted, 0},
-    {"merge", merge, 0},   {"compare", compare, 0},        {"begin", begin, 3}, {"reload", reload, 5},
-    {"batch", batch, 0},   {"replay", replay, 0},          {"cut", cut, 0},     {"map", map, 0},
+    {"bins", bins, BINS},
+    {"numbers", numbers, 5 * BINS},
+    {"load", load, 0},
+    {"load with weights", load_weighted, 0},
+    {"ppm_header", ppm_header, sizeof HEADER - 1},
+    {"load_ppm", load_ppm, 0},
+    {"merge", merge, 0},
+    {"compare", compare, 0},
+    {"begin", begin, 3},
+    {"reload", reload, 5},
+    {"batch", batch, 0},
+    {"replay", replay, 0},
+    {"cut", cut, 0},
+    {"map", map, 0},
     {"paint", paint, 0},
 };
 

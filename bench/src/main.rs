@@ -11,11 +11,14 @@ mod ours;
 mod page;
 #[cfg(feature = "original")]
 mod plain;
+mod ppm;
 mod recording;
 mod report;
 mod side;
 #[cfg(feature = "original")]
 mod theirs;
+#[cfg(feature = "original")]
+mod triples;
 
 use inputs::Input;
 use measure::Effort;

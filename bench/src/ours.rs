@@ -1,5 +1,6 @@
 //! Our side: the calls of the archive, on tables that stay from run to run.
 use crate::{
+    ppm::Ppm,
     recording::Recording,
     side::{Answer, Lent, MOST, Operation, Side, Sizes, touch},
 };
@@ -196,6 +197,7 @@ pub struct Ours {
     differences: Vec<i64>,
     told: (usize, usize),
     recording: Recording,
+    ppm: Ppm,
     cut: Cut,
     /// What maps and paints read.
     kept: Cut,
@@ -216,6 +218,7 @@ impl Ours {
             differences: vec![0; loaded.len()],
             told: (0, 0),
             recording: Recording::new(),
+            ppm: Ppm::new(&lent.frame),
             loaded,
             second,
             cut,
@@ -236,6 +239,10 @@ impl Side for Ours {
     fn prepare(&mut self, operation: Operation) {
         match operation {
             Operation::Load | Operation::LoadWeighted => self.table.fill(0),
+            Operation::LoadPpm => {
+                self.table.fill(0);
+                self.ppm.prepare();
+            }
             Operation::Replay => {
                 self.table.fill(0);
                 self.recording.prepare();
@@ -269,6 +276,7 @@ impl Side for Ours {
             Operation::LoadWeighted => {
                 load(sizes, &mut self.table, &lent.frame, Some(&lent.weights));
             }
+            Operation::LoadPpm => self.ppm.load(sizes, &mut self.table),
             Operation::Merge => merge(sizes, &mut self.table, &self.second),
             Operation::Compare => {
                 self.told = compare(sizes, &self.loaded, &self.second, &mut self.differences);
@@ -293,7 +301,7 @@ impl Side for Ours {
 
     fn answer(&mut self, operation: Operation, answer: &mut Answer) {
         match operation {
-            Operation::Load | Operation::LoadWeighted | Operation::Merge => {
+            Operation::Load | Operation::LoadWeighted | Operation::LoadPpm | Operation::Merge => {
                 answer.numbers.extend(&self.table);
             }
             Operation::Compare => answer.compared(&self.differences, self.told),

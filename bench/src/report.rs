@@ -40,6 +40,7 @@ impl Row {
         match (self.operation, self.moments) {
             (Operation::Load, _) => Some([1.1, 0.85, 0.5]),
             (Operation::LoadWeighted, _) => Some([1.45, 1.0, 0.65]),
+            (Operation::LoadPpm, _) => Some([1.01; 3]),
             (Operation::Replay, _) if self.sizes == [16, 32, 16] => Some([1.1; 3]),
             (Operation::Cut(256), ON_A_COPY) => Some([1.0; 3]),
             (Operation::Cut(256), IN_PLACE) => Some([1.1; 3]),

@@ -8,6 +8,8 @@ pub type Sizes = [usize; 3];
 pub enum Operation {
     Load,
     LoadWeighted,
+    /// The frame as a PPM file; the other side is a load of its bare triples.
+    LoadPpm,
     Merge,
     Compare,
     /// A recorded list; the other side is one load of the same colours.
@@ -22,9 +24,10 @@ pub enum Operation {
     },
 }
 
-pub const OPERATIONS: [Operation; 12] = [
+pub const OPERATIONS: [Operation; 13] = [
     Operation::Load,
     Operation::LoadWeighted,
+    Operation::LoadPpm,
     Operation::Merge,
     Operation::Compare,
     Operation::Replay,
@@ -45,6 +48,7 @@ impl fmt::Display for Operation {
         match self {
             Operation::Load => f.write_str("load"),
             Operation::LoadWeighted => f.write_str("load with weights"),
+            Operation::LoadPpm => f.write_str("load a PPM"),
             Operation::Merge => f.write_str("merge"),
             Operation::Compare => f.write_str("compare"),
             Operation::Replay => f.write_str("replay"),
@@ -93,7 +97,11 @@ impl Lent {
                 self.indices.fill(0xa5);
             }
             Operation::Paint => self.painted.copy_from_slice(&self.frame),
-            Operation::Merge | Operation::Compare | Operation::Moments | Operation::Cut(_) => {}
+            Operation::LoadPpm
+            | Operation::Merge
+            | Operation::Compare
+            | Operation::Moments
+            | Operation::Cut(_) => {}
         }
     }
 

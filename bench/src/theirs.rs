@@ -3,6 +3,7 @@ use crate::{
     one_load::OneLoad,
     plain::Plain,
     side::{Answer, Lent, MOST, Operation, Side, Sizes, touch},
+    triples::Triples,
 };
 use oracle::{
     original::u8::{BinnerU8x3, WuU8x3, WuU8x3ColorMap, parts::Narrow},
@@ -33,8 +34,9 @@ struct Theirs<const B1: usize, const B2: usize, const B3: usize> {
     second: Narrow<B1, B2, B3>,
     /// The two as tables.
     plain: Plain,
-    /// What a replay is held to: it has no counterpart here.
+    /// What a replay and a PPM are held to: they have no counterpart here.
     one_load: OneLoad,
+    triples: Triples,
     cut: Option<Colours<B1, B2, B3>>,
     /// What maps and paints read.
     kept: WuU8x3ColorMap<[u8; 3], B1, B2, B3>,
@@ -87,6 +89,7 @@ impl<const B1: usize, const B2: usize, const B3: usize> Theirs<B1, B2, B3> {
             second,
             plain,
             one_load: OneLoad::new([B1, B2, B3], &lent.weights),
+            triples: Triples::new([B1, B2, B3], &lent.frame),
             cut: None,
             kept,
         }
@@ -121,6 +124,7 @@ impl<const B1: usize, const B2: usize, const B3: usize> Side for Theirs<B1, B2, 
             }
             Operation::Compare => self.plain.prepare(),
             Operation::Replay => self.one_load.prepare(),
+            Operation::LoadPpm => self.triples.prepare(),
             Operation::Moments | Operation::Cut(_) if self.moments == Moments::OnACopy => {
                 self.clear();
                 touch(self.loaded.as_flattened());
@@ -140,6 +144,7 @@ impl<const B1: usize, const B2: usize, const B3: usize> Side for Theirs<B1, B2, 
             Operation::Merge => self.run.narrow().merge(&self.second),
             Operation::Compare => self.plain.run(),
             Operation::Replay => self.one_load.run(lent),
+            Operation::LoadPpm => self.triples.run(),
             Operation::Moments => self.make_moments(),
             Operation::Cut(k) => {
                 self.make_moments();
@@ -163,6 +168,7 @@ impl<const B1: usize, const B2: usize, const B3: usize> Side for Theirs<B1, B2, 
             }
             Operation::Compare => self.plain.answer(answer),
             Operation::Replay => self.one_load.answer(answer),
+            Operation::LoadPpm => self.triples.answer(answer),
             Operation::Cut(_) | Operation::Whole { .. } => {
                 let (colours, counts) = self.cut.as_ref().expect("a cut");
                 answer.numbers.extend(counts.iter().map(|&n| u64::from(n)));

@@ -23,6 +23,12 @@ pub enum Kind {
         entries: Vec<[u32; 3]>,
         damages: Vec<Damage>,
     },
+    /// A PPM file loaded: the first `split` colours are in the table, and the bytes of the others follow a header.
+    Ppm {
+        split: usize,
+        header: Vec<u8>,
+        damages: Vec<Damage>,
+    },
 }
 
 /// One case. `seed` decides what stands in lent buffers, and how an input is shuffled and split.
@@ -113,6 +119,15 @@ impl fmt::Display for Case {
                 write_entries(f, *first, entries)?;
                 write_damages(f, *split, damages)
             }
+            Kind::Ppm {
+                split,
+                header,
+                damages,
+            } => {
+                write!(f, "; header")?;
+                header.iter().try_for_each(|c| write!(f, " {c}"))?;
+                write_damages(f, *split, damages)
+            }
         }
     }
 }
@@ -154,17 +169,22 @@ impl Case {
             let list = field("damages")?.split(',');
             Some(list.filter_map(Damage::of_text).collect())
         };
-        let kind = match (one("split"), one("from"), one("first")) {
-            (Some(split), None, None) => Kind::Calls {
+        let kind = match (one("split"), one("from"), one("first"), field("header")) {
+            (Some(split), None, None, None) => Kind::Calls {
                 split: split as usize,
                 damages: damages()?,
             },
-            (Some(split), Some(from), None) => Kind::Nights {
+            (Some(split), None, None, Some(header)) => Kind::Ppm {
+                split: split as usize,
+                header: numbers(header),
+                damages: damages()?,
+            },
+            (Some(split), Some(from), None, None) => Kind::Nights {
                 from: from as usize,
                 split: split as usize,
                 damages: damages()?,
             },
-            (Some(split), None, Some(first)) => Kind::Recordings {
+            (Some(split), None, Some(first), None) => Kind::Recordings {
                 split: split as usize,
                 first: first as u32,
                 entries: entries(field("entries")?),

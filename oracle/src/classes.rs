@@ -1,5 +1,6 @@
 //! Makes the cases of each class.
 mod damages;
+pub mod ppm;
 mod recordings;
 
 use crate::{
@@ -29,7 +30,7 @@ const fn class(name: &'static str, cases: Cases) -> Class {
 }
 
 /// The classes; README.md says what their cases are.
-pub const CLASSES: [Class; 21] = [
+pub const CLASSES: [Class; 22] = [
     class("tiny", Cases::Random(tiny)),
     class("few", Cases::Random(few)),
     class("equal", Cases::Random(equal)),
@@ -47,6 +48,7 @@ pub const CLASSES: [Class; 21] = [
     class("damaged", Cases::Random(damaged)),
     class("nights", Cases::Random(nights)),
     class("recordings", Cases::Random(recordings::one)),
+    class("ppm", Cases::Random(ppm::one)),
     class("width", Cases::Listed(width)),
     class("known", Cases::Listed(known)),
     class("corners", Cases::Listed(corners)),

@@ -1,10 +1,11 @@
-//! Runs one case: whole, call by call, two tables compared, or recorded by intervals.
+//! Runs one case: whole, call by call, two tables compared, recorded by intervals, or from a file.
 use crate::{
     buffer::Differs,
     calls::calls,
     case::{Case, Kind},
     nights::nights,
     port::Port,
+    ppm::ppm,
     recordings::recordings,
     tally::Tally,
     whole::whole,
@@ -41,6 +42,11 @@ pub fn check(port: &dyn Port, case: &Case, tally: &mut Tally) -> Result<(), Diff
             let list = (*first, entries.as_flattened());
             recordings(port, case, *split, list, damages, tally)
         }
+        Kind::Ppm {
+            split,
+            header,
+            damages,
+        } => ppm(port, case, *split, header, damages, tally),
     });
     catch_unwind(run).unwrap_or_else(|panic| Err(said(panic)))
 }

@@ -2,8 +2,8 @@
 use std::fmt;
 
 /// One damage: a length off by `value`, a number of a table off by `value` at `place`, an entry of the map there,
-/// or a size, k, the colours told, a number of the band, the interval in force, a batch's own or a number of a recorded
-/// list replaced by `value`.
+/// or a size, k, the colours told, a number of the band, the interval in force, a batch's own, a number of a recorded
+/// list or a byte of a file replaced by `value`.
 #[derive(Clone, Copy, Debug, PartialEq)]
 pub struct Damage {
     pub what: &'static str,
@@ -37,6 +37,9 @@ pub const OF_RECORDINGS: [&str; 13] = [
     "weights",
     "weighted",
 ];
+
+/// What can be damaged in a file and in the table that it is loaded into.
+pub const OF_PPM: [&str; 5] = ["number", "size", "table", "byte", "file"];
 
 /// What can be damaged in the calls one by one.
 pub const DAMAGES: [&str; 23] = [
@@ -81,6 +84,7 @@ impl Damage {
                 .into_iter()
                 .chain(OF_NIGHTS)
                 .chain(OF_RECORDINGS)
+                .chain(OF_PPM)
                 .find(|d| *d == name)?,
             place: words.next()?.parse().ok()?,
             value: words.next()?.parse().ok()?,

@@ -182,6 +182,51 @@ fn moments(grid: Grid, table: &[u64], work: &mut [u64]) {
     }
 }
 
+/// Where a reader of a header is.
+#[derive(PartialEq)]
+enum At {
+    Gap,
+    Comment,
+    Number,
+}
+
+/// The three numbers of a header and the place behind it, byte by byte; none where it is malformed. "`P6`, a gap, the
+/// width, a gap, the height, a gap, the maximum, one whitespace"
+fn fields(file: &[u8]) -> Option<([u64; 3], usize)> {
+    if !file.starts_with(b"P6") {
+        return None;
+    }
+    let (mut numbers, mut at, mut blank) = (Vec::new(), At::Gap, false);
+    for (p, &c) in file.iter().enumerate().skip(2) {
+        let whitespace = matches!(c, b' ' | b'\t' | b'\r' | b'\n');
+        if at == At::Comment {
+            if matches!(c, b'\r' | b'\n') {
+                at = At::Gap;
+            }
+        } else if c.is_ascii_digit() {
+            if at == At::Gap {
+                if !blank {
+                    return None;
+                }
+                numbers.push(0_u64);
+            }
+            let n = numbers.last_mut()?;
+            *n = n.saturating_mul(10).saturating_add(u64::from(c - b'0'));
+            (at, blank) = (At::Number, false);
+        } else if numbers.len() == 3 {
+            let numbers = numbers.try_into().ok()?;
+            return whitespace.then_some((numbers, p + 1));
+        } else if c == b'#' {
+            at = At::Comment;
+        } else if whitespace {
+            (at, blank) = (At::Gap, true);
+        } else {
+            return None;
+        }
+    }
+    None
+}
+
 pub struct Model;
 
 impl Port for Model {
@@ -208,6 +253,32 @@ impl Port for Model {
             }
         }
         number
+    }
+
+    fn ppm_header(&self, file: &[u8]) -> (u8, [usize; 3]) {
+        let Some(([width, height, maximum], start)) = fields(file) else {
+            return (10, [0; 3]);
+        };
+        let is_side = |n: u64| (1..=65_535).contains(&n);
+        if !is_side(width) || !is_side(height) {
+            return (10, [0; 3]);
+        }
+        if maximum != 255 {
+            return (11, [0; 3]);
+        }
+        (0, [width as usize, height as usize, start])
+    }
+
+    fn load_ppm(&self, grid: Grid, table: &mut [u64], file: &[u8]) -> u8 {
+        let (number, [width, height, start]) = self.ppm_header(file);
+        if number != 0 {
+            return number;
+        }
+        let pixels = &file[start..];
+        if pixels.len() != 3 * width * height {
+            return 12;
+        }
+        self.load(grid, table, pixels, false, &[])
     }
 
     fn merge(&self, grid: Grid, table: &mut [u64], second: &[u64]) -> u8 {

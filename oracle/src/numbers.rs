@@ -90,7 +90,7 @@ pub fn interval(interval: u32) -> u8 {
     lowest(&[(&|| !is_interval(interval), 13)])
 }
 
-/// What a batch answers; a load is one at interval 1. "13 and 14 come before 1, in that order"
+/// What a batch answers; a load is one at interval 1. "10 to 14 come before 1, in that order"
 pub fn batch(
     [in_force, interval]: [u32; 2],
     grid: Grid,

@@ -48,7 +48,8 @@ pub struct Recorded<'a> {
 }
 
 /// Each call answers its number; a cut its boxes and rounds too, a comparison how many bins differ and the place of the
-/// first that does, and what begins, reloads and replays the interval then in force.
+/// first that does, what begins, reloads and replays the interval then in force, and a header its width, its height and
+/// the place of the first pixel.
 pub trait Port {
     /// How many bins a grid has and how many numbers its table, or twice 0 where a size is refused.
     fn sizes(&self, grid: Grid) -> (usize, usize);
@@ -61,6 +62,10 @@ pub trait Port {
         weighted: bool,
         weights: &[u32],
     ) -> u8;
+
+    fn ppm_header(&self, file: &[u8]) -> (u8, [usize; 3]);
+
+    fn load_ppm(&self, grid: Grid, table: &mut [u64], file: &[u8]) -> u8;
 
     fn merge(&self, grid: Grid, table: &mut [u64], second: &[u64]) -> u8;
 

@@ -50,19 +50,19 @@ pub fn shrink(case: &Case, differs: &dyn Fn(&Case) -> bool) -> Case {
     }
 }
 
-/// Whether the judge has the grid, k is in its bounds and the band in the frame. A comparison and a recording ask no
-/// original.
+/// Whether the judge has the grid, k is in its bounds and the band in the frame. A comparison, a recording and a file
+/// ask no original.
 fn is_fit(case: &Case) -> bool {
     let pixels: usize = case.frame.iter().map(|f| f.1).sum();
     let colours = case.input.colors.len();
-    let asked = !matches!(case.kind, Kind::Nights { .. } | Kind::Recordings { .. });
+    let asked = matches!(case.kind, Kind::Whole { .. } | Kind::Calls { .. });
     let any = case.grid.iter().all(|&size| size >= 2);
     (original(case.grid).is_some() || any && !asked)
         && (1..=256).contains(&case.k)
         && case.band.first + case.band.pixels <= pixels
         && match &case.kind {
             Kind::Whole { by_pixels, .. } => !by_pixels || case.input.total() > 0,
-            Kind::Calls { split, .. } => *split <= colours,
+            Kind::Calls { split, .. } | Kind::Ppm { split, .. } => *split <= colours,
             Kind::Nights { from, split, .. } => *from.max(split) <= colours,
             Kind::Recordings { split, entries, .. } => {
                 *split + entries.iter().map(|e| e[2] as usize).sum::<usize>() == colours
@@ -79,7 +79,7 @@ fn without(case: &Case, at: usize, count: usize) -> Case {
     let fewer = |split: &mut usize| *split -= (*split).clamp(at, end) - at;
     match &mut other.kind {
         Kind::Whole { .. } => {}
-        Kind::Calls { split, .. } => fewer(split),
+        Kind::Calls { split, .. } | Kind::Ppm { split, .. } => fewer(split),
         Kind::Nights { from, split, .. } => {
             fewer(from);
             fewer(split);
@@ -132,7 +132,31 @@ fn recorded(case: &Case, change: impl Fn(&mut u32, &mut Vec<[u32; 3]>, &mut Vec<
     other
 }
 
-/// Nothing by pixels, fewer batches, or fewer damages; fewer entries of a recorded list, or smaller intervals.
+/// The case with its file changed.
+fn filed(case: &Case, change: impl Fn(&mut usize, &mut Vec<u8>, &mut Vec<Damage>)) -> Case {
+    let mut other = case.clone();
+    if let Kind::Ppm {
+        split,
+        header,
+        damages,
+    } = &mut other.kind
+    {
+        change(split, header, damages);
+    }
+    other
+}
+
+/// The case with a plain header and so many pixels in its file.
+fn plain(case: &Case, split: usize, pixels: usize) -> Case {
+    let end = split + pixels;
+    let fewer = without(case, end, case.input.colors.len() - end);
+    filed(&fewer, |_, header, _| {
+        *header = format!("P6 {pixels} 1 255\n").into_bytes();
+    })
+}
+
+/// Nothing by pixels, fewer batches, or fewer damages; fewer entries of a recorded list, or smaller intervals; fewer
+/// pixels of a file, fewer bytes of its header, or a blank or a 1 among them.
 fn kinds(case: &Case) -> Vec<Case> {
     let mut list = Vec::new();
     match &case.kind {
@@ -229,6 +253,34 @@ fn kinds(case: &Case) -> Vec<Case> {
             }
             for smaller in below(*first as usize) {
                 list.push(recorded(case, |first, _, _| *first = smaller as u32));
+            }
+        }
+        Kind::Ppm {
+            split,
+            header,
+            damages,
+        } => {
+            for i in 0..damages.len() {
+                list.push(filed(case, |_, _, damages| {
+                    damages.remove(i);
+                }));
+            }
+            for fewer in below(*split) {
+                list.push(filed(case, |split, _, _| *split = fewer));
+            }
+            for fewer in below(case.input.colors.len() - split) {
+                list.push(plain(case, *split, fewer));
+            }
+            for i in 0..header.len() {
+                list.push(filed(case, |_, header, _| {
+                    header.remove(i);
+                }));
+                let simple = if header[i].is_ascii_digit() {
+                    b'1'
+                } else {
+                    b' '
+                };
+                list.push(filed(case, |_, header, _| header[i] = simple));
             }
         }
     }

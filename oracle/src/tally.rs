@@ -18,9 +18,20 @@ pub struct Tally {
 }
 
 /// The calls whose numbers are counted.
-pub const CALLS: [&str; 11] = [
-    "load", "merge", "cut", "map", "paint", "compare", "begin", "reload", "batch", "replay",
+pub const CALLS: [&str; 13] = [
+    "load",
+    "merge",
+    "cut",
+    "map",
+    "paint",
+    "compare",
+    "begin",
+    "reload",
+    "batch",
+    "replay",
     "entries",
+    "ppm_header",
+    "load_ppm",
 ];
 
 impl Tally {

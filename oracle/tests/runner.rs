@@ -59,6 +59,14 @@ impl Port for Faulty {
         Model.load(grid, table, colours, given, weights)
     }
 
+    fn ppm_header(&self, file: &[u8]) -> (u8, [usize; 3]) {
+        Model.ppm_header(file)
+    }
+
+    fn load_ppm(&self, grid: Grid, table: &mut [u64], file: &[u8]) -> u8 {
+        Model.load_ppm(grid, table, file)
+    }
+
     fn merge(&self, grid: Grid, table: &mut [u64], second: &[u64]) -> u8 {
         Model.merge(grid, table, second)
     }

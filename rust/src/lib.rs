@@ -2,9 +2,11 @@
 //!
 //! Colours are counted into a [`Table`] over a [`Grid`], batch by batch; tables of many workers are merged; and a
 //! table is cut down to at most 256 colours. The [`Cut`] has a palette, the count of each colour and a [`ColourMap`],
-//! which maps frames to indices or paints them. Two tables are [compared](Table::compare) bin by bin. A cut depends on the colours and their weights only: in any order,
-//! any batches and any merge tree, as long as nothing is refused, they give the same palette in the same order.
-//! A [`Recorder`] counts frames that were sampled at an interval, and refuses a batch that was sampled at another.
+//! which maps frames to indices or paints them. Two tables are [compared](Table::compare) bin by bin. A cut depends on
+//! the colours and their weights only: in any order, any batches and any merge tree, as long as nothing is refused,
+//! they give the same palette in the same order. A [`Recorder`] counts frames that were sampled at an interval, and
+//! refuses a batch that was sampled at another. Frames that are stored as [PPM files](ppm) are
+//! [loaded](Table::load_ppm) as they are.
 //!
 //! The work is done by code in Rattle, a language in which every function is proved to meet its contract: that it
 //! follows the written rules, whatever it is given. It is linked as a static library, and this crate only lends it
@@ -71,6 +73,7 @@ mod colour_map;
 mod comparison;
 mod cut;
 mod grid;
+pub mod ppm;
 mod recorder;
 mod refused;
 #[allow(unsafe_code)]

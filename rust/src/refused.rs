@@ -3,7 +3,7 @@ use std::{error::Error, fmt};
 /// Why a call was refused. A refused call has changed nothing.
 ///
 /// Each case has the number that the calls for C answer, and of the numbers that apply a call gives the lowest, but for
-/// 13 and 14, which come before 1.
+/// 10 to 14, which come before 1.
 ///
 /// ```
 /// use seluvava::{Grid, Refused};
@@ -36,6 +36,12 @@ pub enum Refused {
     Empty = 8,
     /// 9: some entry of the map is not below the number of colours of the palette.
     MapEntry = 9,
+    /// 10: the header of a PPM is malformed.
+    PpmHeader = 10,
+    /// 11: the maximum of a PPM is not 255.
+    PpmMaximum = 11,
+    /// 12: a PPM has more or fewer bytes of pixels than its header says.
+    PpmLength = 12,
     /// 13: an interval is outside 1 to 4,096.
     Interval = 13,
     /// 14: the interval of a batch is not the one in force.
@@ -43,7 +49,7 @@ pub enum Refused {
 }
 
 impl Refused {
-    const ALL: [Refused; 11] = [
+    const ALL: [Refused; 14] = [
         Refused::GridSize,
         Refused::PaletteSize,
         Refused::StrayBytes,
@@ -53,6 +59,9 @@ impl Refused {
         Refused::Total,
         Refused::Empty,
         Refused::MapEntry,
+        Refused::PpmHeader,
+        Refused::PpmMaximum,
+        Refused::PpmLength,
         Refused::Interval,
         Refused::NotInForce,
     ];
@@ -63,8 +72,7 @@ impl Refused {
         self as u8
     }
 
-    /// The refusal with this number. No other numbers than 1 to 9, 13 and 14 have one; 0 is what a call that is done
-    /// answers.
+    /// The refusal with this number. No other numbers than 1 to 14 have one; 0 is what a call that is done answers.
     ///
     /// ```
     /// use seluvava::Refused;
@@ -107,6 +115,9 @@ impl fmt::Display for Refused {
             Refused::Total => "the total would pass 4,294,967,295",
             Refused::Empty => "the table to be cut has total 0",
             Refused::MapEntry => "an entry of the map is not below the palette's length",
+            Refused::PpmHeader => "the header of a PPM is malformed",
+            Refused::PpmMaximum => "the maximum of a PPM is not 255",
+            Refused::PpmLength => "a PPM has more or fewer bytes of pixels than its header says",
             Refused::Interval => "an interval is outside 1 to 4,096",
             Refused::NotInForce => "the interval of a batch is not the one in force",
         };

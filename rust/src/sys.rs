@@ -7,11 +7,11 @@
 //! - No buffer that is not const overlaps another one lent to the same call: it is lent by `&mut`, and no other
 //!   reference points there. Const ones are lent by `&`; they may overlap each other.
 //! - Nobody else writes to a buffer, or reads one that is not const, before the call returns: so long lasts the borrow.
-use crate::{Grid, Refused};
+use crate::{Grid, Refused, ppm};
 use seluvava_sys::{
     Session, SessionAnswer, seluvava_batch, seluvava_begin, seluvava_bins, seluvava_compare,
-    seluvava_cut, seluvava_load, seluvava_map, seluvava_merge, seluvava_paint, seluvava_reload,
-    seluvava_replay, seluvava_table_len,
+    seluvava_cut, seluvava_load, seluvava_load_ppm, seluvava_map, seluvava_merge, seluvava_paint,
+    seluvava_ppm_header, seluvava_reload, seluvava_replay, seluvava_table_len,
 };
 
 /// The bins of a grid, or 0 where it is refused.
@@ -49,6 +49,36 @@ pub fn load(
             weighted,
             weights.as_ptr(),
             weights.len(),
+        )
+    };
+    Refused::unless_done(number)
+}
+
+/// Reads the header of a PPM.
+pub fn ppm_header(file: &[u8]) -> Result<ppm::Header, Refused> {
+    // SAFETY: pointer and length are those of a slice, and nothing is written.
+    let answer = unsafe { seluvava_ppm_header(file.as_ptr(), file.len()) };
+    Refused::unless_done(answer.number)?;
+    Ok(ppm::Header {
+        width: answer.width,
+        height: answer.height,
+        pixels: answer.pixels,
+    })
+}
+
+/// Adds the pixels of a PPM to a table.
+pub fn load_ppm(grid: Grid, table: &mut [u64], file: &[u8]) -> Result<(), Refused> {
+    let [b1, b2, b3] = grid.sizes();
+    // SAFETY: pointers and lengths are those of slices, and `table` is the only one that is written.
+    let number = unsafe {
+        seluvava_load_ppm(
+            b1,
+            b2,
+            b3,
+            table.as_mut_ptr(),
+            table.len(),
+            file.as_ptr(),
+            file.len(),
         )
     };
     Refused::unless_done(number)

@@ -4,12 +4,8 @@ use mathlib.Core.Path.{_≡_, refl, sym, ap, subst, _∙_}
 use mathlib.Core.Bool.{Bool, true, false, cond}
 use mathlib.Core.List.{List, [], _∷_, _++_}
 use Prim.Native.Nat.{ℕ, _%_}
-use borrow.Author.Tests.{eqb-true}
-use lib.ListN.{length, take}
-use lib.Seq.{length-take-le}
-use Rattle.lines.specs.declared.batches.Loaded.{Loaded}
-use Rattle.lines.specs.Listing.{batchAnswer, batchLater, Filled}
-use Rattle.lines.specs.Reading.{Progress, progress, afterBatch, afterAll, InThrees, Came, AllCame}
+use lib.ListN.{length}
+use Rattle.lines.specs.Reading.{Progress, afterBatch, afterAll, InThrees, Came, AllCame}
 
 pub after-last : (s : Progress) (batches : List (List ℕ)) (last : List ℕ)
     → afterAll s (batches ++ last ∷ []) ≡ afterBatch (afterAll s batches) last
@@ -44,17 +40,3 @@ with-one false c d = record { batches = c .batches; whole = c .whole; last = d .
 pub one-more : {s m e : Progress} {had : Bool} (more : Bool) → had ≡ true → AllCame s m had → Came m e more
     → AllCame s e more
 one-more {s} {m} more e c d = with-one more (subst (AllCame s m) e c) d
-
--- what a batch of which some bytes are filled gives
-pub batch-came : {t later batch : List ℕ} {filled lowest : ℕ} {r : Loaded} → Filled batch filled
-    → r ≡ batchAnswer t batch filled lowest → later ≡ batchLater t batch filled
-    → Came (progress lowest t) (progress (r .number) later) (r .more)
-unfolding afterBatch batchAnswer batchLater
-batch-came {t} {later} {batch} {filled} {lowest} {r} f e l =
-    record {
-      batch = take filled batch;
-      whole = λ m. ap (λ (n : ℕ). n % 3)
-          (length-take-le filled batch (f .there)
-          ∙ eqb-true filled (length batch) (sym (ap (λ (x : Loaded). x .more) e) ∙ m)) ∙ f .whole;
-      loaded = λ i. progress (e i .number) (l i);
-    }

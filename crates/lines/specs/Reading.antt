@@ -2,20 +2,23 @@
 use mathlib.Core.Path.{_≡_}
 use mathlib.Core.Bool.{Bool, true, cond}
 use mathlib.Core.List.{List, [], _∷_, _++_}
-use Prim.Native.Nat.{ℕ, _%_}
+use Prim.Native.Nat.{ℕ, _+_, _%_}
 use lib.ListN.{length}
 use Rattle.lines.specs.Listing.{partNumber, partLater, lowerOf}
 
--- between two batches: the lowest refusal of the loads so far, 0 where there was none, and the table
+-- between two batches: the lowest refusal of the loads so far, 0 where there was none, the table, and how many bytes
+-- came
 pub record Progress : Type 0 where
   pub number : ℕ
   pub table : List ℕ
+  pub bytes : ℕ
 
-abbrev pub progress : ℕ → List ℕ → Progress
-progress number table = record { number = number; table = table }
+abbrev pub progress : ℕ → List ℕ → ℕ → Progress
+progress number table bytes = record { number = number; table = table; bytes = bytes }
 
 unfoldable pub afterBatch : Progress → List ℕ → Progress
-afterBatch s batch = progress (lowerOf (s .number) (partNumber (s .table) batch)) (partLater (s .table) batch)
+afterBatch s batch =
+    progress (lowerOf (s .number) (partNumber (s .table) batch)) (partLater (s .table) batch) (s .bytes + length batch)
 
 unfoldable pub afterAll : Progress → List (List ℕ) → Progress
 afterAll s [] = s

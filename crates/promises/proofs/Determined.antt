@@ -38,6 +38,8 @@ use Rattle.recorder.proofs.session.begin as begin
 use Rattle.recorder.proofs.session.reload as reload
 use Rattle.recorder.proofs.batch.batch as batch
 use Rattle.recorder.proofs.replay.replay as replay
+use Rattle.ppm.proofs.header.read_header as read-header
+use Rattle.ppm.proofs.load.load_ppm as load-ppm
 use Rattle.compare.specs.declared.call.Compared.{Compared}
 use Rattle.compare.proofs.call.compare as compare
 use Rattle.sums.proofs.moments.moments as moments
@@ -65,6 +67,9 @@ use Rattle.band.proofs.number.band_number as band-number
 use Rattle.band.proofs.look_up.index_at as index-at
 use Rattle.mapper.proofs.call.map as map
 use Rattle.painter.proofs.call.paint as paint
+use Rattle.inputs.proofs.looks.begins_with as begins-with
+use Rattle.inputs.proofs.frames.to_front as to-front
+use Rattle.inputs.proofs.frames.frame_number as frame-number
 use Rattle.lines.specs.declared.batches.Loaded.{Loaded}
 use Rattle.lines.proofs.batches.empty_table as empty-table
 use Rattle.lines.proofs.batches.load_batch as load-batch
@@ -77,6 +82,8 @@ use Rattle.seluvava.proofs.tables.seluvava_table_len as exported-table-len
 use Rattle.seluvava.proofs.tables.seluvava_load as exported-load
 use Rattle.seluvava.proofs.tables.seluvava_merge as exported-merge
 use Rattle.seluvava.proofs.tables.seluvava_compare as exported-compare
+use Rattle.seluvava.proofs.files.seluvava_ppm_header as exported-ppm-header
+use Rattle.seluvava.proofs.files.seluvava_load_ppm as exported-load-ppm
 use Rattle.seluvava.proofs.recordings.seluvava_begin as exported-begin
 use Rattle.seluvava.proofs.recordings.seluvava_reload as exported-reload
 use Rattle.seluvava.proofs.recordings.seluvava_batch as exported-batch
@@ -204,6 +211,14 @@ pub replay-determined : Determines {A = SessionAnswer × (List ℕ × List ℕ)}
 replay-determined κs a r s x y p q =
     both (determined (p .0) (q .0)) (both (determined (p .1 .0) (q .1 .0)) (determined (p .1 .1) (q .1 .1)))
 
+-- ---- ppm
+pub read-header-determined : Determines 1 read-header.Kinds.ps read-header.Kinds.r read-header.Reads.Learnt (λ κs r e. r)
+read-header-determined κs a r s x y p q = determined p q
+
+pub load-ppm-determined : Determines {A = ℕ × List ℕ} 2 load-ppm.Kinds.ps load-ppm.Kinds.r load-ppm.Reads.Learnt
+    (λ κs r e. (r, now (e .1 .1 .1 .0)))
+load-ppm-determined κs a r s x y p q = both (determined (p .0) (q .0)) (determined (p .1) (q .1))
+
 -- ---- compare
 pub compare-determined : Determines {A = Compared × List ℤ} 3 compare.Kinds.ps compare.Kinds.r compare.Reads.Learnt
     (λ κs r e. (r, now (e .1 .1 .1 .1 .1 .0)))
@@ -282,6 +297,18 @@ pub paint-determined : Determines {A = ℕ × List ℕ} 3 paint.Kinds.ps paint.K
     (λ κs r e. (r, now (e .1 .1 .1 .1 .1 .0)))
 paint-determined κs a r s x y p q = both (determined (p .0) (q .0)) (determined (p .1) (q .1))
 
+-- ---- inputs
+pub begins-with-determined : Determines 2 begins-with.Kinds.ps begins-with.Kinds.r begins-with.Reads.Learnt (λ κs r e. r)
+begins-with-determined κs a r s x y p q = determined p q
+
+pub to-front-determined : Determines {A = ℕ × List ℕ} 1 to-front.Kinds.ps to-front.Kinds.r to-front.Reads.Learnt
+    (λ κs r e. (r, now (e .0)))
+to-front-determined κs a r s x y p q = both (determined (p .0) (q .0)) (determined (p .1) (q .1))
+
+pub frame-number-determined : Determines 0 frame-number.Kinds.ps frame-number.Kinds.r frame-number.Reads.Learnt
+    (λ κs r e. r)
+frame-number-determined κs a r s x y p q = determined p q
+
 -- ---- lines
 pub empty-table-determined : Determines 0 empty-table.Kinds.ps empty-table.Kinds.r empty-table.Reads.Learnt
     (λ κs r e. r)
@@ -315,6 +342,14 @@ exported-merge-determined κs a r s x y p q = both (determined (p .0) (q .0)) (d
 pub exported-compare-determined : Determines {A = Compared × List ℤ} 3 exported-compare.Kinds.ps
     exported-compare.Kinds.r exported-compare.Reads.Learnt (λ κs r e. (r, now (e .1 .1 .1 .1 .1 .0)))
 exported-compare-determined κs a r s x y p q = both (determined (p .0) (q .0)) (determined (p .1) (q .1))
+
+pub exported-ppm-header-determined : Determines 1 exported-ppm-header.Kinds.ps exported-ppm-header.Kinds.r
+    exported-ppm-header.Reads.Learnt (λ κs r e. r)
+exported-ppm-header-determined κs a r s x y p q = determined p q
+
+pub exported-load-ppm-determined : Determines {A = ℕ × List ℕ} 2 exported-load-ppm.Kinds.ps exported-load-ppm.Kinds.r
+    exported-load-ppm.Reads.Learnt (λ κs r e. (r, now (e .1 .1 .1 .0)))
+exported-load-ppm-determined κs a r s x y p q = both (determined (p .0) (q .0)) (determined (p .1) (q .1))
 
 pub exported-begin-determined : Determines 0 exported-begin.Kinds.ps exported-begin.Kinds.r
     exported-begin.Reads.Learnt (λ κs r e. r)

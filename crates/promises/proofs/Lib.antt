@@ -2,6 +2,8 @@ pub mod Each
 pub mod Worked
 pub mod Answers
 pub mod Numbers
+pub mod Earliest
+pub mod Frames
 pub mod Compare
 pub mod Loading
 pub mod Tiling
@@ -26,3 +28,4 @@ pub mod RecorderJoined
 pub mod RecorderParts
 pub mod RecorderNumbers
 pub mod RecorderCalls
+pub mod Grammar

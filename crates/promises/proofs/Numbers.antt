@@ -63,41 +63,49 @@ first-applies (suc more) n m f this before least most =
           (first-applies more (suc n) m f this before (omega (arith, later)) (omega (arith, most)))
     ]
 
-none-below : (xs : Tests) (n m : ℕ) → ascends n xs ≡ true → m < n → applies xs m ≡ false
+pub none-below : (last : ℕ) (xs : Tests) (n m : ℕ) → ascends last n xs ≡ true → m < n → applies xs m ≡ false
 unfolding applies ascends
-none-below [] n m a h = refl
-none-below (x ∷ xs) n m a h =
+none-below last [] n m a h = refl
+none-below last (x ∷ xs) n m a h =
     let least : n ≤ x .0 = leb-true n (x .0) (and-left (leb n (x .0)) _ a) in
-    let rest = and-right (leb (x .0) 9) _ (and-right (leb n (x .0)) _ a) in
-    rw (ne-eqb (x .0) m (λ e. omega (arith, least, e)), none-below xs (x .0) m rest (omega (arith, least))) refl
+    let rest = and-right (leb (x .0) last) _ (and-right (leb n (x .0)) _ a) in
+    rw (ne-eqb (x .0) m (λ e. omega (arith, least, e)), none-below last xs (x .0) m rest (omega (arith, least))) refl
 
-pub lowest : (xs : Tests) (n : ℕ) → 1 ≤ n → ascends n xs ≡ true → chain xs ≡ lowestOf (applies xs)
-unfolding chain ascends applies lowestOf refuse
-lowest [] n least a = sym (none-applies 9 1)
-lowest (x ∷ xs) n least a = go (x .1) (lowest xs (x .0) (omega (arith, from, least)) rest)
+-- of so many answers from the first on
+pub lowest-from : (first more : ℕ) (xs : Tests) (last n : ℕ) → first ≤ n → last < first + more
+    → ascends last n xs ≡ true → chain xs ≡ lowestFrom first more (applies xs)
+unfolding chain ascends applies refuse
+lowest-from first more [] last n least most a = sym (none-applies more first)
+lowest-from first more (x ∷ xs) last n least most a =
+    go (x .1) (lowest-from first more xs last (x .0) (omega (arith, from, least)) most rest)
   where
     from : n ≤ x .0
     from = leb-true n (x .0) (and-left (leb n (x .0)) _ a)
 
-    to : x .0 ≤ 9
-    to = leb-true (x .0) 9 (and-left (leb (x .0) 9) _ (and-right (leb n (x .0)) _ a))
+    to : x .0 ≤ last
+    to = leb-true (x .0) last (and-left (leb (x .0) last) _ (and-right (leb n (x .0)) _ a))
 
-    rest : ascends (x .0) xs ≡ true
-    rest = and-right (leb (x .0) 9) _ (and-right (leb n (x .0)) _ a)
+    rest : ascends last (x .0) xs ≡ true
+    rest = and-right (leb (x .0) last) _ (and-right (leb n (x .0)) _ a)
 
     not-this : (b : Bool) (m : ℕ) → applies xs m ≡ ((b && false) || applies xs m)
     not-this true m = refl
     not-this false m = refl
 
-    go : (b : Bool) → chain xs ≡ lowestOf (applies xs)
-        → refuse b (x .0) (chain xs) ≡ lowestFrom 1 9 (λ m. (eqb (x .0) m && b) || applies xs m)
+    go : (b : Bool) → chain xs ≡ lowestFrom first more (applies xs)
+        → refuse b (x .0) (chain xs) ≡ lowestFrom first more (λ m. (eqb (x .0) m && b) || applies xs m)
     go true later =
         sym
-        (first-applies 9 1 (x .0) (λ m. (eqb (x .0) m && true) || applies xs m) (rw (eq-eqb (x .0) (x .0) refl) refl)
-        (λ m h. rw (ne-eqb (x .0) m (λ e. omega (arith, h, e)), none-below xs (x .0) m rest h) refl)
+        (first-applies more first (x .0) (λ m. (eqb (x .0) m && true) || applies xs m)
+        (rw (eq-eqb (x .0) (x .0) refl) refl)
+        (λ m h. rw (ne-eqb (x .0) m (λ e. omega (arith, h, e)), none-below last xs (x .0) m rest h) refl)
         (omega (arith, from, least))
-        (omega (arith, to)))
-    go false later = later ∙ (λ i. lowestFrom 1 9 (λ m. not-this (eqb (x .0) m) m i))
+        (omega (arith, to, most)))
+    go false later = later ∙ (λ i. lowestFrom first more (λ m. not-this (eqb (x .0) m) m i))
+
+pub lowest : (xs : Tests) (n : ℕ) → 1 ≤ n → ascends 9 n xs ≡ true → chain xs ≡ lowestOf (applies xs)
+unfolding lowestOf
+lowest xs n least a = lowest-from 1 9 xs 9 n least (omega arith) a
 
 -- two tests of one answer are one
 both : (a b : Bool) (n rest : ℕ) → refuse (not (a && b)) n rest ≡ refuse (not a) n (refuse (not b) n rest)

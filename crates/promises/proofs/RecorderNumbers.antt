@@ -1,4 +1,4 @@
--- The calls of the recorder: 13 and 14 come before 1, in that order, and then the lowest answer that applies is given;
+-- The calls of the recorder: 13 and 14 come before 1, and then the lowest answer that applies is given;
 -- where none applies, it is 0.
 -- Assumes nothing.
 use mathlib.Core.Path.{_≡_, refl, sym, ap, _∙_}
@@ -29,45 +29,10 @@ use Rattle.recorder.specs.Batch.{inForce, batchNumber}
 use Rattle.recorder.specs.Replay.{kindAt, countAt, entriesIn, coloursBefore, isEntry, entriesFit, Recorded, lentFits}
 use Rattle.recorder.specs.Replay.{replayNumber}
 use Rattle.recorder.proofs.Laws.{replay-tests, replay-no-grid}
-use Rattle.promises.specs.Numbers.{Tests, applies, chain, ascends, lowestOf, noGrid, onBins}
-use Rattle.promises.specs.RecorderNumbers.{earliestOf, intervalTests, intervalApplies, batchWeighs, batchTests}
+use Rattle.promises.specs.Numbers.{chain, ascends, earliestOf, noGrid, onBins}
+use Rattle.promises.specs.RecorderNumbers.{intervalTests, intervalApplies, batchWeighs, batchTests}
 use Rattle.promises.specs.RecorderNumbers.{scaledTests, batchApplies, listTests, replayTests, replayApplies}
-use Rattle.promises.proofs.Numbers.{lowest}
-
--- ---- a chain that begins with 13 and 14
--- answers up to 9 are no 13 and no 14
-none-above : (xs : Tests) (n m : ℕ) → ascends n xs ≡ true → 9 < m → applies xs m ≡ false
-unfolding applies ascends
-none-above [] n m a h = refl
-none-above (x ∷ xs) n m a h =
-    let later = and-right (leb n (x .0)) _ a in
-    let most : x .0 ≤ 9 = leb-true (x .0) 9 (and-left (leb (x .0) 9) _ later) in
-    rw (
-      ne-eqb (x .0) m (λ e. omega (arith, most, e, h)),
-      none-above xs (x .0) m (and-right (leb (x .0) 9) _ later) h,
-    ) refl
-
--- a test that does not hold leaves the others
-not-this : (b c : Bool) → ((b && false) || c) ≡ c
-not-this true c = refl
-not-this false c = refl
-
-early-two : (a b : Bool) (xs : Tests) → ascends 1 xs ≡ true
-    → refuse a 13 (refuse b 14 (chain xs)) ≡ earliestOf (applies ((13, a) ∷ (14, b) ∷ xs))
-unfolding applies earliestOf refuse
-early-two true b xs e = refl
-early-two false true xs e = rw (none-above xs 1 13 e (omega arith)) refl
-early-two false false xs e =
-    rw (none-above xs 1 13 e (omega arith), none-above xs 1 14 e (omega arith))
-    (lowest xs 1 (omega arith) e
-    ∙ (λ i. lowestOf (λ m. sym (not-this (eqb 13 m) _ ∙ not-this (eqb 14 m) (applies xs m)) i)))
-
-early : (a : Bool) (xs : Tests) → ascends 1 xs ≡ true → refuse a 13 (chain xs) ≡ earliestOf (applies ((13, a) ∷ xs))
-unfolding applies earliestOf refuse
-early true xs e = refl
-early false xs e =
-    rw (none-above xs 1 13 e (omega arith), none-above xs 1 14 e (omega arith))
-    (lowest xs 1 (omega arith) e ∙ (λ i. lowestOf (λ m. sym (not-this (eqb 13 m) (applies xs m)) i)))
+use Rattle.promises.proofs.Earliest.{early}
 
 -- ---- tests of entries
 -- an entry is of one of the two kinds, and a reload has no colours
@@ -110,7 +75,7 @@ fewer n m =
 -- ---- the first answer of each call that applies
 pub reload-earliest : (s : Session) (i : ℕ) → reloaded s i .number ≡ earliestOf (intervalApplies i)
 unfolding reloaded intervalNumber intervalApplies intervalTests chain ascends
-reload-earliest s i = early (not (isInterval i)) [] refl
+reload-earliest s i = early ((13, not (isInterval i)) ∷ []) [] refl refl
 
 pub begin-earliest : (i : ℕ) → begun i .number ≡ earliestOf (intervalApplies i)
 unfolding begun
@@ -125,8 +90,8 @@ module _ (b1 b2 b3 : ℕ) (t : Table) where
   batch-earliest s i colours weighted weights =
       ap (λ (n : ℕ). refuse (not (isInterval i)) 13 (refuse (not (eqb i (s .interval))) 14 n))
       (go (gridOf b1 b2 b3) refl)
-      ∙ early-two (not (isInterval i)) (not (eqb i (s .interval)))
-      (scaledTests (gridOf b1 b2 b3) i t colours weighted weights) refl
+      ∙ early ((13, not (isInterval i)) ∷ (14, not (eqb i (s .interval))) ∷ [])
+      (scaledTests (gridOf b1 b2 b3) i t colours weighted weights) refl refl
     where
       scaled : List ℕ
       scaled = scaledWeights i (length colours / 3) weighted weights
@@ -149,7 +114,7 @@ module _ (b1 b2 b3 : ℕ) (t : Table) where
       → replayNumber first b1 b2 b3 t r ≡ earliestOf (replayApplies first b1 b2 b3 t r)
   unfolding replayApplies replayTests listTests lentFits entriesFit chain ascends noGrid onBins onGrid gridAnswer refuse
   replay-earliest first r =
-      go (gridOf b1 b2 b3) refl ∙ early (not (isInterval first)) (listTests (gridOf b1 b2 b3) t r) refl
+      go (gridOf b1 b2 b3) refl ∙ early ((13, not (isInterval first)) ∷ []) (listTests (gridOf b1 b2 b3) t r) refl refl
     where
       n : ℕ
       n = entriesIn (r .entries)

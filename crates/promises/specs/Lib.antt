@@ -1,6 +1,7 @@
 pub mod Cases
 pub mod Answers
 pub mod Numbers
+pub mod Frames
 pub mod Compare
 pub mod Tiling
 pub mod Call
@@ -15,3 +16,4 @@ pub mod Rounds
 pub mod Remainders
 pub mod Recorder
 pub mod RecorderNumbers
+pub mod Grammar

@@ -10,7 +10,7 @@ use Rattle.lines.specs.Reading.{Progress, progress, afterAll}
 
 -- before anything is read
 unfoldable pub atFirst : Progress
-atFirst = progress 0 emptyTable
+atFirst = progress 0 emptyTable 0
 
 -- the text that is written for an input that came in these batches
 unfoldable pub writtenFor : List (List ℕ) → List ℕ

@@ -37,15 +37,20 @@ lowestFrom n (suc more) f = cond (f n) n (lowestFrom (suc n) more f)
 unfoldable pub lowestOf : (ℕ → Bool) → ℕ
 lowestOf f = lowestFrom 1 9 f
 
+-- "10 to 14 come before 1, in that order: the first of them that applies is given, whatever else applies."
+unfoldable pub earliestOf : (ℕ → Bool) → ℕ
+earliestOf f =
+    cond (f 10) 10 (cond (f 11) 11 (cond (f 12) 12 (cond (f 13) 13 (cond (f 14) 14 (lowestOf f)))))
+
 -- the answer of the first test that holds, or 0
 unfoldable pub chain : Tests → ℕ
 chain [] = 0
 chain (x ∷ xs) = refuse (x .1) (x .0) (chain xs)
 
--- answers from n to 9, none lower than the one before
-unfoldable pub ascends : ℕ → Tests → Bool
-ascends n [] = true
-ascends n (x ∷ xs) = leb n (x .0) && (leb (x .0) 9 && ascends (x .0) xs)
+-- answers from n up to a last one, none lower than the one before
+unfoldable pub ascends : ℕ → ℕ → Tests → Bool
+ascends last n [] = true
+ascends last n (x ∷ xs) = leb n (x .0) && (leb (x .0) last && ascends last (x .0) xs)
 
 -- "a grid size not among the seven" (`grid-told`)
 unfoldable pub noGrid : Chosen → Bool

@@ -16,13 +16,9 @@ use Rattle.table.specs.Sound.{limit, total, sound}
 use Rattle.recorder.specs.declared.session.Session.{Session}
 use Rattle.recorder.specs.Session.{isInterval}
 use Rattle.recorder.specs.Replay.{kindAt, countAt, entriesIn, coloursBefore, Recorded}
-use Rattle.promises.specs.Numbers.{Tests, applies, lowestOf, noGrid, onBins}
+use Rattle.promises.specs.Numbers.{Tests, applies, noGrid, onBins}
 
 -- ---- which answers apply
--- "13 and 14 come before 1, in that order: the first of them that applies is given, whatever else applies."
-unfoldable pub earliestOf : (ℕ → Bool) → ℕ
-earliestOf f = cond (f 13) 13 (cond (f 14) 14 (lowestOf f))
-
 -- "begin and reload 13"
 unfoldable pub intervalTests : ℕ → Tests
 intervalTests i = (13, not (isInterval i)) ∷ []

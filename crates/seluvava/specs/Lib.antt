@@ -1,3 +1,4 @@
 pub mod Sizes
 pub mod Cut
 pub mod Inner
+pub mod Files

@@ -1,5 +1,6 @@
 // The calls for C and Rust; include/seluvava.h says the same to their callers.
 pub mod cut;
+pub mod files;
 pub mod frames;
 pub mod recordings;
 pub mod sizes;

@@ -2,8 +2,8 @@
 use oracle::port::{Band, CutAnswer, Grid, Lent, Port, Recorded};
 use seluvava_sys::{
     Session, SessionAnswer, seluvava_batch, seluvava_begin, seluvava_bins, seluvava_compare,
-    seluvava_cut, seluvava_load, seluvava_map, seluvava_merge, seluvava_paint, seluvava_reload,
-    seluvava_replay, seluvava_table_len,
+    seluvava_cut, seluvava_load, seluvava_load_ppm, seluvava_map, seluvava_merge, seluvava_paint,
+    seluvava_ppm_header, seluvava_reload, seluvava_replay, seluvava_table_len,
 };
 use std::ptr;
 
@@ -56,6 +56,25 @@ impl Port for Library {
                 weighted,
                 start(weights),
                 weights.len(),
+            )
+        }
+    }
+
+    fn ppm_header(&self, file: &[u8]) -> (u8, [usize; 3]) {
+        let answer = unsafe { seluvava_ppm_header(start(file), file.len()) };
+        (answer.number, [answer.width, answer.height, answer.pixels])
+    }
+
+    fn load_ppm(&self, [b1, b2, b3]: Grid, table: &mut [u64], file: &[u8]) -> u8 {
+        unsafe {
+            seluvava_load_ppm(
+                b1,
+                b2,
+                b3,
+                start_mut(table),
+                table.len(),
+                start(file),
+                file.len(),
             )
         }
     }

@@ -1,7 +1,7 @@
 //! Makes the damages of a case.
 use crate::{
     case::{Case, Kind},
-    damage::{DAMAGES, Damage, OF_NIGHTS, OF_RECORDINGS},
+    damage::{DAMAGES, Damage, OF_NIGHTS, OF_PPM, OF_RECORDINGS},
     numbers::{added, place},
     random::Random,
 };
@@ -14,6 +14,7 @@ pub fn one(case: &Case, r: &mut Random) -> Damage {
     let what = match case.kind {
         Kind::Nights { .. } => r.one_of(&OF_NIGHTS),
         Kind::Recordings { .. } => r.one_of(&OF_RECORDINGS),
+        Kind::Ppm { .. } => r.one_of(&OF_PPM),
         _ => r.one_of(&DAMAGES),
     };
     let at = match what {
@@ -21,6 +22,7 @@ pub fn one(case: &Case, r: &mut Random) -> Damage {
         "entry" => r.from(0, case.bins() - 1),
         "size" => r.from(0, 2),
         "kind" | "listed-interval" | "listed-colours" => r.from(0, entries_of(case)),
+        "byte" => r.from(0, header_of(case)),
         _ => 0,
     };
     let (k, huge) = (case.k as i64, r.one_of(&HUGE));
@@ -43,6 +45,15 @@ pub fn one(case: &Case, r: &mut Random) -> Damage {
         "listed-colours" => {
             let (past, more) = (1 << 32, r.from(0, 9) as i64);
             r.one_of(&[0, 1, 2, more, past - 1, past - 2, past - more - 1, past / 2])
+        }
+        "byte" => {
+            let any = r.draw() as u8;
+            r.one_of(&[b' ', b'\t', b'\r', b'\n', b'#', b'0', b'5', 0x0b, any])
+                .into()
+        }
+        "file" => {
+            let cut = r.from(0, header_of(case) + 3 * case.input.colors.len()) as i64;
+            r.one_of(&[-1, 1, -2, 2, -3, 3, -cut, -cut])
         }
         // The last two add up past the largest number with what the other of the two may be.
         "first" | "pixels" => r.one_of(&[0, 1, pixels - 1, pixels, pixels + 1, huge, -pixels, -1]),
@@ -69,6 +80,14 @@ fn entries_of(case: &Case) -> usize {
     }
 }
 
+/// How many bytes the header of a case's file has.
+fn header_of(case: &Case) -> usize {
+    match &case.kind {
+        Kind::Ppm { header, .. } => header.len(),
+        _ => 0,
+    }
+}
+
 /// A place of the table: mostly one of a bin that a colour of the input falls in.
 fn number_place(case: &Case, r: &mut Random) -> usize {
     let bin = if case.input.colors.is_empty() || r.once_in(3) {
@@ -83,7 +102,9 @@ fn number_place(case: &Case, r: &mut Random) -> usize {
 fn numbers_of(case: &Case, first: bool, bin: usize) -> [i64; 5] {
     let (from, split) = match case.kind {
         Kind::Whole { .. } => return [0; 5],
-        Kind::Calls { split, .. } | Kind::Recordings { split, .. } => (split, split),
+        Kind::Calls { split, .. } | Kind::Recordings { split, .. } | Kind::Ppm { split, .. } => {
+            (split, split)
+        }
         Kind::Nights { from, split, .. } => (from, split),
     };
     let mut numbers = [0; 5];

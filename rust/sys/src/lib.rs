@@ -28,6 +28,15 @@ pub struct CompareAnswer {
     pub first: usize,
 }
 
+/// What the header of a PPM answers.
+#[repr(C)]
+pub struct PpmAnswer {
+    pub number: u8,
+    pub width: usize,
+    pub height: usize,
+    pub pixels: usize,
+}
+
 /// A session: the interval in force.
 #[repr(C)]
 #[derive(Clone, Copy)]
@@ -59,6 +68,18 @@ unsafe extern "C" {
         weighted: bool,
         weights: *const u32,
         weights_len: usize,
+    ) -> u8;
+
+    pub fn seluvava_ppm_header(file: *const u8, file_len: usize) -> PpmAnswer;
+
+    pub fn seluvava_load_ppm(
+        b1: usize,
+        b2: usize,
+        b3: usize,
+        table: *mut u64,
+        table_len: usize,
+        file: *const u8,
+        file_len: usize,
     ) -> u8;
 
     pub fn seluvava_merge(

@@ -1,0 +1,4 @@
+pub mod Words
+pub mod Moving
+pub mod Answers
+pub mod Reading
