@@ -1,0 +1,199 @@
+-- `rescue::bins::walk_row` meets its contract: after b bins the walk stands b places further.
+-- Assumes nothing.
+use mathlib.Core.Path.{_≡_, sym, _∙_}
+use Prim.Native.Nat.{ℕ, _+_, _-_, _≤_, _<_}
+use native.Mathlib.Nat.{add-zero, add-assoc}
+use native.Mathlib.Omega.{arith}
+use lib.ListN.{length, length-set}
+use Rattle.grid.specs.declared.place.Grid.{Grid}
+use Rattle.grid.specs.Grid.{binsOf}
+use Rattle.grid.proofs.Places.{bins-high, three, place-along}
+use Rattle.grid.proofs.Size.{size-high}
+use Rattle.table.specs.Cell.{View}
+use Rattle.table.specs.Table.{Sized, viewOf}
+use Rattle.table.specs.Sound.{limit}
+use Rattle.table.proofs.Cells.{cell-fields}
+use Rattle.table.proofs.Scans.{row-place, row-one, row-two, row-three, row-bin, byte-span}
+use Rattle.table.proofs.Tables.{has-cell}
+use Rattle.rescue.specs.Rescue.{keepsBounds, reasonFor}
+use Rattle.rescue.specs.Inner.{Onward}
+use Rattle.rescue.proofs.Walks.{reason-room, cleared-sized, onward-none, onward-next, onward-at}
+use Rattle.rescue.proofs.bins.walk_row.Statement.{statement}
+use Rattle.rescue.proofs.bins.walk_row.Tie as tie
+
+abbrev Inv-loop : tie.InvT-loop
+Inv-loop g table₀ reasons₀ r gr had s1 s2 row start total₀ b₀ table reasons total b =
+    (b ≤ g .size3)
+    × Sized table (binsOf g)
+    × (length reasons ≡ binsOf g)
+    × Onward limit g start (start + b) table₀ reasons₀ had table reasons total
+
+abbrev μ-loop : tie.MeasureT-loop
+μ-loop g table₀ reasons₀ r gr had s1 s2 row start total₀ b₀ table reasons total b = g .size3 - b
+
+span-of-requires : tie.Need-span-of-requires Inv-loop μ-loop
+span-of-requires c κs = row-one (c .before .before .pre .0)
+
+span-of-requires-2 : tie.Need-span-of-requires-2 Inv-loop μ-loop
+span-of-requires-2 c κs = row-two (c .before .before .before .pre .0)
+
+row-squares-requires : tie.Need-row-squares-requires Inv-loop μ-loop
+row-squares-requires c κs =
+    let s = c .before .before .before .before in (
+      byte-span (row-one (s .pre .0)) (c .before .span-of .ensures),
+      byte-span (row-two (s .pre .0)) (c .span-of2 .ensures),
+    )
+
+place-requires : tie.Need-place-requires Inv-loop μ-loop
+place-requires c κs = c .before .before .before .before .before .pre .0 .inside
+
+loop-holds : tie.Need-loop-holds Inv-loop μ-loop
+loop-holds c =
+    let s = c .before .before .before .before .before .before in (
+      omega arith,
+      s .pre .0 .table .lent,
+      s .pre .1,
+      rw (add-zero (c .place .result)) (onward-none (c .place .result) (s .pre .0 .under)),
+    )
+
+add-p : tie.Need-add-p Inv-loop μ-loop
+add-p c =
+    let s = c .before .before .before .before .before .before .before .before .before in
+    omega (
+      arith,
+      row-place (s .pre .0) (c .before .before .loop .b) (c .if1 .taken) (c .before .before .before .place .ensures),
+      bins-high (s .pre .0 .table .accepted),
+    )
+
+cell-at-requires : tie.Need-cell-at-requires Inv-loop μ-loop
+cell-at-requires c κs =
+    let s = c .before .before .before .before .before .before .before .before .before .before in
+    has-cell (c .before .before .before .loop .inv .1) (c .before .before .before .before .place .result + c .before .before .before .loop .b)
+    (row-place (s .pre .0) (c .before .before .before .loop .b) (c .before .if1 .taken) (c .before .before .before .before .place .ensures))
+
+span-of-requires-3 : tie.Need-span-of-requires-3 Inv-loop μ-loop
+span-of-requires-3 c κs = row-three (c .before .before .before .before .before .before .before .before .before .before .before .pre .0) (c .before .before .before .before .loop .b) (c .before .before .if1 .taken)
+
+keeps-bounds-requires : tie.Need-keeps-bounds-requires Inv-loop μ-loop
+keeps-bounds-requires c κs =
+    let s = c .before .before .before .before .before .before .before .before .before .before .before .before in (
+      record {
+        one = byte-span (row-one (s .pre .0)) (c .before .before .before .before .before .before .before .before .before .span-of .ensures);
+        two = byte-span (row-two (s .pre .0)) (c .before .before .before .before .before .before .before .before .span-of2 .ensures);
+        squares = c .before .before .before .before .before .before .before .row-squares .ensures;
+      },
+      byte-span (row-three (s .pre .0) (c .before .before .before .before .before .loop .b) (c .before .before .before .if1 .taken)) (c .span-of3 .ensures),
+    )
+
+reason-requires : tie.Need-reason-requires Inv-loop μ-loop
+reason-requires c κs = c .before .before .before .before .before .before .loop .inv .3 .under
+
+-- on entry, and the bin at hand
+abbrev entry : tie.After-reason Inv-loop μ-loop → tie.Start Inv-loop μ-loop
+entry k = k .before .before .before .before .before .before .before .before .before .before .before .before .before .before
+
+abbrev grid : tie.After-reason Inv-loop μ-loop → Grid
+grid k = entry k .args .g
+
+abbrev view : tie.After-reason Inv-loop μ-loop → View
+view k = viewOf (k .before .before .before .before .before .before .before .loop .table)
+
+abbrev here : tie.After-reason Inv-loop μ-loop → ℕ
+here k = k .before .before .before .before .before .before .before .before .place .result + k .before .before .before .before .before .before .before .loop .b
+
+inside : (k : tie.After-reason Inv-loop μ-loop) → here k < binsOf (grid k)
+inside k = row-place (entry k .pre .0) (k .before .before .before .before .before .before .before .loop .b) (k .before .before .before .before .before .if1 .taken) (k .before .before .before .before .before .before .before .before .place .ensures)
+
+weighs : (k : tie.After-reason Inv-loop μ-loop) → k .before .before .before .cell-at .result .weight ≡ view k (here k) 0
+weighs k = cell-fields (view k (here k)) (k .before .before .before .cell-at .ensures) .weight
+
+keeps : (k : tie.After-reason Inv-loop μ-loop)
+    → keepsBounds limit (grid k) (view k) (here k) ≡ k .before .keeps-bounds .result
+unfolding keepsBounds
+keeps k =
+    row-bin (entry k .pre .0) (view k) (k .before .before .before .before .before .before .before .loop .b) (k .before .before .before .before .before .if1 .taken) (k .before .before .before .before .before .before .before .before .place .ensures)
+    (k .before .before .before .before .before .before .before .before .before .before .before .span-of .ensures) (k .before .before .before .before .before .before .before .before .before .before .span-of2 .ensures) (k .before .before .span-of3 .ensures) (k .before .before .before .cell-at .ensures)
+    (k .before .keeps-bounds .ensures)
+
+due : (k : tie.After-reason Inv-loop μ-loop)
+    → k .reason .result
+    ≡ reasonFor limit (keepsBounds limit (grid k) (view k) (here k)) (k .before .before .before .before .before .before .before .loop .total) (view k (here k) 0)
+due k = k .reason .ensures ∙ (λ i. reasonFor limit (sym (keeps k) i) (k .before .before .before .before .before .before .before .loop .total) (weighs k i))
+
+slice-write-reasons : tie.Need-slice-write-reasons Inv-loop μ-loop
+slice-write-reasons c = rw (c .before .before .before .before .before .before .before .loop .inv .2) (inside c)
+
+clear-for-requires : tie.Need-clear-for-requires Inv-loop μ-loop
+clear-for-requires c κs =
+    let k = c .before in
+    has-cell (k .before .before .before .before .before .before .before .loop .inv .1) (here k) (inside k)
+
+with-weight-requires : tie.Need-with-weight-requires Inv-loop μ-loop
+with-weight-requires c κs =
+    let k = c .before .before .before .before in
+    reason-room limit (k .before .keeps-bounds .result) (k .before .before .before .before .before .before .before .loop .total) (k .before .before .before .cell-at .result .weight)
+    (k .before .before .before .before .before .before .before .loop .inv .3 .under) (k .reason .ensures)
+
+add-b : tie.Need-add-b Inv-loop μ-loop
+add-b c =
+    let k = c .before .before .before .before .before in
+    omega (arith, k .before .before .before .before .before .if1 .taken, size-high (three (entry k .pre .0 .table .accepted)))
+
+loop-less : tie.Need-loop-less Inv-loop μ-loop
+loop-less c = omega arith
+
+loop-again : tie.Need-loop-again Inv-loop μ-loop
+loop-again c =
+    let k = c .before .before .before .before .before in
+    let l = k .before .before .before .before .before .before .before .loop in (
+      omega (arith, k .before .before .before .before .before .if1 .taken),
+      rw (c .before .before .before .clear-for .ensures) (cleared-sized (l .inv .1) (here k) (inside k) (k .reason .result)),
+      length-set (l .reasons) (here k) (k .reason .result) ∙ l .inv .2,
+      rw (c .before .before .before .clear-for .ensures, c .with-weight .ensures, weighs k, ← add-assoc (k .before .before .before .before .before .before .before .before .place .result) (l .b) 1)
+          (onward-next (l .inv .3) (inside k) (due k)),
+    )
+
+same-length : tie.Need-same-length Inv-loop μ-loop
+same-length c =
+    let s = c .before .before .before .before .before .before .before .before .before in
+    c .before .before .loop .inv .1 .numbers ∙ sym (s .pre .0 .table .lent .numbers)
+
+same-length-2 : tie.Need-same-length-2 Inv-loop μ-loop
+same-length-2 c =
+    let s = c .before .before .before .before .before .before .before .before .before in
+    c .before .before .loop .inv .2 ∙ sym (s .pre .1)
+
+returns : tie.Need-returns Inv-loop μ-loop
+returns c =
+    let s = c .before .before .before .before .before .before .before .before .before in
+    let l = c .before .before .loop in
+    let start = c .before .before .before .place .ensures in
+    let all : l .b ≡ s .args .g .size3 = omega arith in
+    onward-at (l .inv .3) start
+    ((λ i. start i + all i) ∙ place-along (s .args .g) (s .args .r) (s .args .gr) (s .args .g .size3))
+
+pub walk-row-spec : {M : Type 1} → statement M
+walk-row-spec =
+    tie.close
+    (tie.spec
+    Inv-loop
+    μ-loop
+    span-of-requires
+    span-of-requires-2
+    row-squares-requires
+    place-requires
+    loop-holds
+    add-p
+    cell-at-requires
+    span-of-requires-3
+    keeps-bounds-requires
+    reason-requires
+    slice-write-reasons
+    clear-for-requires
+    with-weight-requires
+    add-b
+    loop-less
+    loop-again
+    same-length
+    same-length-2
+    returns)
