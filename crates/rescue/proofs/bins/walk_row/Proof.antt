@@ -4,28 +4,25 @@ use mathlib.Core.Path.{_≡_, sym, _∙_}
 use Prim.Native.Nat.{ℕ, _+_, _-_, _≤_, _<_}
 use native.Mathlib.Nat.{add-zero, add-assoc}
 use native.Mathlib.Omega.{arith}
-use lib.ListN.{length, length-set}
 use Rattle.grid.specs.declared.place.Grid.{Grid}
 use Rattle.grid.specs.Grid.{binsOf}
 use Rattle.grid.proofs.Places.{bins-high, three, place-along}
 use Rattle.grid.proofs.Size.{size-high}
 use Rattle.table.specs.Cell.{View}
-use Rattle.table.specs.Table.{Sized, viewOf}
+use Rattle.table.specs.Table.{viewOf}
 use Rattle.table.specs.Sound.{limit}
 use Rattle.table.proofs.Cells.{cell-fields}
 use Rattle.table.proofs.Scans.{row-place, row-one, row-two, row-three, row-bin, byte-span}
 use Rattle.table.proofs.Tables.{has-cell}
 use Rattle.rescue.specs.Rescue.{keepsBounds, reasonFor}
 use Rattle.rescue.specs.Inner.{Onward}
-use Rattle.rescue.proofs.Walks.{reason-room, cleared-sized, onward-none, onward-next, onward-at}
+use Rattle.rescue.proofs.Walks.{reason-room, onward-none, onward-next, onward-at}
 use Rattle.rescue.proofs.bins.walk_row.Statement.{statement}
 use Rattle.rescue.proofs.bins.walk_row.Tie as tie
 
 abbrev Inv-loop : tie.InvT-loop
 Inv-loop g table₀ reasons₀ r gr had s1 s2 row start total₀ b₀ table reasons total b =
     (b ≤ g .size3)
-    × Sized table (binsOf g)
-    × (length reasons ≡ binsOf g)
     × Onward limit g start (start + b) table₀ reasons₀ had table reasons total
 
 abbrev μ-loop : tie.MeasureT-loop
@@ -51,9 +48,8 @@ loop-holds : tie.Need-loop-holds Inv-loop μ-loop
 loop-holds c =
     let s = c .before .before .before .before .before .before in (
       omega arith,
-      s .pre .0 .table .lent,
-      s .pre .1,
-      rw (add-zero (c .place .result)) (onward-none (c .place .result) (s .pre .0 .under)),
+      rw (add-zero (c .place .result))
+          (onward-none (c .place .result) (s .pre .0 .table .lent) (s .pre .1) (s .pre .0 .under)),
     )
 
 add-p : tie.Need-add-p Inv-loop μ-loop
@@ -68,7 +64,7 @@ add-p c =
 cell-at-requires : tie.Need-cell-at-requires Inv-loop μ-loop
 cell-at-requires c κs =
     let s = c .before .before .before .before .before .before .before .before .before .before in
-    has-cell (c .before .before .before .loop .inv .1) (c .before .before .before .before .place .result + c .before .before .before .loop .b)
+    has-cell (c .before .before .before .loop .inv .1 .lent) (c .before .before .before .before .place .result + c .before .before .before .loop .b)
     (row-place (s .pre .0) (c .before .before .before .loop .b) (c .before .if1 .taken) (c .before .before .before .before .place .ensures))
 
 span-of-requires-3 : tie.Need-span-of-requires-3 Inv-loop μ-loop
@@ -86,7 +82,7 @@ keeps-bounds-requires c κs =
     )
 
 reason-requires : tie.Need-reason-requires Inv-loop μ-loop
-reason-requires c κs = c .before .before .before .before .before .before .loop .inv .3 .under
+reason-requires c κs = c .before .before .before .before .before .before .loop .inv .1 .under
 
 -- on entry, and the bin at hand
 abbrev entry : tie.After-reason Inv-loop μ-loop → tie.Start Inv-loop μ-loop
@@ -121,18 +117,18 @@ due : (k : tie.After-reason Inv-loop μ-loop)
 due k = k .reason .ensures ∙ (λ i. reasonFor limit (sym (keeps k) i) (k .before .before .before .before .before .before .before .loop .total) (weighs k i))
 
 slice-write-reasons : tie.Need-slice-write-reasons Inv-loop μ-loop
-slice-write-reasons c = rw (c .before .before .before .before .before .before .before .loop .inv .2) (inside c)
+slice-write-reasons c = rw (c .before .before .before .before .before .before .before .loop .inv .1 .list) (inside c)
 
 clear-for-requires : tie.Need-clear-for-requires Inv-loop μ-loop
 clear-for-requires c κs =
     let k = c .before in
-    has-cell (k .before .before .before .before .before .before .before .loop .inv .1) (here k) (inside k)
+    has-cell (k .before .before .before .before .before .before .before .loop .inv .1 .lent) (here k) (inside k)
 
 with-weight-requires : tie.Need-with-weight-requires Inv-loop μ-loop
 with-weight-requires c κs =
     let k = c .before .before .before .before in
     reason-room limit (k .before .keeps-bounds .result) (k .before .before .before .before .before .before .before .loop .total) (k .before .before .before .cell-at .result .weight)
-    (k .before .before .before .before .before .before .before .loop .inv .3 .under) (k .reason .ensures)
+    (k .before .before .before .before .before .before .before .loop .inv .1 .under) (k .reason .ensures)
 
 add-b : tie.Need-add-b Inv-loop μ-loop
 add-b c =
@@ -147,21 +143,19 @@ loop-again c =
     let k = c .before .before .before .before .before in
     let l = k .before .before .before .before .before .before .before .loop in (
       omega (arith, k .before .before .before .before .before .if1 .taken),
-      rw (c .before .before .before .clear-for .ensures) (cleared-sized (l .inv .1) (here k) (inside k) (k .reason .result)),
-      length-set (l .reasons) (here k) (k .reason .result) ∙ l .inv .2,
       rw (c .before .before .before .clear-for .ensures, c .with-weight .ensures, weighs k, ← add-assoc (k .before .before .before .before .before .before .before .before .place .result) (l .b) 1)
-          (onward-next (l .inv .3) (inside k) (due k)),
+          (onward-next (l .inv .1) (inside k) (due k)),
     )
 
 same-length : tie.Need-same-length Inv-loop μ-loop
 same-length c =
     let s = c .before .before .before .before .before .before .before .before .before in
-    c .before .before .loop .inv .1 .numbers ∙ sym (s .pre .0 .table .lent .numbers)
+    c .before .before .loop .inv .1 .lent .numbers ∙ sym (s .pre .0 .table .lent .numbers)
 
 same-length-2 : tie.Need-same-length-2 Inv-loop μ-loop
 same-length-2 c =
     let s = c .before .before .before .before .before .before .before .before .before in
-    c .before .before .loop .inv .2 ∙ sym (s .pre .1)
+    c .before .before .loop .inv .1 .list ∙ sym (s .pre .1)
 
 returns : tie.Need-returns Inv-loop μ-loop
 returns c =
@@ -169,7 +163,7 @@ returns c =
     let l = c .before .before .loop in
     let start = c .before .before .before .place .ensures in
     let all : l .b ≡ s .args .g .size3 = omega arith in
-    onward-at (l .inv .3) start
+    onward-at (l .inv .1) start
     ((λ i. start i + all i) ∙ place-along (s .args .g) (s .args .r) (s .args .gr) (s .args .g .size3))
 
 pub walk-row-spec : {M : Type 1} → statement M
