@@ -44,7 +44,8 @@ unfoldable pub reasonsOf : ℕ → Grid → View → List ℕ
 reasonsOf most g v = listFrom 0 (binsOf g) (reasonAt most g v)
 
 -- ---- the call
--- the answer on an accepted grid: "table and list of reasons"
+-- the answer on an accepted grid: "table and work table exactly 5·bins", and "the list of reasons exactly one byte per
+-- bin"
 unfoldable pub rescueOn : Table → List ℕ → Grid → ℕ
 rescueOn t l g = refuse (not (isSized t (binsOf g) && eqb (length l) (binsOf g))) 5 0
 

@@ -22,9 +22,11 @@ abbrev μ-loop : tie.MeasureT-loop
 
 loop-holds : tie.Need-loop-holds Inv-loop μ-loop
 loop-holds c =
-    let s = c .before .before in
-    let start = onward-none {most = limit} {had = 0} 0 (s .pre .0 .lent) (s .pre .1) (omega arith) in
-    (omega arith, onward-at start refl (sym (first-place (s .args .g))))
+    let s = c .before .before in (
+      omega arith,
+      onward-at (onward-none {most = limit} {had = 0} 0 (s .pre .0 .lent) (s .pre .1) (omega arith)) refl
+          (sym (first-place (s .args .g))),
+    )
 
 walk-plane-requires : tie.Need-walk-plane-requires Inv-loop μ-loop
 walk-plane-requires c κs =
