@@ -26,6 +26,8 @@ use Rattle.table.proofs.layout.cell_at as cell-at
 use Rattle.table.proofs.layout.put_at as put-at
 use Rattle.table.proofs.cell.plus as plus
 use Rattle.table.proofs.cell.minus as minus
+use Rattle.table.proofs.sound.row_squares as row-squares
+use Rattle.table.proofs.sound.keeps_bounds as keeps-bounds
 use Rattle.table.proofs.sound.sound_total as sound-total
 use Rattle.loader.specs.declared.add.Added.{Added}
 use Rattle.loader.proofs.steps.fill_steps as fill-steps
@@ -40,6 +42,7 @@ use Rattle.recorder.proofs.batch.batch as batch
 use Rattle.recorder.proofs.replay.replay as replay
 use Rattle.compare.specs.declared.call.Compared.{Compared}
 use Rattle.compare.proofs.call.compare as compare
+use Rattle.rescue.proofs.call.rescue as rescue
 use Rattle.sums.proofs.moments.moments as moments
 use Rattle.sums.proofs.box_sums.in_float as in-float
 use Rattle.sums.proofs.box_sums.stats_of as stats-of
@@ -77,6 +80,7 @@ use Rattle.seluvava.proofs.tables.seluvava_table_len as exported-table-len
 use Rattle.seluvava.proofs.tables.seluvava_load as exported-load
 use Rattle.seluvava.proofs.tables.seluvava_merge as exported-merge
 use Rattle.seluvava.proofs.tables.seluvava_compare as exported-compare
+use Rattle.seluvava.proofs.tables.seluvava_rescue as exported-rescue
 use Rattle.seluvava.proofs.recordings.seluvava_begin as exported-begin
 use Rattle.seluvava.proofs.recordings.seluvava_reload as exported-reload
 use Rattle.seluvava.proofs.recordings.seluvava_batch as exported-batch
@@ -163,6 +167,14 @@ plus-determined κs a r s x y p q = determined p q
 pub minus-determined : Determines 0 minus.Kinds.ps minus.Kinds.r minus.Reads.Learnt (λ κs r e. r)
 minus-determined κs a r s x y p q = determined p q
 
+pub row-squares-determined : Determines 0 row-squares.Kinds.ps row-squares.Kinds.r row-squares.Reads.Learnt
+    (λ κs r e. r)
+row-squares-determined κs a r s x y p q = determined p q
+
+pub keeps-bounds-determined : Determines 0 keeps-bounds.Kinds.ps keeps-bounds.Kinds.r keeps-bounds.Reads.Learnt
+    (λ κs r e. r)
+keeps-bounds-determined κs a r s x y p q = determined p q
+
 pub sound-total-determined : Determines 1 sound-total.Kinds.ps sound-total.Kinds.r sound-total.Reads.Learnt
     (λ κs r e. r)
 sound-total-determined κs a r s x y p q = determined p q
@@ -208,6 +220,12 @@ replay-determined κs a r s x y p q =
 pub compare-determined : Determines {A = Compared × List ℤ} 3 compare.Kinds.ps compare.Kinds.r compare.Reads.Learnt
     (λ κs r e. (r, now (e .1 .1 .1 .1 .1 .0)))
 compare-determined κs a r s x y p q = both (determined (p .0) (q .0)) (determined (p .1) (q .1))
+
+-- ---- rescue
+pub rescue-determined : Determines {A = ℕ × (List ℕ × List ℕ)} 2 rescue.Kinds.ps rescue.Kinds.r rescue.Reads.Learnt
+    (λ κs r e. (r, (now (e .1 .1 .1 .0), now (e .1 .1 .1 .1 .0))))
+rescue-determined κs a r s x y p q =
+    both (determined (p .0) (q .0)) (both (determined (p .1 .0) (q .1 .0)) (determined (p .1 .1) (q .1 .1)))
 
 -- ---- sums
 pub moments-determined : Determines 2 moments.Kinds.ps moments.Kinds.r moments.Reads.Learnt (λ κs r e. now (e .1 .1 .0))
@@ -315,6 +333,11 @@ exported-merge-determined κs a r s x y p q = both (determined (p .0) (q .0)) (d
 pub exported-compare-determined : Determines {A = Compared × List ℤ} 3 exported-compare.Kinds.ps
     exported-compare.Kinds.r exported-compare.Reads.Learnt (λ κs r e. (r, now (e .1 .1 .1 .1 .1 .0)))
 exported-compare-determined κs a r s x y p q = both (determined (p .0) (q .0)) (determined (p .1) (q .1))
+
+pub exported-rescue-determined : Determines {A = ℕ × (List ℕ × List ℕ)} 2 exported-rescue.Kinds.ps
+    exported-rescue.Kinds.r exported-rescue.Reads.Learnt (λ κs r e. (r, (now (e .1 .1 .1 .0), now (e .1 .1 .1 .1 .0))))
+exported-rescue-determined κs a r s x y p q =
+    both (determined (p .0) (q .0)) (both (determined (p .1 .0) (q .1 .0)) (determined (p .1 .1) (q .1 .1)))
 
 pub exported-begin-determined : Determines 0 exported-begin.Kinds.ps exported-begin.Kinds.r
     exported-begin.Reads.Learnt (λ κs r e. r)

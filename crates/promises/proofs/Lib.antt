@@ -3,6 +3,7 @@ pub mod Worked
 pub mod Answers
 pub mod Numbers
 pub mod Compare
+pub mod Rescue
 pub mod Loading
 pub mod Tiling
 pub mod Call

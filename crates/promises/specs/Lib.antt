@@ -2,6 +2,7 @@ pub mod Cases
 pub mod Answers
 pub mod Numbers
 pub mod Compare
+pub mod Rescue
 pub mod Tiling
 pub mod Call
 pub mod Full

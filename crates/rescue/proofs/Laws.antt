@@ -48,9 +48,7 @@ module _ (b1 b2 b3 : ℕ) (t : Table) (l : List ℕ) where
   rescue-tests e = rw e refl
 
   -- what a rescue that is done tells
-  pub record RescueDone : Type 0 where
-    pub g : Grid
-    pub chosen : gridOf b1 b2 b3 ≡ chosen.Accepted g
+  pub record RescueDone (g : Grid) : Type 0 where
     pub lent : Sized t (binsOf g)
     pub list : length l ≡ binsOf g
     pub holds : Holds (binsOf g) later (rescued limit g (viewOf t))
@@ -74,25 +72,34 @@ module _ (b1 b2 b3 : ℕ) (t : Table) (l : List ℕ) where
   unfolding rescueLeaves onGrid whenDone
   leaves p q done kept = rw (p, q) refl
 
-  pub rescue-says : number ≡ 0 → RescueDone
-  unfolding rescueNumber rescueTable rescueReasons rescueOn
-  rescue-says e =
-      let c = call-done {A = ℕ} (gridOf b1 b2 b3) (rescueOn t l) (λ g. 0) 0 e in
-      let n = binsOf (c .g) in
+  pub rescue-says : {g : Grid} → gridOf b1 b2 b3 ≡ chosen.Accepted g → number ≡ 0 → RescueDone g
+  unfolding rescueTable rescueReasons rescueOn
+  rescue-says {g} p e =
+      let n = binsOf g in
       let sized : Bool = isSized t n in
       let listed : Bool = eqb (length l) n in
-      let lengths = not-false _ (passed _ 4 0 (c .number) .0) in
-      let bytes = leaves (c .is) (c .number) reasonsOf l in
+      let done : rescueOn t l g ≡ 0 = sym (rescue-tests p) ∙ e in
+      let lengths = not-false _ (passed _ 4 0 done .0) in
+      let bytes = leaves p done reasonsOf l in
       record {
-        g = c .g;
-        chosen = c .is;
         lent = test-sized (and-left sized listed lengths);
         list = eqb-true (length l) n (and-right sized listed lengths);
-        holds = rw (leaves (c .is) (c .number) (λ most g v. written (binsOf g) (rescued most g v)) t)
-            (list-holds n (rescued limit (c .g) (viewOf t)));
-        as-many = reasons-many (c .g) bytes;
-        reason = reasons-at (c .g) bytes;
+        holds = rw (leaves p done (λ most g v. written (binsOf g) (rescued most g v)) t)
+            (list-holds n (rescued limit g (viewOf t)));
+        as-many = reasons-many g bytes;
+        reason = reasons-at g bytes;
       }
+
+  -- and on which grid it is done
+  pub record RescueGrid : Type 0 where
+    pub g : Grid
+    pub chosen : gridOf b1 b2 b3 ≡ chosen.Accepted g
+
+  pub rescue-grid : number ≡ 0 → RescueGrid
+  unfolding rescueNumber
+  rescue-grid e =
+      let c = call-done {A = ℕ} (gridOf b1 b2 b3) (rescueOn t l) (λ g. 0) 0 e in
+      record { g = c .g; chosen = c .is }
 
   pub rescue-accepts : {g : Grid} → gridOf b1 b2 b3 ≡ chosen.Accepted g → Sized t (binsOf g) → length l ≡ binsOf g
       → number ≡ 0
