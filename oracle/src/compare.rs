@@ -1,4 +1,4 @@
-//! Runs one case: whole, call by call, two tables compared, or recorded by intervals.
+//! Runs one case: whole, call by call, two tables compared, a damaged one rescued, or recorded by intervals.
 use crate::{
     buffer::Differs,
     calls::calls,
@@ -6,6 +6,7 @@ use crate::{
     nights::nights,
     port::Port,
     recordings::recordings,
+    rescues::rescues,
     tally::Tally,
     whole::whole,
 };
@@ -32,6 +33,7 @@ pub fn check(port: &dyn Port, case: &Case, tally: &mut Tally) -> Result<(), Diff
             split,
             damages,
         } => nights(port, case, *from, *split, damages, tally),
+        Kind::Rescues { damages } => rescues(port, case, damages, tally),
         Kind::Recordings {
             split,
             first,
