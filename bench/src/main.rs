@@ -13,6 +13,7 @@ mod page;
 mod plain;
 mod recording;
 mod report;
+mod rescue;
 mod side;
 #[cfg(feature = "original")]
 mod theirs;

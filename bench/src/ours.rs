@@ -1,6 +1,7 @@
 //! Our side: the calls of the archive, on tables that stay from run to run.
 use crate::{
     recording::Recording,
+    rescue::Rescue,
     side::{Answer, Lent, MOST, Operation, Side, Sizes, touch},
 };
 use seluvava_sys::{
@@ -195,6 +196,7 @@ pub struct Ours {
     second: Vec<u64>,
     differences: Vec<i64>,
     told: (usize, usize),
+    rescue: Rescue,
     recording: Recording,
     cut: Cut,
     /// What maps and paints read.
@@ -215,6 +217,7 @@ impl Ours {
             table,
             differences: vec![0; loaded.len()],
             told: (0, 0),
+            rescue: Rescue::new(sizes, loaded.clone()),
             recording: Recording::new(),
             loaded,
             second,
@@ -249,6 +252,7 @@ impl Side for Ours {
                 touch(&self.loaded);
                 touch(&self.second);
             }
+            Operation::Rescue { damaged } => self.rescue.prepare(damaged),
             Operation::Moments | Operation::Cut(_) => {
                 self.cut.reset();
                 touch(&self.loaded);
@@ -273,6 +277,7 @@ impl Side for Ours {
             Operation::Compare => {
                 self.told = compare(sizes, &self.loaded, &self.second, &mut self.differences);
             }
+            Operation::Rescue { .. } => self.rescue.run(),
             Operation::Replay => self.recording.replay(sizes, &mut self.table, lent),
             Operation::Moments => self.cut.run(sizes, 1, &self.loaded),
             Operation::Cut(k) => self.cut.run(sizes, k, &self.loaded),
@@ -297,6 +302,7 @@ impl Side for Ours {
                 answer.numbers.extend(&self.table);
             }
             Operation::Compare => answer.compared(&self.differences, self.told),
+            Operation::Rescue { .. } => self.rescue.answer(answer),
             Operation::Replay => {
                 self.recording.check();
                 answer.numbers.extend(&self.table);

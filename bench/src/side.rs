@@ -10,6 +10,10 @@ pub enum Operation {
     LoadWeighted,
     Merge,
     Compare,
+    /// Of a sound table, beside the test that it is sound; or of a damaged one, beside that of a sound one.
+    Rescue {
+        damaged: bool,
+    },
     /// A recorded list; the other side is one load of the same colours.
     Replay,
     Moments,
@@ -22,11 +26,13 @@ pub enum Operation {
     },
 }
 
-pub const OPERATIONS: [Operation; 12] = [
+pub const OPERATIONS: [Operation; 14] = [
     Operation::Load,
     Operation::LoadWeighted,
     Operation::Merge,
     Operation::Compare,
+    Operation::Rescue { damaged: false },
+    Operation::Rescue { damaged: true },
     Operation::Replay,
     Operation::Moments,
     Operation::Cut(16),
@@ -47,6 +53,8 @@ impl fmt::Display for Operation {
             Operation::LoadWeighted => f.write_str("load with weights"),
             Operation::Merge => f.write_str("merge"),
             Operation::Compare => f.write_str("compare"),
+            Operation::Rescue { damaged: false } => f.write_str("rescue of a sound table"),
+            Operation::Rescue { damaged: true } => f.write_str("rescue of a damaged table"),
             Operation::Replay => f.write_str("replay"),
             Operation::Moments => f.write_str("moments (ours: cut, k = 1)"),
             Operation::Cut(k) => write!(f, "cut, k = {k}"),
@@ -93,7 +101,11 @@ impl Lent {
                 self.indices.fill(0xa5);
             }
             Operation::Paint => self.painted.copy_from_slice(&self.frame),
-            Operation::Merge | Operation::Compare | Operation::Moments | Operation::Cut(_) => {}
+            Operation::Merge
+            | Operation::Compare
+            | Operation::Rescue { .. }
+            | Operation::Moments
+            | Operation::Cut(_) => {}
         }
     }
 

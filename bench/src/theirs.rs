@@ -2,6 +2,7 @@
 use crate::{
     one_load::OneLoad,
     plain::Plain,
+    rescue::Rescue,
     side::{Answer, Lent, MOST, Operation, Side, Sizes, touch},
 };
 use oracle::{
@@ -33,7 +34,8 @@ struct Theirs<const B1: usize, const B2: usize, const B3: usize> {
     second: Narrow<B1, B2, B3>,
     /// The two as tables.
     plain: Plain,
-    /// What a replay is held to: it has no counterpart here.
+    /// What a rescue and a replay are held to: they have no counterpart here.
+    rescue: Rescue,
     one_load: OneLoad,
     cut: Option<Colours<B1, B2, B3>>,
     /// What maps and paints read.
@@ -80,12 +82,14 @@ impl<const B1: usize, const B2: usize, const B3: usize> Theirs<B1, B2, B3> {
         second.load_weighted(&lent.frame, &lent.weights);
         let kept = run.color_map(most(MOST));
         let plain = Plain::new([B1, B2, B3], numbers(&loaded), numbers(&second));
+        let rescue = Rescue::new([B1, B2, B3], numbers(&loaded));
         Self {
             moments,
             run,
             loaded,
             second,
             plain,
+            rescue,
             one_load: OneLoad::new([B1, B2, B3], &lent.weights),
             cut: None,
             kept,
@@ -120,6 +124,7 @@ impl<const B1: usize, const B2: usize, const B3: usize> Side for Theirs<B1, B2, 
                 self.load_again();
             }
             Operation::Compare => self.plain.prepare(),
+            Operation::Rescue { .. } => self.rescue.prepare_held(),
             Operation::Replay => self.one_load.prepare(),
             Operation::Moments | Operation::Cut(_) if self.moments == Moments::OnACopy => {
                 self.clear();
@@ -139,6 +144,7 @@ impl<const B1: usize, const B2: usize, const B3: usize> Side for Theirs<B1, B2, 
             }
             Operation::Merge => self.run.narrow().merge(&self.second),
             Operation::Compare => self.plain.run(),
+            Operation::Rescue { damaged } => self.rescue.run_held(damaged),
             Operation::Replay => self.one_load.run(lent),
             Operation::Moments => self.make_moments(),
             Operation::Cut(k) => {
@@ -162,6 +168,7 @@ impl<const B1: usize, const B2: usize, const B3: usize> Side for Theirs<B1, B2, 
                 answer.numbers.extend(numbers(self.run.narrow()));
             }
             Operation::Compare => self.plain.answer(answer),
+            Operation::Rescue { damaged } => self.rescue.answer_held(damaged, answer),
             Operation::Replay => self.one_load.answer(answer),
             Operation::Cut(_) | Operation::Whole { .. } => {
                 let (colours, counts) = self.cut.as_ref().expect("a cut");
