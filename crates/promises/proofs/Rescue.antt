@@ -63,7 +63,7 @@ module _ (b1 b2 b3 : ℕ) {g : Grid} (chosen : gridOf b1 b2 b3 ≡ chosen.Accept
         told .holds .at p 0 h (omega arith)
         ∙ ap (λ (n : ℕ). cond (eqb n 0) (viewOf t p 0) 0) (sym (told .reason p h))
 
-    pub rescue-tells : Rescued g t later reasons
+    pub rescue-tells : Rescued g t (rescueTable b1 b2 b3 t l) (rescueReasons b1 b2 b3 t l)
     unfolding keptTotal
     rescue-tells =
         record {
@@ -95,14 +95,14 @@ module _ (b1 b2 b3 : ℕ) {g : Grid} (chosen : gridOf b1 b2 b3 ≡ chosen.Accept
 
     -- ---- "a sound table comes back as it was with all bytes 0"
     module _ (is-sound : sound limit g (viewOf t) ≡ true) where
-      pub sound-comes-back : later ≡ t
+      pub sound-comes-back : rescueTable b1 b2 b3 t l ≡ t
       sound-comes-back =
           holds-list
           (holds-same (told .holds)
           (λ p j h k. kept-stays limit g (viewOf t) p (sound-kept (record { holds = is-sound }) p h) j))
           ∙ sym (holds-list (holds-itself (binsOf g) t (told .lent)))
 
-      pub sound-all-kept : reasons ≡ replicate (binsOf g) 0
+      pub sound-all-kept : rescueReasons b1 b2 b3 t l ≡ replicate (binsOf g) 0
       sound-all-kept =
           ext-getD 0 reasons (replicate (binsOf g) 0) (told .as-many ∙ sym (length-replicate (binsOf g) 0))
           (λ p h.
