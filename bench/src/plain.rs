@@ -1,5 +1,5 @@
-//! Two tables compared by a plain loop in Rust, after the tests that the rules ask for (Rules, Sound), and what a rescue
-//! has to leave: the original has no such calls.
+//! Two tables compared by a plain loop in Rust, after the tests that the rules ask for (Rules, Sound), and what a
+//! rescue has to leave: the original has no such calls.
 use crate::side::{Answer, Sizes, touch};
 
 /// The largest total of a sound table.

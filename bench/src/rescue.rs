@@ -1,5 +1,5 @@
-//! Rescues of a sound table and of a damaged one. The original has no such call: the first is held to our own test that a
-//! table is sound, and the second to the first.
+//! Rescues of a sound table and of a damaged one. The original has no such call: the first is held to our own test that
+//! a table is sound, and the second to the first.
 use crate::side::{Answer, Sizes};
 use seluvava_sys::seluvava_rescue;
 

@@ -1,8 +1,8 @@
 //! What is damaged in the calls of a case.
 use std::fmt;
 
-/// One damage: a length off by `value`, a number of a table off by `value` at `place`, its bit `value` flipped there, or
-/// a page of numbers from there on replaced by `value`, an entry of the map there,
+/// One damage: a length off by `value`, a number of a table off by `value` at `place`, its bit `value` flipped there,
+/// or a page of numbers from there on replaced by `value`, an entry of the map there,
 /// or a size, k, the colours told, a number of the band, the interval in force, a batch's own or a number of a recorded
 /// list replaced by `value`.
 #[derive(Clone, Copy, Debug, PartialEq)]

@@ -2,8 +2,8 @@
 //! `stand_ins` what it leans on, and `answer` asks it. `numbers` says from docs/RULES.md what a call answers.
 //! `classes` makes the cases; `case` writes and reads them, and `damage` what is damaged in one; `compare` holds a
 //! `port` to the judge, by `whole`, `calls`, `nights`, `rescues` or `recordings`, with what `buffer` lends and
-//! `batches` splits, and counts in `tally`; `shrink` looks for a smaller case that still differs; and `runner` does all of it as the
-//! arguments say. `model` is a port in plain Rust. No module uses one that uses it.
+//! `batches` splits, and counts in `tally`; `shrink` looks for a smaller case that still differs; and `runner` does all
+//! of it as the arguments say. `model` is a port in plain Rust. No module uses one that uses it.
 #![allow(dead_code)]
 extern crate alloc;
 

@@ -43,9 +43,9 @@ pub fn added(color: [u8; 3], w: impl Into<u64>) -> [u64; 5] {
     [w, w * c1, w * c2, w * c3, w * (c1 * c1 + c2 * c2 + c3 * c3)]
 }
 
-/// "A bin keeps its bounds if every component sum lies between n·low and n·high, where low and high are the smallest and
-/// largest value of that component that fall in the bin, and the squares lie between n times the sum of the three squared
-/// lows and n times the sum of the three squared highs."
+/// "A bin keeps its bounds if every component sum lies between n·low and n·high, where low and high are the smallest
+/// and largest value of that component that fall in the bin, and the squares lie between n times the sum of the three
+/// squared lows and n times the sum of the three squared highs."
 pub fn keeps_bounds(grid: Grid, place: usize, five: &[u64]) -> bool {
     let [_, b2, b3] = grid;
     let [n, sums @ .., squares] = [0, 1, 2, 3, 4].map(|j| u128::from(five[j]));

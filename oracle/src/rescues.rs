@@ -37,8 +37,8 @@ impl Rescue {
         }
     }
 
-    /// What is to be left. First the bins that are kept, with "the running total of the bins kept so far"; of the others
-    /// each is "cleared to five zeros".
+    /// What is to be left. First the bins that are kept, with "the running total of the bins kept so far"; of the
+    /// others each is "cleared to five zeros".
     fn told(&self) -> (Vec<u64>, Vec<u8>) {
         let (mut total, mut kept) = (0, Vec::new());
         let mut reasons = Vec::with_capacity(self.list);

@@ -13,7 +13,8 @@ pub struct Tally {
     pub negative: usize,
     pub put_back: usize,
     pub falsely_positive: usize,
-    /// Of the calls made one by one, of the entries of replays and of the bins of rescues, how many answered each number.
+    /// Of the calls made one by one, of the entries of replays and of the bins of rescues, how many answered each
+    /// number.
     pub numbers: [[usize; 15]; CALLS.len()],
 }
 

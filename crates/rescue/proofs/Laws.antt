@@ -1,5 +1,6 @@
--- What a caller of rescue may use without seeing inside its definitions: a refusal leaves the table and the list as they
--- were, and where the answer is 0 the grid is accepted, the lengths are right, and each number and each byte is known.
+-- What a caller of rescue may use without seeing inside its definitions: a refusal leaves the table and the list as
+-- they were, and where the answer is 0 the grid is accepted, the lengths are right, and each number and each byte is
+-- known.
 -- Assumes nothing.
 use mathlib.Core.Path.{_≡_, refl, sym, ap, _∙_}
 use mathlib.Core.Bool.{Bool, not, _&&_}
@@ -68,7 +69,8 @@ module _ (b1 b2 b3 : ℕ) (t : Table) (l : List ℕ) where
 
   -- what is left where the answer is 0
   leaves : {g : Grid} → gridOf b1 b2 b3 ≡ chosen.Accepted g → rescueOn t l g ≡ 0
-      → (done : ℕ → Grid → View → List ℕ) (kept : List ℕ) → rescueLeaves b1 b2 b3 t l done kept ≡ done limit g (viewOf t)
+      → (done : ℕ → Grid → View → List ℕ) (kept : List ℕ)
+      → rescueLeaves b1 b2 b3 t l done kept ≡ done limit g (viewOf t)
   unfolding rescueLeaves onGrid whenDone
   leaves p q done kept = rw (p, q) refl
 

@@ -1,5 +1,5 @@
--- Laws of what a rescue makes of a view: which bins are cleared and why, that the result is sound, and that a sound view
--- stays as it is.
+-- Laws of what a rescue makes of a view: which bins are cleared and why, that the result is sound, and that a sound
+-- view stays as it is.
 -- Assumes nothing.
 use mathlib.Core.Path.{_≡_, refl, sym, ap, _∙_}
 use mathlib.Core.Bool.{Bool, true, false, cond}

@@ -56,7 +56,8 @@ reason-room most keeps had weight h e = rw e (room most keeps had weight h)
 
 module _ (most : ℕ) (g : Grid) (v : View) where
   -- the total with the bin at a place
-  pub kept-next : (p : ℕ) → keptBefore most g v (p + 1) ≡ withWeight (keptBefore most g v p) (v p 0) (reasonAt most g v p)
+  pub kept-next : (p : ℕ)
+      → keptBefore most g v (p + 1) ≡ withWeight (keptBefore most g v p) (v p 0) (reasonAt most g v p)
   unfolding keptBefore withWeight reasonAt
   kept-next p = ap (keptBefore most g v) (next p)
     where

@@ -97,6 +97,6 @@ cases =
 worked : map outcome cases ≡ map (λ (c : Case). c .expected) cases
 unfolding outcome cases night flipped heavy old kept rescueTable rescueReasons rescueLeaves rescueNumber rescueOn
     reasonsOf rescued reasonAt keptBefore reasonFor keepsBounds listFrom allFrom refuse whenDone numberOn onGrid
-    gridAnswer gridOf gridWith shiftOf shiftIn choices shiftAt choose binsOf binAt spanOf tableLen isSized viewOf written
-    between squaredSpan plusSpan squaresSpan inBounds spanAt binSound
+    gridAnswer gridOf gridWith shiftOf shiftIn choices shiftAt choose binsOf binAt spanOf tableLen isSized viewOf
+    written between squaredSpan plusSpan squaresSpan inBounds spanAt binSound
 worked = refl

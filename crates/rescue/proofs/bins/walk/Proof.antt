@@ -49,22 +49,25 @@ walk-plane-requires c κs =
 
 add-r : tie.Need-add-r Inv-loop μ-loop
 add-r c =
-    let s = c .before .before .before .before .before .before .before .before .before .before .before .before in
-    omega (arith, c .before .before .before .before .before .before .before .if1 .taken, size-high (one (s .pre .0 .accepted)))
+    let t = c .before .before .before .before .before .before .before in
+    let s = t .before .before .before .before .before in
+    omega (arith, t .if1 .taken, size-high (one (s .pre .0 .accepted)))
 
 loop-less : tie.Need-loop-less Inv-loop μ-loop
 loop-less c = omega arith
 
 loop-again : tie.Need-loop-again Inv-loop μ-loop
 loop-again c =
-    let s = c .before .before .before .before .before .before .before .before .before .before .before .before in
-    let l = c .before .before .before .before .before .before .before .before .before .loop in (
-      omega (arith, c .before .before .before .before .before .before .before .if1 .taken),
-      onward-join (l .inv .1) (onward-at (c .before .before .before .before .walk-plane .ensures) refl (plane-end (s .args .g) (l .r))),
-    )
+    let t = c .before .before .before .before .before .before .before in
+    let s = t .before .before .before .before .before in
+    let l = t .before .before .loop in
+    let more = onward-at (c .before .before .before .before .walk-plane .ensures) refl (plane-end (s .args .g) (l .r)) in
+    (omega (arith, t .if1 .taken), onward-join (l .inv .1) more)
 
 same-length : tie.Need-same-length Inv-loop μ-loop
-same-length c = c .before .before .loop .inv .1 .lent .numbers ∙ sym (c .before .before .before .before .before .pre .0 .lent .numbers)
+same-length c =
+    let s = c .before .before .before .before .before in
+    c .before .before .loop .inv .1 .lent .numbers ∙ sym (s .pre .0 .lent .numbers)
 
 same-length-2 : tie.Need-same-length-2 Inv-loop μ-loop
 same-length-2 c = c .before .before .loop .inv .1 .list ∙ sym (c .before .before .before .before .before .pre .1)

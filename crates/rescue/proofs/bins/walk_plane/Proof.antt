@@ -48,22 +48,25 @@ walk-row-requires c κs =
 
 add-gr : tie.Need-add-gr Inv-loop μ-loop
 add-gr c =
-    let s = c .before .before .before .before .before .before .before .before .before .before .before .before in
-    omega (arith, c .before .before .before .before .before .before .before .if1 .taken, size-high (two (s .pre .0 .table .accepted)))
+    let t = c .before .before .before .before .before .before .before in
+    let s = t .before .before .before .before .before in
+    omega (arith, t .if1 .taken, size-high (two (s .pre .0 .table .accepted)))
 
 loop-less : tie.Need-loop-less Inv-loop μ-loop
 loop-less c = omega arith
 
 loop-again : tie.Need-loop-again Inv-loop μ-loop
 loop-again c =
-    let s = c .before .before .before .before .before .before .before .before .before .before .before .before in
-    let l = c .before .before .before .before .before .before .before .before .before .loop in (
-      omega (arith, c .before .before .before .before .before .before .before .if1 .taken),
-      onward-join (l .inv .1) (onward-at (c .before .before .before .before .walk-row .ensures) refl (row-end (s .args .g) (s .args .r) (l .gr))),
-    )
+    let t = c .before .before .before .before .before .before .before in
+    let s = t .before .before .before .before .before in
+    let l = t .before .before .loop in
+    let more = onward-at (c .before .before .before .before .walk-row .ensures) refl (row-end (s .args .g) (s .args .r) (l .gr)) in
+    (omega (arith, t .if1 .taken), onward-join (l .inv .1) more)
 
 same-length : tie.Need-same-length Inv-loop μ-loop
-same-length c = c .before .before .loop .inv .1 .lent .numbers ∙ sym (c .before .before .before .before .before .pre .0 .table .lent .numbers)
+same-length c =
+    let s = c .before .before .before .before .before in
+    c .before .before .loop .inv .1 .lent .numbers ∙ sym (s .pre .0 .table .lent .numbers)
 
 same-length-2 : tie.Need-same-length-2 Inv-loop μ-loop
 same-length-2 c = c .before .before .loop .inv .1 .list ∙ sym (c .before .before .before .before .before .pre .1)

@@ -4,12 +4,11 @@ use mathlib.Core.Path.{_≡_, sym, _∙_}
 use Prim.Native.Nat.{ℕ, _+_, _-_, _≤_, _<_}
 use native.Mathlib.Nat.{add-zero, add-assoc}
 use native.Mathlib.Omega.{arith}
-use Rattle.grid.specs.declared.place.Grid.{Grid}
 use Rattle.grid.specs.Grid.{binsOf}
 use Rattle.grid.proofs.Places.{bins-high, three, place-along}
 use Rattle.grid.proofs.Size.{size-high}
 use Rattle.table.specs.Cell.{View}
-use Rattle.table.specs.Table.{viewOf}
+use Rattle.table.specs.Table.{viewOf, HasCell}
 use Rattle.table.specs.Sound.{limit}
 use Rattle.table.proofs.Cells.{cell-fields}
 use Rattle.table.proofs.Scans.{row-place, row-one, row-two, row-three, row-bin, byte-span}
@@ -52,88 +51,92 @@ loop-holds c =
           (onward-none (c .place .result) (s .pre .0 .table .lent) (s .pre .1) (s .pre .0 .under)),
     )
 
+-- in the loop: on entry, the bin at hand, its place and what the table holds then
+abbrev entry : tie.Then1 Inv-loop μ-loop → tie.Start Inv-loop μ-loop
+entry t = t .before .before .before .before .before .before .before .before .before
+
+abbrev bin : tie.Then1 Inv-loop μ-loop → ℕ
+bin t = t .before .before .loop .b
+
+abbrev here : tie.Then1 Inv-loop μ-loop → ℕ
+here t = t .before .before .before .place .result + bin t
+
+abbrev view : tie.Then1 Inv-loop μ-loop → View
+view t = viewOf (t .before .before .loop .table)
+
+inside : (t : tie.Then1 Inv-loop μ-loop) → here t < binsOf (entry t .args .g)
+inside t = row-place (entry t .pre .0) (bin t) (t .if1 .taken) (t .before .before .before .place .ensures)
+
+has : (t : tie.Then1 Inv-loop μ-loop) → HasCell (t .before .before .loop .table) (here t)
+has t = has-cell (t .before .before .loop .inv .1 .lent) (here t) (inside t)
+
 add-p : tie.Need-add-p Inv-loop μ-loop
-add-p c =
-    let s = c .before .before .before .before .before .before .before .before .before in
-    omega (
-      arith,
-      row-place (s .pre .0) (c .before .before .loop .b) (c .if1 .taken) (c .before .before .before .place .ensures),
-      bins-high (s .pre .0 .table .accepted),
-    )
+add-p c = omega (arith, inside c, bins-high (entry c .pre .0 .table .accepted))
 
 cell-at-requires : tie.Need-cell-at-requires Inv-loop μ-loop
-cell-at-requires c κs =
-    let s = c .before .before .before .before .before .before .before .before .before .before in
-    has-cell (c .before .before .before .loop .inv .1 .lent) (c .before .before .before .before .place .result + c .before .before .before .loop .b)
-    (row-place (s .pre .0) (c .before .before .before .loop .b) (c .before .if1 .taken) (c .before .before .before .before .place .ensures))
+cell-at-requires c κs = has (c .before)
 
 span-of-requires-3 : tie.Need-span-of-requires-3 Inv-loop μ-loop
-span-of-requires-3 c κs = row-three (c .before .before .before .before .before .before .before .before .before .before .before .pre .0) (c .before .before .before .before .loop .b) (c .before .before .if1 .taken)
+span-of-requires-3 c κs = let t = c .before .before in row-three (entry t .pre .0) (bin t) (t .if1 .taken)
 
 keeps-bounds-requires : tie.Need-keeps-bounds-requires Inv-loop μ-loop
 keeps-bounds-requires c κs =
-    let s = c .before .before .before .before .before .before .before .before .before .before .before .before in (
+    let t = c .before .before .before in
+    let row = entry t .pre .0 in (
       record {
-        one = byte-span (row-one (s .pre .0)) (c .before .before .before .before .before .before .before .before .before .span-of .ensures);
-        two = byte-span (row-two (s .pre .0)) (c .before .before .before .before .before .before .before .before .span-of2 .ensures);
-        squares = c .before .before .before .before .before .before .before .row-squares .ensures;
+        one = byte-span (row-one row) (t .before .before .before .before .before .before .span-of .ensures);
+        two = byte-span (row-two row) (t .before .before .before .before .before .span-of2 .ensures);
+        squares = t .before .before .before .before .row-squares .ensures;
       },
-      byte-span (row-three (s .pre .0) (c .before .before .before .before .before .loop .b) (c .before .before .before .if1 .taken)) (c .span-of3 .ensures),
+      byte-span (row-three row (bin t) (t .if1 .taken)) (c .span-of3 .ensures),
     )
 
 reason-requires : tie.Need-reason-requires Inv-loop μ-loop
 reason-requires c κs = c .before .before .before .before .before .before .loop .inv .1 .under
 
--- on entry, and the bin at hand
-abbrev entry : tie.After-reason Inv-loop μ-loop → tie.Start Inv-loop μ-loop
-entry k = k .before .before .before .before .before .before .before .before .before .before .before .before .before .before
+-- once the reason is known: the bin that it is of
+abbrev of-bin : tie.After-reason Inv-loop μ-loop → tie.Then1 Inv-loop μ-loop
+of-bin k = k .before .before .before .before .before
 
-abbrev grid : tie.After-reason Inv-loop μ-loop → Grid
-grid k = entry k .args .g
-
-abbrev view : tie.After-reason Inv-loop μ-loop → View
-view k = viewOf (k .before .before .before .before .before .before .before .loop .table)
-
-abbrev here : tie.After-reason Inv-loop μ-loop → ℕ
-here k = k .before .before .before .before .before .before .before .before .place .result + k .before .before .before .before .before .before .before .loop .b
-
-inside : (k : tie.After-reason Inv-loop μ-loop) → here k < binsOf (grid k)
-inside k = row-place (entry k .pre .0) (k .before .before .before .before .before .before .before .loop .b) (k .before .before .before .before .before .if1 .taken) (k .before .before .before .before .before .before .before .before .place .ensures)
-
-weighs : (k : tie.After-reason Inv-loop μ-loop) → k .before .before .before .cell-at .result .weight ≡ view k (here k) 0
-weighs k = cell-fields (view k (here k)) (k .before .before .before .cell-at .ensures) .weight
+weighs : (k : tie.After-reason Inv-loop μ-loop)
+    → k .before .before .before .cell-at .result .weight ≡ view (of-bin k) (here (of-bin k)) 0
+weighs k = let t = of-bin k in cell-fields (view t (here t)) (k .before .before .before .cell-at .ensures) .weight
 
 keeps : (k : tie.After-reason Inv-loop μ-loop)
-    → keepsBounds limit (grid k) (view k) (here k) ≡ k .before .keeps-bounds .result
+    → let t = of-bin k in
+    keepsBounds limit (entry t .args .g) (view t) (here t) ≡ k .before .keeps-bounds .result
 unfolding keepsBounds
 keeps k =
-    row-bin (entry k .pre .0) (view k) (k .before .before .before .before .before .before .before .loop .b) (k .before .before .before .before .before .if1 .taken) (k .before .before .before .before .before .before .before .before .place .ensures)
-    (k .before .before .before .before .before .before .before .before .before .before .before .span-of .ensures) (k .before .before .before .before .before .before .before .before .before .before .span-of2 .ensures) (k .before .before .span-of3 .ensures) (k .before .before .before .cell-at .ensures)
+    let t = of-bin k in
+    row-bin (entry t .pre .0) (view t) (bin t) (t .if1 .taken) (t .before .before .before .place .ensures) (t .before .before .before .before .before .before .span-of .ensures)
+    (t .before .before .before .before .before .span-of2 .ensures) (k .before .before .span-of3 .ensures) (k .before .before .before .cell-at .ensures)
     (k .before .keeps-bounds .ensures)
 
 due : (k : tie.After-reason Inv-loop μ-loop)
-    → k .reason .result
-    ≡ reasonFor limit (keepsBounds limit (grid k) (view k) (here k)) (k .before .before .before .before .before .before .before .loop .total) (view k (here k) 0)
-due k = k .reason .ensures ∙ (λ i. reasonFor limit (sym (keeps k) i) (k .before .before .before .before .before .before .before .loop .total) (weighs k i))
+    → let t = of-bin k in
+    k .reason .result
+    ≡ reasonFor limit (keepsBounds limit (entry t .args .g) (view t) (here t)) (t .before .before .loop .total) (view t (here t) 0)
+due k =
+    k .reason .ensures
+    ∙ (λ i. reasonFor limit (sym (keeps k) i) (of-bin k .before .before .loop .total) (weighs k i))
 
 slice-write-reasons : tie.Need-slice-write-reasons Inv-loop μ-loop
-slice-write-reasons c = rw (c .before .before .before .before .before .before .before .loop .inv .1 .list) (inside c)
+slice-write-reasons c = let t = of-bin c in rw (t .before .before .loop .inv .1 .list) (inside t)
 
 clear-for-requires : tie.Need-clear-for-requires Inv-loop μ-loop
-clear-for-requires c κs =
-    let k = c .before in
-    has-cell (k .before .before .before .before .before .before .before .loop .inv .1 .lent) (here k) (inside k)
+clear-for-requires c κs = has (of-bin (c .before))
 
 with-weight-requires : tie.Need-with-weight-requires Inv-loop μ-loop
 with-weight-requires c κs =
     let k = c .before .before .before .before in
-    reason-room limit (k .before .keeps-bounds .result) (k .before .before .before .before .before .before .before .loop .total) (k .before .before .before .cell-at .result .weight)
-    (k .before .before .before .before .before .before .before .loop .inv .1 .under) (k .reason .ensures)
+    let l = of-bin k .before .before .loop in
+    reason-room limit (k .before .keeps-bounds .result) (l .total) (k .before .before .before .cell-at .result .weight) (l .inv .1 .under)
+    (k .reason .ensures)
 
 add-b : tie.Need-add-b Inv-loop μ-loop
 add-b c =
-    let k = c .before .before .before .before .before in
-    omega (arith, k .before .before .before .before .before .if1 .taken, size-high (three (entry k .pre .0 .table .accepted)))
+    let t = of-bin (c .before .before .before .before .before) in
+    omega (arith, t .if1 .taken, size-high (three (entry t .pre .0 .table .accepted)))
 
 loop-less : tie.Need-loop-less Inv-loop μ-loop
 loop-less c = omega arith
@@ -141,10 +144,11 @@ loop-less c = omega arith
 loop-again : tie.Need-loop-again Inv-loop μ-loop
 loop-again c =
     let k = c .before .before .before .before .before in
-    let l = k .before .before .before .before .before .before .before .loop in (
-      omega (arith, k .before .before .before .before .before .if1 .taken),
-      rw (c .before .before .before .clear-for .ensures, c .with-weight .ensures, weighs k, ← add-assoc (k .before .before .before .before .before .before .before .before .place .result) (l .b) 1)
-          (onward-next (l .inv .1) (inside k) (due k)),
+    let t = of-bin k in
+    let next = add-assoc (t .before .before .before .place .result) (bin t) 1 in (
+      omega (arith, t .if1 .taken),
+      rw (c .before .before .before .clear-for .ensures, c .with-weight .ensures, weighs k, ← next)
+          (onward-next (t .before .before .loop .inv .1) (inside t) (due k)),
     )
 
 same-length : tie.Need-same-length Inv-loop μ-loop

@@ -35,7 +35,10 @@ accepted k = chose _ _ _ (grid k) (on-grid k) .accepted
 -- the table and the list, once their lengths are right
 lent : (k : tie.Else2) → TableOf (grid (on k)) (now (entry (on k) .args .table))
 lent k =
-    record { accepted = accepted (on k); lent = sized-by (k .before .before .if1 .left ∙ k .before .before .before .table-len .ensures) }
+    record {
+      accepted = accepted (on k);
+      lent = sized-by (k .before .before .if1 .left ∙ k .before .before .before .table-len .ensures);
+    }
 
 listed : (k : tie.Else2) → length (now (entry (on k) .args .reasons)) ≡ binsOf (grid (on k))
 listed k = k .if2 .left ∙ k .before .bins .ensures
@@ -73,7 +76,8 @@ returns-3 c =
     let k = c .before .before .before .before in
     let a = entry k .args in
     list-length (a .b1) (a .b2) (a .b3) (now (a .table)) (now (a .reasons)) (on-grid k)
-    (sized-by (c .before .before .if1 .left ∙ c .before .before .before .table-len .ensures)) (λ q. c .if2 .taken (q ∙ sym (c .before .bins .ensures)))
+    (sized-by (c .before .before .if1 .left ∙ c .before .before .before .table-len .ensures))
+    (λ q. c .if2 .taken (q ∙ sym (c .before .bins .ensures)))
 
 walk-requires : tie.Need-walk-requires
 walk-requires c κs = let k = c .before .before in (lent k, listed k)
