@@ -9,11 +9,12 @@
  * no call can test it.
  *
  * load counts colours into a table, and load_ppm those of a PPM file; merge adds a second table into a first, compare
- * tells where two tables differ, cut makes of a table a palette of at most 256 colours and a map to it, and map and
- * paint take the pixels of a frame to that palette. begin, reload and batch record frames that were sampled at an
- * interval, and replay does a whole list of such reloads and batches.
+ * tells where two tables differ, rescue clears what is damaged in a table, cut makes of a table a palette of at most
+ * 256 colours and a map to it, and map and paint take the pixels of a frame to that palette. begin, reload and batch
+ * record frames that were sampled at an interval, and replay does a whole list of such reloads and batches.
  * docs/CHOOSING.md has what to know first: which grid, what comes back inexactly, how to save a table.
- * docs/INTERVALS.md has a recording as an example, with every answer.
+ * docs/INTERVALS.md has a recording as an example, with every answer, and docs/RESCUE.md a night with one bad page of
+ * memory.
  *
  * GRID. Each call that is lent a table or a map is told three sizes, one for each component of a colour, each from
  * 2, 4, 8, 16, 32, 64, 128. The bin of component c at size s is c * s / 256, rounded down. With sizes b1, b2, b3, bin
@@ -42,8 +43,8 @@
  * enough for each, as tests/stack.c measures. Of a C library the archive takes memcpy and memset and nothing else; a
  * program without one brings these two.
  *
- * ANSWERS. What load, load_ppm, merge, batch, map and paint hand back, and ppm_header, compare, begin, reload, replay
- * and cut in `number`:
+ * ANSWERS. What load, load_ppm, merge, rescue, batch, map and paint hand back, and ppm_header, compare, begin, reload,
+ * replay and cut in `number`:
  *
  *   0  done
  *   1  a grid size not among the seven
@@ -184,6 +185,23 @@ seluvava_compare(size_t b1, size_t b2, size_t b3,
                  const uint64_t *first, size_t first_len,
                  const uint64_t *second, size_t second_len,
                  int64_t *differences, size_t differences_len);
+
+/*
+ * Rescue: makes a damaged table sound by clearing bins. The bins are walked in the order of their places. One that
+ * breaks its bounds, or whose weight alone is above 4,294,967,295, is cleared to five zeros, and so is one that would
+ * carry the total of the bins kept so far past 4,294,967,295; a lighter one after it may be kept. Every other bin stays
+ * as it is. So a sound table comes back as it was, and what comes back is sound. What is damaged and keeps its bounds
+ * is not seen.
+ *
+ *   table     5 * bins numbers, whatever they are. Changed.
+ *   reasons   bins bytes. At the place of each bin 0 where it is kept, 1 where it is cleared for its bounds, 2 where it
+ *             is cleared for the total.
+ *
+ * Answers 0, 1, 5.
+ */
+uint8_t seluvava_rescue(size_t b1, size_t b2, size_t b3,
+                        uint64_t *table, size_t table_len,
+                        uint8_t *reasons, size_t reasons_len);
 
 /*
  * A session: the interval in force, from 1 to 4,096, and nothing else. It is a plain value that its caller keeps; the

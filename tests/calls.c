@@ -19,8 +19,8 @@
 /* ---- What a call is asked with */
 
 enum buffer {
-    TABLE, SECOND, DIFFERENCES, WORK, COLOURS, WEIGHTS, PPM, ENTRIES, ANSWERS, PALETTE, COUNTS, REMAINDERS, MAP, BOXES,
-    SPREADS, FRAME, INDICES, BUFFERS
+    TABLE, SECOND, DIFFERENCES, REASONS, WORK, COLOURS, WEIGHTS, PPM, ENTRIES, ANSWERS, PALETTE, COUNTS, REMAINDERS,
+    MAP, BOXES, SPREADS, FRAME, INDICES, BUFFERS
 };
 
 /* Numbers, and the length and content of each buffer. Grids have at most 64 bins here. `own` is the interval of a batch
@@ -31,6 +31,7 @@ struct asked {
     size_t length[BUFFERS];
     uint64_t table[321], second[321], work[321];
     int64_t differences[321];
+    uint8_t reasons[65];
     uint8_t colours[3 * PIXELS], ppm[3 * PIXELS + 60];
     uint32_t weights[PIXELS], entries[24];
     uint8_t answers[12], palette[780];
@@ -55,10 +56,11 @@ static const struct {
     [MAP] = {"map", AT(map), 1},             [REMAINDERS] = {"remainders", AT(remainders), 4},
     [BOXES] = {"boxes", AT(boxes), 1},       [SPREADS] = {"spreads", AT(spreads), 8},
     [FRAME] = {"frame", AT(frame), 1},       [INDICES] = {"indices", AT(indices), 1},
+    [REASONS] = {"reasons", AT(reasons), 1},
 };
 
 /* Which buffers a call is lent, and which of them it may change. */
-enum call { LOAD, LOAD_PPM, MERGE, COMPARE, BATCH, REPLAY, CUT, MAPPING, PAINT, HEADER, CALLS };
+enum call { LOAD, LOAD_PPM, MERGE, COMPARE, RESCUE, BATCH, REPLAY, CUT, MAPPING, PAINT, HEADER, CALLS };
 #define BIT(n) (1u << (n))
 #define RESULTS (BIT(PALETTE) | BIT(COUNTS) | BIT(REMAINDERS) | BIT(MAP) | BIT(BOXES) | BIT(SPREADS))
 
@@ -70,6 +72,7 @@ static const struct {
     [LOAD_PPM] = {"load_ppm", BIT(TABLE) | BIT(PPM), BIT(TABLE)},
     [MERGE] = {"merge", BIT(TABLE) | BIT(SECOND), BIT(TABLE)},
     [COMPARE] = {"compare", BIT(TABLE) | BIT(SECOND) | BIT(DIFFERENCES), BIT(DIFFERENCES)},
+    [RESCUE] = {"rescue", BIT(TABLE) | BIT(REASONS), BIT(TABLE) | BIT(REASONS)},
     [BATCH] = {"batch", BIT(TABLE) | BIT(COLOURS) | BIT(WEIGHTS), BIT(TABLE)},
     [REPLAY] = {"replay", BIT(TABLE) | BIT(ENTRIES) | BIT(COLOURS) | BIT(WEIGHTS) | BIT(ANSWERS),
                 BIT(TABLE) | BIT(ANSWERS)},
@@ -115,6 +118,9 @@ static struct answer answer_of(enum call call, const struct asked *q, void *cons
         answer = (struct answer){.number = compared.number, .differ = compared.differ, .first = compared.first};
         break;
     }
+    case RESCUE:
+        answer.number = seluvava_rescue(b1, b2, b3, at[TABLE], length[TABLE], at[REASONS], length[REASONS]);
+        break;
     case BATCH:
         answer.number = seluvava_batch((seluvava_session){q->in_force}, q->own, b1, b2, b3, at[TABLE], length[TABLE],
                                        at[COLOURS], length[COLOURS], q->weighted != 0, at[WEIGHTS], length[WEIGHTS]);
@@ -304,6 +310,34 @@ static void compared(struct asked *q, size_t differ, size_t first)
     check(first == place, "the first that differs is at place %zu and not %zu", place, first);
 }
 
+/* Whether a bin keeps its bounds, with a weight that fits a table alone. So light, no product here is past 2^64. */
+static bool keeps_bounds(const struct asked *q, size_t p)
+{
+    const size_t sizes[] = {q->b1, q->b2, q->b3}, bins[] = {p / (q->b2 * q->b3), p / q->b3 % q->b2, p % q->b3};
+    const uint64_t *cell = q->table + 5 * p, n = cell[0];
+    uint64_t lows = 0, highs = 0;
+    if (n > LIMIT) return false;
+    for (size_t d = 0; d < 3; d++) {
+        const uint64_t low = bins[d] * 256 / sizes[d], high = low + 256 / sizes[d] - 1;
+        if (cell[1 + d] < n * low || cell[1 + d] > n * high) return false;
+        lows += low * low;
+        highs += high * high;
+    }
+    return n * lows <= cell[4] && cell[4] <= n * highs;
+}
+
+/* One bin after the other, with the total of those kept so far. */
+static void rescued(struct asked *q)
+{
+    uint64_t total = 0;
+    for (size_t p = 0; p < q->length[REASONS]; p++) {
+        uint64_t *cell = q->table + 5 * p;
+        q->reasons[p] = !keeps_bounds(q, p) ? 1 : total + cell[0] > LIMIT ? 2 : 0;
+        if (q->reasons[p] == 0) total += cell[0];
+        else memset(cell, 0, 5 * sizeof *cell);
+    }
+}
+
 /* The sum over the bins of a box. */
 static void box_sum(const struct asked *q, const uint8_t *box, uint64_t *sum)
 {
@@ -433,6 +467,7 @@ static struct answer ask(enum call call, struct asked *q, unsigned number, const
     else if (call == HEADER) header_read(q, answer);
     else if (call == MERGE) merged(q);
     else if (call == COMPARE) compared(q, answer.differ, answer.first);
+    else if (call == RESCUE) rescued(q);
     else if (call == BATCH) batched(q);
     else if (call == REPLAY) replayed(q, answer.interval);
     else if (call == CUT) cut(q, answer, at[BOXES], at[SPREADS]);
@@ -587,7 +622,7 @@ static struct asked good(void)
     for (size_t i = 0; i < COUNT(q.map); i++) q.map[i] = (uint8_t)(i % 3);
     for (size_t i = 0; i < COUNT(q.palette); i++) q.palette[i] = (uint8_t)(7 * i);
     q.length[TABLE] = q.length[SECOND] = q.length[DIFFERENCES] = q.length[WORK] = 320;
-    q.length[MAP] = 64;
+    q.length[MAP] = q.length[REASONS] = 64;
     q.length[COLOURS] = q.length[FRAME] = 15;
     q.length[WEIGHTS] = q.length[INDICES] = 5;
     q.length[ENTRIES] = COUNT(entries);
@@ -604,7 +639,7 @@ static struct asked good(void)
 #define PUT(member, value) AT(member), value
 #define TWO (BIT(MERGE) | BIT(COMPARE))
 #define LOADS (BIT(LOAD) | BIT(BATCH))
-#define TABLES (LOADS | BIT(LOAD_PPM) | TWO | BIT(REPLAY) | BIT(CUT))
+#define TABLES (LOADS | BIT(LOAD_PPM) | TWO | BIT(RESCUE) | BIT(REPLAY) | BIT(CUT))
 #define FRAMES (BIT(MAPPING) | BIT(PAINT))
 #define ALL (TABLES | FRAMES)
 #define FILES (BIT(LOAD_PPM) | BIT(HEADER))
@@ -681,6 +716,9 @@ static const struct change {
     {BIT(COMPARE), 5, "differences one short", PUT(length[DIFFERENCES], 319)},
     {BIT(COMPARE), 5, "differences one long", PUT(length[DIFFERENCES], 321)},
     {BIT(COMPARE), 5, "no differences", PUT(length[DIFFERENCES], 0)},
+    {BIT(RESCUE), 5, "reasons one byte short", PUT(length[REASONS], 63)},
+    {BIT(RESCUE), 5, "reasons one byte long", PUT(length[REASONS], 65)},
+    {BIT(RESCUE), 5, "no reasons", PUT(length[REASONS], 0)},
     {BIT(REPLAY), 5, "colours one byte short", PUT(length[COLOURS], 14)},
     {BIT(REPLAY), 5, "colours one byte long", PUT(length[COLOURS], 16)},
     {BIT(REPLAY), 5, "one colour less", PUT(length[COLOURS], 12)},
@@ -764,7 +802,12 @@ static const struct change {
     {TABLES, 0, "sum at n * high", PUT(table[81], 254)},
     {TABLES, 0, "squares at n * the squared lows", PUT(table[84], 8192)},
     {TABLES, 0, "squares at n * the squared highs", PUT(table[84], 66438)},
-    {BIT(COMPARE) | BIT(REPLAY) | BIT(CUT), 0, "full table", PUT(table[0], LIMIT - 10)},
+    {BIT(COMPARE) | BIT(RESCUE) | BIT(REPLAY) | BIT(CUT), 0, "full table", PUT(table[0], LIMIT - 10)},
+    {BIT(RESCUE), 0, "no room for a bin, and room for a lighter one after it", PUT(table[0], LIMIT - 1)},
+    {BIT(RESCUE), 0, "no room for any other bin", PUT(table[0], LIMIT)},
+    {BIT(RESCUE), 0, "a weight past the limit alone", PUT(table[0], LIMIT + 1)},
+    {BIT(RESCUE), 0, "a weight of 2^32 and 2", PUT(table[80], MORE_THAN(2))},
+    {BIT(RESCUE), 0, "a last bin too heavy", PUT(table[315], UINT64_MAX)},
     {BIT(COMPARE), 0, "full second table", PUT(second[0], LIMIT - 10)},
     {BIT(COMPARE), 0, "another sum in the second table", PUT(second[81], 201)},
     {BIT(COMPARE), 0, "other squares in the second table", PUT(second[84], 20001)},
@@ -807,6 +850,12 @@ static const struct change {
     {BIT(MAPPING), 0, "256 colours", PUT(told, 256)},
 };
 
+/* The answer to a change: what is unsound a rescue clears. */
+static unsigned number_of(enum call call, const struct change *c)
+{
+    return call == RESCUE && c->number == 6 ? 0 : c->number;
+}
+
 static void change(struct asked *q, const struct change *c)
 {
     memcpy((unsigned char *)q + c->at, &c->to, c->size);
@@ -824,16 +873,18 @@ static void ask_changed(enum call call)
     struct asked q = good();
     ask(call, &q, 0, "good", "");
     for (const struct change *one = changes; one < changes + COUNT(changes); one++) {
+        const unsigned first = number_of(call, one);
         if (!(one->calls & BIT(call))) continue;
         q = good();
         change(&q, one);
-        ask(call, &q, one->number, one->what, "");
+        ask(call, &q, first, one->what, "");
         for (const struct change *two = changes; one->number && two < one; two++) {
+            const unsigned second = number_of(call, two);
             if (!(two->calls & BIT(call)) || !two->number || two->at == one->at) continue;
             q = good();
             change(&q, one);
             change(&q, two);
-            ask(call, &q, comes_before(one->number, two->number) ? one->number : two->number, one->what, two->what);
+            ask(call, &q, !second || (first && comes_before(first, second)) ? first : second, one->what, two->what);
         }
     }
 }
@@ -883,7 +934,7 @@ static void ask_squares(void)
                 q = good();
                 memset(q.table, 0, sizeof q.table);
                 memcpy(q.table + 5 * at, cell, sizeof cell);
-                ask(call, &q, tried[i].number, "squares of a bin alone", tried[i].what);
+                ask(call, &q, call == RESCUE ? 0 : tried[i].number, "squares of a bin alone", tried[i].what);
             }
             for (enum call call = MERGE; call <= COMPARE; call++) {
                 q = good();
@@ -1011,6 +1062,29 @@ static void ask_files(void)
                 ask(LOAD_PPM, &q, file_answer(&q), words, "");
             }
         }
+    }
+}
+
+/* A table damaged in bins chosen by the bits of a number, the first and the last of the grid among them: a weight past
+ * the limit, one that leaves no room for a heavier one, that one, a lighter one, sums and squares out of bounds. A
+ * second rescue leaves the table as the first one did. */
+static void ask_rescued(void)
+{
+    static const struct {
+        size_t place;
+        uint64_t cell[5];
+    } damaged[] = {
+        {0, {LIMIT + 1, 0, 0, 0, 0}},           {1, {LIMIT - 20, 0, 0, 32 * (LIMIT - 20), 1024 * (LIMIT - 20)}},
+        {16, {9, 576, 0, 0, 36864}},            {17, {8, 512, 0, 256, 40960}},
+        {62, {1, 192, 128, 192, UINT64_MAX}},   {63, {0, 0, 0, 1, 0}},
+    };
+    for (unsigned which = 0; which < BIT(COUNT(damaged)); which++) {
+        struct asked q = good();
+        for (size_t i = 0; i < COUNT(damaged); i++)
+            if (which & BIT(i)) memcpy(q.table + 5 * damaged[i].place, damaged[i].cell, sizeof damaged[i].cell);
+        ask(RESCUE, &q, 0, "a table with chosen bins damaged", "");
+        ask(RESCUE, &q, 0, "a table with chosen bins damaged", "rescued once");
+        for (size_t p = 0; p < q.length[REASONS]; p++) check(q.reasons[p] == 0, "bin %zu is cleared once more", p);
     }
 }
 
@@ -1251,6 +1325,7 @@ static void ask_all(void)
     ask_compared();
     ask_headers();
     ask_files();
+    ask_rescued();
     ask_sessions();
     ask_lists();
     ask_counts();

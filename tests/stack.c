@@ -24,6 +24,7 @@
 struct lent {
     uint64_t table[5 * BINS], second[5 * BINS], work[5 * BINS];
     int64_t differences[5 * BINS];
+    uint8_t reasons[BINS];
     uint8_t frame[3 * PIXELS], indices[PIXELS], file[sizeof HEADER - 1 + 3 * PIXELS];
     uint32_t weights[PIXELS], counts[K], remainders[3 * K];
     uint32_t entries[6 * BATCHES];
@@ -82,6 +83,11 @@ static void compare(struct lent *l)
         seluvava_compare(B1, B2, B3, l->table, COUNT(l->table), l->second, COUNT(l->second), l->differences,
                          COUNT(l->differences));
     l->answer = answer.number;
+}
+
+static void rescue(struct lent *l)
+{
+    l->answer = seluvava_rescue(B1, B2, B3, l->table, COUNT(l->table), l->reasons, COUNT(l->reasons));
 }
 
 static void begin(struct lent *l)
@@ -146,6 +152,7 @@ static const struct call {
     {"load_ppm", load_ppm, 0},
     {"merge", merge, 0},
     {"compare", compare, 0},
+    {"rescue", rescue, 0},
     {"begin", begin, 3},
     {"reload", reload, 5},
     {"batch", batch, 0},

@@ -14,6 +14,7 @@ mod plain;
 mod ppm;
 mod recording;
 mod report;
+mod rescue;
 mod side;
 #[cfg(feature = "original")]
 mod theirs;

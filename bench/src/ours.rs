@@ -2,6 +2,7 @@
 use crate::{
     ppm::Ppm,
     recording::Recording,
+    rescue::Rescue,
     side::{Answer, Lent, MOST, Operation, Side, Sizes, touch},
 };
 use seluvava_sys::{
@@ -196,6 +197,7 @@ pub struct Ours {
     second: Vec<u64>,
     differences: Vec<i64>,
     told: (usize, usize),
+    rescue: Rescue,
     recording: Recording,
     ppm: Ppm,
     cut: Cut,
@@ -217,6 +219,7 @@ impl Ours {
             table,
             differences: vec![0; loaded.len()],
             told: (0, 0),
+            rescue: Rescue::new(sizes, loaded.clone()),
             recording: Recording::new(),
             ppm: Ppm::new(&lent.frame),
             loaded,
@@ -256,6 +259,7 @@ impl Side for Ours {
                 touch(&self.loaded);
                 touch(&self.second);
             }
+            Operation::Rescue { damaged } => self.rescue.prepare(damaged),
             Operation::Moments | Operation::Cut(_) => {
                 self.cut.reset();
                 touch(&self.loaded);
@@ -281,6 +285,7 @@ impl Side for Ours {
             Operation::Compare => {
                 self.told = compare(sizes, &self.loaded, &self.second, &mut self.differences);
             }
+            Operation::Rescue { .. } => self.rescue.run(),
             Operation::Replay => self.recording.replay(sizes, &mut self.table, lent),
             Operation::Moments => self.cut.run(sizes, 1, &self.loaded),
             Operation::Cut(k) => self.cut.run(sizes, k, &self.loaded),
@@ -305,6 +310,7 @@ impl Side for Ours {
                 answer.numbers.extend(&self.table);
             }
             Operation::Compare => answer.compared(&self.differences, self.told),
+            Operation::Rescue { .. } => self.rescue.answer(answer),
             Operation::Replay => {
                 self.recording.check();
                 answer.numbers.extend(&self.table);

@@ -1,41 +1,68 @@
-//! Two tables compared by a plain loop in Rust, after the tests that the rules ask for (Rules, Sound): the original has no
-//! such call.
+//! Two tables compared by a plain loop in Rust, after the tests that the rules ask for (Rules, Sound), and what a
+//! rescue has to leave: the original has no such calls.
 use crate::side::{Answer, Sizes, touch};
 
 /// The largest total of a sound table.
 const LARGEST_TOTAL: u64 = 4_294_967_295;
 
-/// Whether a table is sound. No product wraps: a weight past the largest total ends the test before.
+/// The smallest and the largest value of a component that fall in a bin.
+fn span(size: usize, bin: usize) -> (u64, u64) {
+    let values = 256 / size;
+    let low = (bin * values) as u64;
+    (low, low + values as u64 - 1)
+}
+
+/// Whether a bin keeps its bounds, with a weight that fits a table alone. So light, no product wraps.
+fn keeps_bounds(spans: [(u64, u64); 3], &[n, s1, s2, s3, squares]: &[u64; 5]) -> bool {
+    if n > LARGEST_TOTAL {
+        return false;
+    }
+    let [red, green, blue] = spans;
+    let within = |sum, (low, high)| n * low <= sum && sum <= n * high;
+    let lows = spans.iter().map(|s| s.0 * s.0).sum();
+    let highs = spans.iter().map(|s| s.1 * s.1).sum();
+    let sums = within(s1, red) && within(s2, green) && within(s3, blue);
+    sums && within(squares, (lows, highs))
+}
+
+/// Whether a table is sound.
 fn is_sound([b1, b2, b3]: Sizes, table: &[u64]) -> bool {
-    let span = |size: usize, bin: usize| {
-        let values = 256 / size;
-        let low = (bin * values) as u64;
-        (low, low + values as u64 - 1)
-    };
     let mut total = 0;
     let mut cells = table.as_chunks::<5>().0.iter();
     for r in 0..b1 {
         let red = span(b1, r);
         for g in 0..b2 {
             let green = span(b2, g);
-            for (b, &[n, s1, s2, s3, squares]) in cells.by_ref().take(b3).enumerate() {
-                if n > LARGEST_TOTAL {
+            for (b, cell) in cells.by_ref().take(b3).enumerate() {
+                if !keeps_bounds([red, green, span(b3, b)], cell) {
                     return false;
                 }
-                let blue = span(b3, b);
-                let spans = [red, green, blue];
-                let within = |sum, (low, high)| n * low <= sum && sum <= n * high;
-                let lows = spans.iter().map(|s| s.0 * s.0).sum();
-                let highs = spans.iter().map(|s| s.1 * s.1).sum();
-                let sums = within(s1, red) && within(s2, green) && within(s3, blue);
-                if !sums || !within(squares, (lows, highs)) {
-                    return false;
-                }
-                total += n;
+                total += cell[0];
             }
         }
     }
     total <= LARGEST_TOTAL
+}
+
+/// What a rescue has to leave of a table, and its reasons (Rules, Rescue).
+pub fn rescued([b1, b2, b3]: Sizes, table: &[u64]) -> (Vec<u64>, Vec<u8>) {
+    let (mut table, mut reasons) = (table.to_vec(), Vec::new());
+    let mut total = 0;
+    for (place, cell) in table.as_chunks_mut::<5>().0.iter_mut().enumerate() {
+        let bins = [place / (b2 * b3), place / b3 % b2, place % b3];
+        let spans = [span(b1, bins[0]), span(b2, bins[1]), span(b3, bins[2])];
+        let reason = match keeps_bounds(spans, cell) {
+            false => 1,
+            true if total + cell[0] > LARGEST_TOTAL => 2,
+            true => 0,
+        };
+        match reason {
+            0 => total += cell[0],
+            _ => cell.fill(0),
+        }
+        reasons.push(reason);
+    }
+    (table, reasons)
 }
 
 /// Two tables, and what a comparison of them writes and tells.

@@ -34,7 +34,14 @@ impl Row {
     /// What the ratios should be at most, for each input.
     fn targets(&self) -> Option<[f64; 3]> {
         let alone = self.cells.iter().any(|cell| cell.ratio.is_none());
-        if alone || ![[16, 32, 16], [32, 32, 32]].contains(&self.sizes) {
+        if alone {
+            return None;
+        }
+        if let Operation::Rescue { damaged } = self.operation {
+            let asked = [[16, 32, 16], [64, 64, 64]].contains(&self.sizes);
+            return asked.then_some([if damaged { 1.5 } else { 1.3 }; 3]);
+        }
+        if ![[16, 32, 16], [32, 32, 32]].contains(&self.sizes) {
             return None;
         }
         match (self.operation, self.moments) {

@@ -12,6 +12,10 @@ pub enum Operation {
     LoadPpm,
     Merge,
     Compare,
+    /// Of a sound table, beside the test that it is sound; or of a damaged one, beside that of a sound one.
+    Rescue {
+        damaged: bool,
+    },
     /// A recorded list; the other side is one load of the same colours.
     Replay,
     Moments,
@@ -24,12 +28,14 @@ pub enum Operation {
     },
 }
 
-pub const OPERATIONS: [Operation; 13] = [
+pub const OPERATIONS: [Operation; 15] = [
     Operation::Load,
     Operation::LoadWeighted,
     Operation::LoadPpm,
     Operation::Merge,
     Operation::Compare,
+    Operation::Rescue { damaged: false },
+    Operation::Rescue { damaged: true },
     Operation::Replay,
     Operation::Moments,
     Operation::Cut(16),
@@ -51,6 +57,8 @@ impl fmt::Display for Operation {
             Operation::LoadPpm => f.write_str("load a PPM"),
             Operation::Merge => f.write_str("merge"),
             Operation::Compare => f.write_str("compare"),
+            Operation::Rescue { damaged: false } => f.write_str("rescue of a sound table"),
+            Operation::Rescue { damaged: true } => f.write_str("rescue of a damaged table"),
             Operation::Replay => f.write_str("replay"),
             Operation::Moments => f.write_str("moments (ours: cut, k = 1)"),
             Operation::Cut(k) => write!(f, "cut, k = {k}"),
@@ -100,6 +108,7 @@ impl Lent {
             Operation::LoadPpm
             | Operation::Merge
             | Operation::Compare
+            | Operation::Rescue { .. }
             | Operation::Moments
             | Operation::Cut(_) => {}
         }

@@ -2,6 +2,7 @@
 use crate::{
     one_load::OneLoad,
     plain::Plain,
+    rescue::Rescue,
     side::{Answer, Lent, MOST, Operation, Side, Sizes, touch},
     triples::Triples,
 };
@@ -34,7 +35,8 @@ struct Theirs<const B1: usize, const B2: usize, const B3: usize> {
     second: Narrow<B1, B2, B3>,
     /// The two as tables.
     plain: Plain,
-    /// What a replay and a PPM are held to: they have no counterpart here.
+    /// What a rescue, a replay and a PPM are held to: they have no counterpart here.
+    rescue: Rescue,
     one_load: OneLoad,
     triples: Triples,
     cut: Option<Colours<B1, B2, B3>>,
@@ -82,12 +84,14 @@ impl<const B1: usize, const B2: usize, const B3: usize> Theirs<B1, B2, B3> {
         second.load_weighted(&lent.frame, &lent.weights);
         let kept = run.color_map(most(MOST));
         let plain = Plain::new([B1, B2, B3], numbers(&loaded), numbers(&second));
+        let rescue = Rescue::new([B1, B2, B3], numbers(&loaded));
         Self {
             moments,
             run,
             loaded,
             second,
             plain,
+            rescue,
             one_load: OneLoad::new([B1, B2, B3], &lent.weights),
             triples: Triples::new([B1, B2, B3], &lent.frame),
             cut: None,
@@ -123,6 +127,7 @@ impl<const B1: usize, const B2: usize, const B3: usize> Side for Theirs<B1, B2, 
                 self.load_again();
             }
             Operation::Compare => self.plain.prepare(),
+            Operation::Rescue { .. } => self.rescue.prepare_held(),
             Operation::Replay => self.one_load.prepare(),
             Operation::LoadPpm => self.triples.prepare(),
             Operation::Moments | Operation::Cut(_) if self.moments == Moments::OnACopy => {
@@ -143,6 +148,7 @@ impl<const B1: usize, const B2: usize, const B3: usize> Side for Theirs<B1, B2, 
             }
             Operation::Merge => self.run.narrow().merge(&self.second),
             Operation::Compare => self.plain.run(),
+            Operation::Rescue { damaged } => self.rescue.run_held(damaged),
             Operation::Replay => self.one_load.run(lent),
             Operation::LoadPpm => self.triples.run(),
             Operation::Moments => self.make_moments(),
@@ -167,6 +173,7 @@ impl<const B1: usize, const B2: usize, const B3: usize> Side for Theirs<B1, B2, 
                 answer.numbers.extend(numbers(self.run.narrow()));
             }
             Operation::Compare => self.plain.answer(answer),
+            Operation::Rescue { damaged } => self.rescue.answer_held(damaged, answer),
             Operation::Replay => self.one_load.answer(answer),
             Operation::LoadPpm => self.triples.answer(answer),
             Operation::Cut(_) | Operation::Whole { .. } => {

@@ -15,6 +15,8 @@ pub enum Kind {
         split: usize,
         damages: Vec<Damage>,
     },
+    /// The table of all colours, damaged and rescued.
+    Rescues { damages: Vec<Damage> },
     /// A recorded list replayed, and the calls of a session: the first `split` colours are in the table, and the others
     /// are those of the entries.
     Recordings {
@@ -78,8 +80,8 @@ fn write_entries(f: &mut fmt::Formatter<'_>, first: u32, entries: &[[u32; 3]]) -
     Ok(())
 }
 
-fn write_damages(f: &mut fmt::Formatter<'_>, split: usize, damages: &[Damage]) -> fmt::Result {
-    write!(f, "; split {split}; damages")?;
+fn write_damages(f: &mut fmt::Formatter<'_>, damages: &[Damage]) -> fmt::Result {
+    write!(f, "; damages")?;
     for (i, d) in damages.iter().enumerate() {
         let comma = if i == 0 { "" } else { "," };
         write!(f, "{comma} {d}")?;
@@ -101,15 +103,19 @@ impl fmt::Display for Case {
             Kind::Whole { by_pixels, batches } => {
                 write!(f, "; pixels {}; batches {batches}", u8::from(*by_pixels))
             }
-            Kind::Calls { split, damages } => write_damages(f, *split, damages),
+            Kind::Calls { split, damages } => {
+                write!(f, "; split {split}")?;
+                write_damages(f, damages)
+            }
             Kind::Nights {
                 from,
                 split,
                 damages,
             } => {
-                write!(f, "; from {from}")?;
-                write_damages(f, *split, damages)
+                write!(f, "; from {from}; split {split}")?;
+                write_damages(f, damages)
             }
+            Kind::Rescues { damages } => write_damages(f, damages),
             Kind::Recordings {
                 split,
                 first,
@@ -117,7 +123,8 @@ impl fmt::Display for Case {
                 damages,
             } => {
                 write_entries(f, *first, entries)?;
-                write_damages(f, *split, damages)
+                write!(f, "; split {split}")?;
+                write_damages(f, damages)
             }
             Kind::Ppm {
                 split,
@@ -126,7 +133,8 @@ impl fmt::Display for Case {
             } => {
                 write!(f, "; header")?;
                 header.iter().try_for_each(|c| write!(f, " {c}"))?;
-                write_damages(f, *split, damages)
+                write!(f, "; split {split}")?;
+                write_damages(f, damages)
             }
         }
     }
@@ -188,6 +196,9 @@ impl Case {
                 split: split as usize,
                 first: first as u32,
                 entries: entries(field("entries")?),
+                damages: damages()?,
+            },
+            (None, None, None, None) if field("damages").is_some() => Kind::Rescues {
                 damages: damages()?,
             },
             _ => Kind::Whole {

@@ -30,7 +30,7 @@ const fn class(name: &'static str, cases: Cases) -> Class {
 }
 
 /// The classes; README.md says what their cases are.
-pub const CLASSES: [Class; 22] = [
+pub const CLASSES: [Class; 23] = [
     class("tiny", Cases::Random(tiny)),
     class("few", Cases::Random(few)),
     class("equal", Cases::Random(equal)),
@@ -47,6 +47,7 @@ pub const CLASSES: [Class; 22] = [
     class("calls", Cases::Random(sound_calls)),
     class("damaged", Cases::Random(damaged)),
     class("nights", Cases::Random(nights)),
+    class("rescues", Cases::Random(rescues)),
     class("recordings", Cases::Random(recordings::one)),
     class("ppm", Cases::Random(ppm::one)),
     class("width", Cases::Listed(width)),
@@ -406,6 +407,15 @@ fn damaged(m: &mut Maker<'_>, _: usize) -> Case {
     case
 }
 
+/// Any of the 343 grids, those of at most 4,096 bins more often.
+fn any_grid(i: usize) -> Grid {
+    let every = Grids::all();
+    match i % 8 {
+        0 => every.all[i / 8 % every.all.len()],
+        _ => every.light[i % every.light.len()],
+    }
+}
+
 /// Two tables compared, that share some colours, all or none, at any of the 343 grids, those of at most 4,096 bins more
 /// often; one time in two with something damaged.
 fn nights(m: &mut Maker<'_>, i: usize) -> Case {
@@ -413,11 +423,7 @@ fn nights(m: &mut Maker<'_>, i: usize) -> Case {
     let most = m.r.one_of(&[1, 3, 1000, 100_000_000, 4_294_967_295]);
     let color = m.r.one_of(&[Random::color, Random::lattice_color]);
     let input = m.input(n, color, |r| r.from(0, most) as u32);
-    let every = Grids::all();
-    let grid = match i % 8 {
-        0 => every.all[i / 8 % every.all.len()],
-        _ => every.light[i % every.light.len()],
-    };
+    let grid = any_grid(i);
     let split = m.r.from(0, n);
     let (from, split) = match m.r.from(0, 3) {
         0 => (0, n),
@@ -435,6 +441,23 @@ fn nights(m: &mut Maker<'_>, i: usize) -> Case {
     if let Kind::Nights { damages, .. } = &mut case.kind {
         *damages = made;
     }
+    case
+}
+
+/// A table rescued, mostly with some numbers, bits or a page of it damaged; often its weights do not fit together.
+fn rescues(m: &mut Maker<'_>, i: usize) -> Case {
+    let n = m.r.from(0, 24);
+    let most = m.r.one_of(&[1, 3, 1000, 1_000_000_000, 4_294_967_295]);
+    let color = m.r.one_of(&[Random::color, Random::lattice_color]);
+    let input = m.input(n, color, |r| r.from(0, most) as u32);
+    let grid = any_grid(i);
+    let kind = Kind::Rescues {
+        damages: Vec::new(),
+    };
+    let mut case = m.case(grid, 1, input, kind);
+    let count = m.r.one_of(&[0, 1, 1, 2, 3, 6]);
+    let made = (0..count).map(|_| damages::one(&case, &mut m.r)).collect();
+    case.kind = Kind::Rescues { damages: made };
     case
 }
 

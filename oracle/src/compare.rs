@@ -1,4 +1,5 @@
-//! Runs one case: whole, call by call, two tables compared, recorded by intervals, or from a file.
+//! Runs one case: whole, call by call, two tables compared, a damaged one rescued, recorded by intervals, or from a
+//! file.
 use crate::{
     buffer::Differs,
     calls::calls,
@@ -7,6 +8,7 @@ use crate::{
     port::Port,
     ppm::ppm,
     recordings::recordings,
+    rescues::rescues,
     tally::Tally,
     whole::whole,
 };
@@ -33,6 +35,7 @@ pub fn check(port: &dyn Port, case: &Case, tally: &mut Tally) -> Result<(), Diff
             split,
             damages,
         } => nights(port, case, *from, *split, damages, tally),
+        Kind::Rescues { damages } => rescues(port, case, damages, tally),
         Kind::Recordings {
             split,
             first,

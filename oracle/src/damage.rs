@@ -1,9 +1,10 @@
 //! What is damaged in the calls of a case.
 use std::fmt;
 
-/// One damage: a length off by `value`, a number of a table off by `value` at `place`, an entry of the map there,
-/// or a size, k, the colours told, a number of the band, the interval in force, a batch's own, a number of a recorded
-/// list or a byte of a file replaced by `value`.
+/// One damage: a length off by `value`, a number of a table off by `value` at `place`, its bit `value` flipped there,
+/// or a page of numbers from there on replaced by `value`, an entry of the map there, or a size, k, the colours told, a
+/// number of the band, the interval in force, a batch's own, a number of a recorded list or a byte of a file replaced
+/// by `value`.
 #[derive(Clone, Copy, Debug, PartialEq)]
 pub struct Damage {
     pub what: &'static str,
@@ -20,6 +21,12 @@ pub const OF_NIGHTS: [&str; 6] = [
     "second",
     "differences",
 ];
+
+/// What can be damaged in a table that is rescued: bits twice, as bits are what flips.
+pub const OF_RESCUES: [&str; 4] = ["number", "bit", "bit", "page"];
+
+/// And in what it is lent with, so that it is refused.
+pub const WITH_RESCUES: [&str; 3] = ["size", "table", "reasons"];
 
 /// What can be damaged in a recorded list and in what is lent with it.
 pub const OF_RECORDINGS: [&str; 13] = [
@@ -83,6 +90,8 @@ impl Damage {
             what: DAMAGES
                 .into_iter()
                 .chain(OF_NIGHTS)
+                .chain(OF_RESCUES)
+                .chain(WITH_RESCUES)
                 .chain(OF_RECORDINGS)
                 .chain(OF_PPM)
                 .find(|d| *d == name)?,

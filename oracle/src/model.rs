@@ -1,7 +1,7 @@
 //! A port in plain Rust, from docs/RULES.md: a box's sum is the sum over its bins, the heap is a list.
 //! It stands in the library's place where a mutant is to be caught, and shows whether a difference is the rules'.
 use crate::{
-    numbers::{self, Lengths, added, bins, place},
+    numbers::{self, LARGEST_TOTAL, Lengths, added, bins, place},
     port::{Band, CutAnswer, Grid, Lent, Port, Recorded},
 };
 
@@ -389,6 +389,31 @@ impl Port for Model {
             }
         }
         (0, differ, place)
+    }
+
+    fn rescue(&self, grid: Grid, table: &mut [u64], reasons: &mut [u8]) -> u8 {
+        let number = numbers::rescue(grid, table.len(), reasons.len());
+        if number != 0 {
+            return number;
+        }
+        let mut total = 0;
+        for (p, reason) in reasons.iter_mut().enumerate() {
+            let five = &mut table[5 * p..5 * p + 5];
+            let weight = u128::from(five[0]);
+            *reason = if weight > LARGEST_TOTAL || !numbers::keeps_bounds(grid, p, five) {
+                1
+            } else if total + weight > LARGEST_TOTAL {
+                2
+            } else {
+                0
+            };
+            if *reason == 0 {
+                total += weight;
+            } else {
+                five.fill(0);
+            }
+        }
+        0
     }
 
     fn begin(&self, interval: u32) -> (u8, u32) {

@@ -43,27 +43,34 @@ pub fn added(color: [u8; 3], w: impl Into<u64>) -> [u64; 5] {
     [w, w * c1, w * c2, w * c3, w * (c1 * c1 + c2 * c2 + c3 * c3)]
 }
 
+/// "A bin keeps its bounds if every component sum lies between n·low and n·high, where low and high are the smallest
+/// and largest value of that component that fall in the bin, and the squares lie between n times the sum of the three
+/// squared lows and n times the sum of the three squared highs."
+pub fn keeps_bounds(grid: Grid, place: usize, five: &[u64]) -> bool {
+    let [_, b2, b3] = grid;
+    let [n, sums @ .., squares] = [0, 1, 2, 3, 4].map(|j| u128::from(five[j]));
+    let bins = [place / (b2 * b3), place / b3 % b2, place % b3];
+    let (mut squared_lows, mut squared_highs) = (0, 0);
+    for ((size, bin), sum) in grid.into_iter().zip(bins).zip(sums) {
+        let values = 256 / size;
+        let (low, high) = ((bin * values) as u128, (bin * values + values - 1) as u128);
+        if sum < n * low || sum > n * high {
+            return false;
+        }
+        squared_lows += low * low;
+        squared_highs += high * high;
+    }
+    n * squared_lows <= squares && squares <= n * squared_highs
+}
+
 /// The total of a sound table; none if it is not sound.
 pub fn sound(grid: Grid, table: &[u64]) -> Option<u128> {
-    let [_, b2, b3] = grid;
     let mut total = 0;
-    for (place, numbers) in table.chunks_exact(5).enumerate() {
-        let [n, sums @ .., squares] = [0, 1, 2, 3, 4].map(|j| u128::from(numbers[j]));
-        let bins = [place / (b2 * b3), place / b3 % b2, place % b3];
-        let (mut squared_lows, mut squared_highs) = (0, 0);
-        for ((size, bin), sum) in grid.into_iter().zip(bins).zip(sums) {
-            let values = 256 / size;
-            let (low, high) = ((bin * values) as u128, (bin * values + values - 1) as u128);
-            if sum < n * low || sum > n * high {
-                return None;
-            }
-            squared_lows += low * low;
-            squared_highs += high * high;
-        }
-        if squares < n * squared_lows || squares > n * squared_highs {
+    for (place, five) in table.chunks_exact(5).enumerate() {
+        if !keeps_bounds(grid, place, five) {
             return None;
         }
-        total += n;
+        total += u128::from(five[0]);
     }
     (total <= LARGEST_TOTAL).then_some(total)
 }
@@ -161,6 +168,13 @@ pub fn compare(grid: Grid, first: &[u64], second: &[u64], differences: usize) ->
         (&|| differences != 5 * bins(grid), 5),
         (&|| sound(grid, first).is_none(), 6),
         (&|| sound(grid, second).is_none(), 6),
+    ])
+}
+
+pub fn rescue(grid: Grid, table: usize, reasons: usize) -> u8 {
+    lowest(&[
+        (&|| !is_grid(grid), 1),
+        (&|| table != 5 * bins(grid) || reasons != bins(grid), 5),
     ])
 }
 

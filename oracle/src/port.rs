@@ -77,6 +77,8 @@ pub trait Port {
         differences: &mut [i64],
     ) -> (u8, usize, usize);
 
+    fn rescue(&self, grid: Grid, table: &mut [u64], reasons: &mut [u8]) -> u8;
+
     fn begin(&self, interval: u32) -> (u8, u32);
 
     fn reload(&self, in_force: u32, interval: u32) -> (u8, u32);

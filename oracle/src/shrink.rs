@@ -50,8 +50,8 @@ pub fn shrink(case: &Case, differs: &dyn Fn(&Case) -> bool) -> Case {
     }
 }
 
-/// Whether the judge has the grid, k is in its bounds and the band in the frame. A comparison, a recording and a file
-/// ask no original.
+/// Whether the judge has the grid, k is in its bounds and the band in the frame. A comparison, a rescue, a recording
+/// and a file ask no original.
 fn is_fit(case: &Case) -> bool {
     let pixels: usize = case.frame.iter().map(|f| f.1).sum();
     let colours = case.input.colors.len();
@@ -64,6 +64,7 @@ fn is_fit(case: &Case) -> bool {
             Kind::Whole { by_pixels, .. } => !by_pixels || case.input.total() > 0,
             Kind::Calls { split, .. } | Kind::Ppm { split, .. } => *split <= colours,
             Kind::Nights { from, split, .. } => *from.max(split) <= colours,
+            Kind::Rescues { .. } => true,
             Kind::Recordings { split, entries, .. } => {
                 *split + entries.iter().map(|e| e[2] as usize).sum::<usize>() == colours
             }
@@ -78,7 +79,7 @@ fn without(case: &Case, at: usize, count: usize) -> Case {
     other.input.weights.drain(at..end);
     let fewer = |split: &mut usize| *split -= (*split).clamp(at, end) - at;
     match &mut other.kind {
-        Kind::Whole { .. } => {}
+        Kind::Whole { .. } | Kind::Rescues { .. } => {}
         Kind::Calls { split, .. } | Kind::Ppm { split, .. } => fewer(split),
         Kind::Nights { from, split, .. } => {
             fewer(from);
@@ -218,6 +219,17 @@ fn kinds(case: &Case) -> Vec<Case> {
                     *split = n;
                 }
             }));
+        }
+        Kind::Rescues { damages } => {
+            for i in 0..damages.len() {
+                let mut fewer = damages.clone();
+                fewer.remove(i);
+                let kind = Kind::Rescues { damages: fewer };
+                list.push(Case {
+                    kind,
+                    ..case.clone()
+                });
+            }
         }
         Kind::Recordings {
             split,

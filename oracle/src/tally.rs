@@ -13,18 +13,21 @@ pub struct Tally {
     pub negative: usize,
     pub put_back: usize,
     pub falsely_positive: usize,
-    /// Of the calls made one by one, and of the entries of replays, how many answered each number.
+    /// Of the calls made one by one, of the entries of replays and of the bins of rescues, how many answered each
+    /// number.
     pub numbers: [[usize; 15]; CALLS.len()],
 }
 
 /// The calls whose numbers are counted.
-pub const CALLS: [&str; 13] = [
+pub const CALLS: [&str; 15] = [
     "load",
     "merge",
     "cut",
     "map",
     "paint",
     "compare",
+    "rescue",
+    "bins",
     "begin",
     "reload",
     "batch",

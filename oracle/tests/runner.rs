@@ -81,6 +81,10 @@ impl Port for Faulty {
         Model.compare(grid, first, second, differences)
     }
 
+    fn rescue(&self, grid: Grid, table: &mut [u64], reasons: &mut [u8]) -> u8 {
+        Model.rescue(grid, table, reasons)
+    }
+
     fn begin(&self, interval: u32) -> (u8, u32) {
         Model.begin(interval)
     }

@@ -46,14 +46,11 @@ impl BinDifference {
         let &[weight, red, green, blue, squares] = differences else {
             unreachable!("a bin has five numbers");
         };
-        let [b1, b2, b3] = grid.sizes();
-        let bin = [place / (b2 * b3), place / b3 % b2, place % b3];
-        let values = [256 / b1, 256 / b2, 256 / b3];
-        let low = [0, 1, 2].map(|d| (bin[d] * values[d]) as u8);
+        let (low, high) = grid.colours_at(place);
         BinDifference {
             place,
             low,
-            high: [0, 1, 2].map(|d| low[d] + (values[d] - 1) as u8),
+            high,
             weight,
             sums: [red, green, blue],
             squares,

@@ -55,4 +55,13 @@ impl Grid {
     pub fn numbers(self) -> usize {
         sys::numbers(self.sizes)
     }
+
+    /// The smallest and the largest red, green and blue of the colours that fall in the bin at a place.
+    pub(crate) fn colours_at(self, place: usize) -> ([u8; 3], [u8; 3]) {
+        let [b1, b2, b3] = self.sizes;
+        let bin = [place / (b2 * b3), place / b3 % b2, place % b3];
+        let values = [256 / b1, 256 / b2, 256 / b3];
+        let low = [0, 1, 2].map(|d| (bin[d] * values[d]) as u8);
+        (low, [0, 1, 2].map(|d| low[d] + (values[d] - 1) as u8))
+    }
 }

@@ -2,11 +2,11 @@
 //!
 //! Colours are counted into a [`Table`] over a [`Grid`], batch by batch; tables of many workers are merged; and a
 //! table is cut down to at most 256 colours. The [`Cut`] has a palette, the count of each colour and a [`ColourMap`],
-//! which maps frames to indices or paints them. Two tables are [compared](Table::compare) bin by bin. A cut depends on
-//! the colours and their weights only: in any order, any batches and any merge tree, as long as nothing is refused,
-//! they give the same palette in the same order. A [`Recorder`] counts frames that were sampled at an interval, and
-//! refuses a batch that was sampled at another. Frames that are stored as [PPM files](ppm) are
-//! [loaded](Table::load_ppm) as they are.
+//! which maps frames to indices or paints them. Two tables are [compared](Table::compare) bin by bin, and what is
+//! damaged in one is [cleared](Table::rescue). A cut depends on the colours and their weights only: in any order,
+//! any batches and any merge tree, as long as nothing is refused, they give the same palette in the same order.
+//! A [`Recorder`] counts frames that were sampled at an interval, and refuses a batch that was sampled at another.
+//! Frames that are stored as [PPM files](ppm) are [loaded](Table::load_ppm) as they are.
 //!
 //! The work is done by code in Rattle, a language in which every function is proved to meet its contract: that it
 //! follows the written rules, whatever it is given. It is linked as a static library, and this crate only lends it
@@ -76,6 +76,7 @@ mod grid;
 pub mod ppm;
 mod recorder;
 mod refused;
+mod rescue;
 #[allow(unsafe_code)]
 mod sys;
 mod table;
@@ -86,6 +87,7 @@ pub use cut::{ColourBox, Cut, WorkTable};
 pub use grid::Grid;
 pub use recorder::Recorder;
 pub use refused::Refused;
+pub use rescue::{ClearedBin, Reason, Rescue};
 pub use table::Table;
 
 /// The examples of the guide, compiled and run with the others.
@@ -97,3 +99,8 @@ struct FromQuantette;
 #[cfg(doctest)]
 #[doc = include_str!("../../docs/INTERVALS.md")]
 struct Intervals;
+
+/// And those of the page on a damaged table.
+#[cfg(doctest)]
+#[doc = include_str!("../../docs/RESCUE.md")]
+struct Rescued;

@@ -11,7 +11,7 @@ use crate::{Grid, Refused, ppm};
 use seluvava_sys::{
     Session, SessionAnswer, seluvava_batch, seluvava_begin, seluvava_bins, seluvava_compare,
     seluvava_cut, seluvava_load, seluvava_load_ppm, seluvava_map, seluvava_merge, seluvava_paint,
-    seluvava_ppm_header, seluvava_reload, seluvava_replay, seluvava_table_len,
+    seluvava_ppm_header, seluvava_reload, seluvava_replay, seluvava_rescue, seluvava_table_len,
 };
 
 /// The bins of a grid, or 0 where it is refused.
@@ -126,6 +126,24 @@ pub fn compare(
     };
     Refused::unless_done(answer.number)?;
     Ok((answer.differ, answer.first))
+}
+
+/// Clears what keeps a table from being sound, and writes the reason of each bin.
+pub fn rescue(grid: Grid, table: &mut [u64], reasons: &mut [u8]) -> Result<(), Refused> {
+    let [b1, b2, b3] = grid.sizes();
+    // SAFETY: pointers and lengths are those of slices; both are written, each lent by a `&mut` of its own.
+    let number = unsafe {
+        seluvava_rescue(
+            b1,
+            b2,
+            b3,
+            table.as_mut_ptr(),
+            table.len(),
+            reasons.as_mut_ptr(),
+            reasons.len(),
+        )
+    };
+    Refused::unless_done(number)
 }
 
 /// The interval in force of a session that was not refused.

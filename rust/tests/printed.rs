@@ -10,6 +10,7 @@ fn printed_without_the_numbers() -> Result<(), Refused> {
     let printed = [
         format!("{table:?}"),
         format!("{:?}", table.compare(&Table::new(table.grid()))?),
+        format!("{:?}", table.clone().rescue()),
         format!("{work:?}"),
         format!("{cut:?}"),
         format!("{:?}", cut.colour_map()),
@@ -17,6 +18,7 @@ fn printed_without_the_numbers() -> Result<(), Refused> {
     let expected = [
         "Table { grid: [128, 128, 128], total: 3, .. }",
         "Comparison { grid: [128, 128, 128], differing: 2, .. }",
+        "Rescue { grid: [128, 128, 128], out_of_bounds: 0, past_total: 0, .. }",
         "WorkTable { numbers: 10485760 }",
         "Cut { grid: [128, 128, 128], boxes: 2, rounds: 2, .. }",
         "ColourMap { grid: [128, 128, 128], colours: 2, .. }",

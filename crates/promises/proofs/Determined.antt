@@ -26,6 +26,8 @@ use Rattle.table.proofs.layout.cell_at as cell-at
 use Rattle.table.proofs.layout.put_at as put-at
 use Rattle.table.proofs.cell.plus as plus
 use Rattle.table.proofs.cell.minus as minus
+use Rattle.table.proofs.sound.row_squares as row-squares
+use Rattle.table.proofs.sound.keeps_bounds as keeps-bounds
 use Rattle.table.proofs.sound.sound_total as sound-total
 use Rattle.loader.specs.declared.add.Added.{Added}
 use Rattle.loader.proofs.steps.fill_steps as fill-steps
@@ -42,6 +44,7 @@ use Rattle.ppm.proofs.header.read_header as read-header
 use Rattle.ppm.proofs.load.load_ppm as load-ppm
 use Rattle.compare.specs.declared.call.Compared.{Compared}
 use Rattle.compare.proofs.call.compare as compare
+use Rattle.rescue.proofs.call.rescue as rescue
 use Rattle.sums.proofs.moments.moments as moments
 use Rattle.sums.proofs.box_sums.in_float as in-float
 use Rattle.sums.proofs.box_sums.stats_of as stats-of
@@ -84,6 +87,7 @@ use Rattle.seluvava.proofs.tables.seluvava_merge as exported-merge
 use Rattle.seluvava.proofs.tables.seluvava_compare as exported-compare
 use Rattle.seluvava.proofs.files.seluvava_ppm_header as exported-ppm-header
 use Rattle.seluvava.proofs.files.seluvava_load_ppm as exported-load-ppm
+use Rattle.seluvava.proofs.tables.seluvava_rescue as exported-rescue
 use Rattle.seluvava.proofs.recordings.seluvava_begin as exported-begin
 use Rattle.seluvava.proofs.recordings.seluvava_reload as exported-reload
 use Rattle.seluvava.proofs.recordings.seluvava_batch as exported-batch
@@ -170,6 +174,14 @@ plus-determined κs a r s x y p q = determined p q
 pub minus-determined : Determines 0 minus.Kinds.ps minus.Kinds.r minus.Reads.Learnt (λ κs r e. r)
 minus-determined κs a r s x y p q = determined p q
 
+pub row-squares-determined : Determines 0 row-squares.Kinds.ps row-squares.Kinds.r row-squares.Reads.Learnt
+    (λ κs r e. r)
+row-squares-determined κs a r s x y p q = determined p q
+
+pub keeps-bounds-determined : Determines 0 keeps-bounds.Kinds.ps keeps-bounds.Kinds.r keeps-bounds.Reads.Learnt
+    (λ κs r e. r)
+keeps-bounds-determined κs a r s x y p q = determined p q
+
 pub sound-total-determined : Determines 1 sound-total.Kinds.ps sound-total.Kinds.r sound-total.Reads.Learnt
     (λ κs r e. r)
 sound-total-determined κs a r s x y p q = determined p q
@@ -223,6 +235,12 @@ load-ppm-determined κs a r s x y p q = both (determined (p .0) (q .0)) (determi
 pub compare-determined : Determines {A = Compared × List ℤ} 3 compare.Kinds.ps compare.Kinds.r compare.Reads.Learnt
     (λ κs r e. (r, now (e .1 .1 .1 .1 .1 .0)))
 compare-determined κs a r s x y p q = both (determined (p .0) (q .0)) (determined (p .1) (q .1))
+
+-- ---- rescue
+pub rescue-determined : Determines {A = ℕ × (List ℕ × List ℕ)} 2 rescue.Kinds.ps rescue.Kinds.r rescue.Reads.Learnt
+    (λ κs r e. (r, (now (e .1 .1 .1 .0), now (e .1 .1 .1 .1 .0))))
+rescue-determined κs a r s x y p q =
+    both (determined (p .0) (q .0)) (both (determined (p .1 .0) (q .1 .0)) (determined (p .1 .1) (q .1 .1)))
 
 -- ---- sums
 pub moments-determined : Determines 2 moments.Kinds.ps moments.Kinds.r moments.Reads.Learnt (λ κs r e. now (e .1 .1 .0))
@@ -350,6 +368,11 @@ exported-ppm-header-determined κs a r s x y p q = determined p q
 pub exported-load-ppm-determined : Determines {A = ℕ × List ℕ} 2 exported-load-ppm.Kinds.ps exported-load-ppm.Kinds.r
     exported-load-ppm.Reads.Learnt (λ κs r e. (r, now (e .1 .1 .1 .0)))
 exported-load-ppm-determined κs a r s x y p q = both (determined (p .0) (q .0)) (determined (p .1) (q .1))
+
+pub exported-rescue-determined : Determines {A = ℕ × (List ℕ × List ℕ)} 2 exported-rescue.Kinds.ps
+    exported-rescue.Kinds.r exported-rescue.Reads.Learnt (λ κs r e. (r, (now (e .1 .1 .1 .0), now (e .1 .1 .1 .1 .0))))
+exported-rescue-determined κs a r s x y p q =
+    both (determined (p .0) (q .0)) (both (determined (p .1 .0) (q .1 .0)) (determined (p .1 .1) (q .1 .1)))
 
 pub exported-begin-determined : Determines 0 exported-begin.Kinds.ps exported-begin.Kinds.r
     exported-begin.Reads.Learnt (λ κs r e. r)

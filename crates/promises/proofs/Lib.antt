@@ -5,6 +5,7 @@ pub mod Numbers
 pub mod Earliest
 pub mod Frames
 pub mod Compare
+pub mod Rescue
 pub mod Loading
 pub mod Tiling
 pub mod Call

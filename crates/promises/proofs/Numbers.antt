@@ -30,6 +30,9 @@ use Rattle.compare.specs.declared.call.Compared.{Compared}
 use Rattle.compare.specs.Compare.{compareNumber, compareRecord, compareLater}
 use Rattle.compare.proofs.Calls.{no-grid}
 use Rattle.compare.proofs.Laws.{compare-answer, compare-refused, compare-tests, compare-says, compare-accepts}
+use Rattle.rescue.specs.Rescue.{rescueNumber, rescueTable, rescueReasons}
+use Rattle.rescue.proofs.Calls as rescues
+use Rattle.rescue.proofs.Laws.{rescue-refused, rescue-tests, rescue-says, rescue-grid, rescue-accepts}
 use Rattle.cutter.specs.Cut.{LengthsFit, lengthsRight, Buffers, lengthsOf, longEnough, cutNumberOn, cutNumber}
 use Rattle.cutter.specs.Cut.{refusedRecord, cutRecord, cutLater}
 use Rattle.cutter.specs.Cut.{CanCut}
@@ -44,7 +47,7 @@ use Rattle.promises.specs.Numbers.{Tests, applies, chain, ascends, lowes
 use Rattle.promises.specs.Numbers.{loadTests, loadApplies}
 use Rattle.promises.specs.Numbers.{mergeTests, mergeApplies, cutTests, cutApplies, callApplies, bandTests}
 use Rattle.promises.specs.Numbers.{compareTests, compareApplies, mapApplies, paintApplies, OnGrid, CanLoad}
-use Rattle.promises.specs.Numbers.{CanMerge, CanCompare}
+use Rattle.promises.specs.Numbers.{CanMerge, CanCompare, rescueTests, rescueApplies, CanRescue}
 
 -- ---- a chain of refusals whose answers do not descend gives the lowest that applies
 none-applies : (more n : ℕ) → lowestFrom n more (λ m. false) ≡ 0
@@ -167,6 +170,15 @@ module _ (b1 b2 b3 : ℕ) where
           sym (compare-answer b1 b2 b3 t s l)
           ∙ sym (ap (λ (c : Compared). c .number) (no-grid b1 b2 b3 t s l e .0))
           ∙ rw e refl
+
+  pub rescue-lowest : (t l : List ℕ) → rescueNumber b1 b2 b3 t l ≡ lowestOf (rescueApplies b1 b2 b3 t l)
+  unfolding rescueApplies rescueTests chain ascends noGrid onBins onGrid gridAnswer refuse
+  rescue-lowest t l = go (gridOf b1 b2 b3) refl ∙ lowest (rescueTests (gridOf b1 b2 b3) t l) 1 (omega arith) refl
+    where
+      go : (c : Chosen) → gridOf b1 b2 b3 ≡ c → rescueNumber b1 b2 b3 t l ≡ chain (rescueTests (gridOf b1 b2 b3) t l)
+      go (chosen.Accepted g) e =
+          rescue-tests b1 b2 b3 t l e ∙ both (isSized t (binsOf g)) (eqb (length l) (binsOf g)) 5 0 ∙ rw e refl
+      go chosen.Refused e = sym (rescues.no-grid b1 b2 b3 t l e .0) ∙ rw e refl
 
   pub cut-lowest : (k : ℕ) (t : List ℕ) (b : Buffers) → cutNumber b1 b2 b3 k t b ≡ lowestOf (cutApplies b1 b2 b3 k t b)
   unfolding cutNumber cutNumberOn cutApplies cutTests chain ascends noGrid onBins numberOn onGrid gridAnswer refuse
@@ -321,6 +333,15 @@ module _ (b1 b2 b3 : ℕ) where
         (c .are-sound .1),
   )
 
+  pub rescue-exactly : (t l : List ℕ) → (rescueNumber b1 b2 b3 t l ≡ 0) ↔ OnGrid b1 b2 b3 (CanRescue t l)
+  rescue-exactly t l = (
+    λ e.
+        let c = rescue-grid b1 b2 b3 t l e in
+        let d = rescue-says b1 b2 b3 t l (c .chosen) e in
+        record { g = c .g; chosen = c .chosen; can = record { lent = d .lent; list = d .list } },
+    λ o. rescue-accepts b1 b2 b3 t l (o .chosen) (o .can .lent) (o .can .list),
+  )
+
   pub cut-exactly : (k : ℕ) (t : List ℕ) (b : Buffers)
       → (cutNumber b1 b2 b3 k t b ≡ 0) ↔ OnGrid b1 b2 b3
       (λ g. CanCut limit g k (viewOf t) × LengthsFit g k (length t) (lengthsOf b))
@@ -366,6 +387,10 @@ module _ (b1 b2 b3 : ℕ) where
         → (compareRecord b1 b2 b3 t s l ≡ record { number = suc n; differ = 0; first = 0 })
         × (compareLater b1 b2 b3 t s l ≡ l)
     refused-compare t s l e = compare-refused b1 b2 b3 t s l e
+
+    pub refused-rescue : (t l : List ℕ) → rescueNumber b1 b2 b3 t l ≡ suc n
+        → (rescueTable b1 b2 b3 t l ≡ t) × (rescueReasons b1 b2 b3 t l ≡ l)
+    refused-rescue t l e = rescue-refused b1 b2 b3 t l e
 
     pub refused-cut : (k : ℕ) (t : List ℕ) (b : Buffers) → cutNumber b1 b2 b3 k t b ≡ suc n
         → (cutRecord b1 b2 b3 k t b ≡ refusedRecord (suc n)) × (cutLater b1 b2 b3 k t b ≡ b)

@@ -3,6 +3,7 @@ pub mod Answers
 pub mod Numbers
 pub mod Frames
 pub mod Compare
+pub mod Rescue
 pub mod Tiling
 pub mod Call
 pub mod Full

@@ -102,6 +102,17 @@ compareTests c t s l =
 unfoldable pub compareApplies : ℕ → ℕ → ℕ → List ℕ → List ℕ → List ℤ → ℕ → Bool
 compareApplies b1 b2 b3 t s l = applies (compareTests (gridOf b1 b2 b3) t s l)
 
+-- "rescue 1, 5"
+unfoldable pub rescueTests : Chosen → List ℕ → List ℕ → Tests
+rescueTests c t l =
+    (1, noGrid c)
+    ∷ (5, onBins c (λ g. not (isSized t (binsOf g))))
+    ∷ (5, onBins c (λ g. not (eqb (length l) (binsOf g))))
+    ∷ []
+
+unfoldable pub rescueApplies : ℕ → ℕ → ℕ → List ℕ → List ℕ → ℕ → Bool
+rescueApplies b1 b2 b3 t l = applies (rescueTests (gridOf b1 b2 b3) t l)
+
 -- "cut 1, 2, 5, 6, 8"; `room` is what only the call for C and Rust is lent besides
 unfoldable pub cutTests : Chosen → ℕ → List ℕ → Buffers → Bool → Tests
 cutTests c k t b room =
@@ -172,3 +183,8 @@ pub record CanCompare (t s : List ℕ) (l : List ℤ) (g : Grid) : Type 0 where
   pub lent : Sized t (binsOf g) × Sized s (binsOf g)
   pub list : length l ≡ tableLen (binsOf g)
   pub are-sound : (sound limit g (viewOf t) ≡ true) × (sound limit g (viewOf s) ≡ true)
+
+-- of a rescue, no 5
+pub record CanRescue (t l : List ℕ) (g : Grid) : Type 0 where
+  pub lent : Sized t (binsOf g)
+  pub list : length l ≡ binsOf g

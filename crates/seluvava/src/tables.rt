@@ -1,4 +1,4 @@
-// Tables: how long one is, loading, merging and comparing.
+// Tables: how long one is, loading, merging, comparing and rescuing.
 use compare::call::Compared;
 use grid::place::Chosen;
 use grid::place::grid_of;
@@ -7,6 +7,7 @@ ghost use mathlib.Core.Path.{_≡_};
 ghost use Rattle.compare.specs.Compare.{compareRecord, compareLater};
 ghost use Rattle.loader.specs.Load.{loadNumber, loadLater};
 ghost use Rattle.loader.specs.Merge.{mergeNumber, mergeLater};
+ghost use Rattle.rescue.specs.Rescue.{rescueNumber, rescueTable, rescueReasons};
 ghost use Rattle.seluvava.specs.Sizes.{tableLenFor};
 
 // How many numbers a table has, or 0 where the grid is refused.
@@ -70,4 +71,21 @@ pub extern "C" fn seluvava_compare(
         ≡ compareLater b1 b2 b3 (now (first .entry)) (now (second .entry)) (now (differences .entry)) ⌝ }
 {
     compare::call::compare(b1, b2, b3, first, second, differences)
+}
+
+// Clears what keeps a table from being sound, and says why.
+#[no_mangle]
+pub extern "C" fn seluvava_rescue(
+    b1: usize,
+    b2: usize,
+    b3: usize,
+    table: &mut [u64],
+    reasons: &mut [u8],
+) -> u8
+    ensures number { λ r. ⌜ r ≡ rescueNumber b1 b2 b3 (now (table .entry)) (now (reasons .entry)) ⌝ }
+    ensures table { λ r. ⌜ now (table .exit) ≡ rescueTable b1 b2 b3 (now (table .entry)) (now (reasons .entry)) ⌝ }
+    ensures reasons { λ r. ⌜ now (reasons .exit)
+        ≡ rescueReasons b1 b2 b3 (now (table .entry)) (now (reasons .entry)) ⌝ }
+{
+    rescue::call::rescue(b1, b2, b3, table, reasons)
 }

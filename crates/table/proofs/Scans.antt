@@ -22,8 +22,8 @@ use Rattle.table.specs.declared.sound.SoundTotal.the-variants.{Total, Un
 use Rattle.table.specs.Cell.{View, cellOf, numberOf}
 use Rattle.table.specs.Table.{Table, HasCell}
 use Rattle.table.specs.Sound.{limit, squaredSpan, plusSpan, inBounds, spanAt, binSound}
-use Rattle.table.specs.Sound.{total, sound, soundTotal}
-use Rattle.table.specs.Inner.{scanned, Row, SpanBelow, RowSpans}
+use Rattle.table.specs.Sound.{total, sound, soundTotal, Row, SpanBelow, RowSpans}
+use Rattle.table.specs.Inner.{scanned}
 use Rattle.table.proofs.Cells.{number-cell}
 use Rattle.table.proofs.Soundness.{bounds-same}
 use Rattle.table.proofs.Tables.{has-cell}

@@ -1,17 +1,19 @@
 -- Sound tables (Rules, Sound), over a view and for any limit of the total. Definitions only.
 use mathlib.Core.Bool.{Bool, _&&_, cond}
+use mathlib.Core.Path.{_≡_}
 use mathlib.Core.List.{[], _∷_}
-use Prim.Native.Nat.{ℕ, _+_, _*_}
+use Prim.Native.Nat.{ℕ, _+_, _*_, _≤_}
 use lib.Dec.{leb}
 use Rattle.grid.specs.declared.place.Grid.{Grid}
 use Rattle.grid.specs.declared.dimension.Span.{Span}
 use Rattle.basics.specs.Answer.{Answer}
 use Rattle.basics.specs.Range.{sumFrom, allFrom}
 use Rattle.grid.specs.Size.{spanOf}
-use Rattle.grid.specs.Grid.{shiftAt, binAt, binsOf}
+use Rattle.grid.specs.Grid.{Inside, shiftAt, binAt, binsOf}
 use Rattle.table.specs.declared.sound.SoundTotal.{SoundTotal}
 use Rattle.table.specs.declared.sound.SoundTotal.the-variants.{Total, Unsound}
 use Rattle.table.specs.Cell.{View}
+use Rattle.table.specs.Table.{Table, TableOf}
 
 -- the largest total of a table in the wide layout
 abbrev pub limit : ℕ
@@ -66,3 +68,21 @@ soundAnswer Unsound = record { number = 6; values = [] }
 -- the answer that every call gives for a table that is not sound
 abbrev pub unsoundNumber : ℕ
 unsoundNumber = soundAnswer Unsound .number
+
+-- ---- what is asked of who tests a bin, row by row
+-- a row of bins in a table of a grid, with a total that is not past the limit
+pub record Row (most : ℕ) (g : Grid) (t : Table) (r gr had : ℕ) : Type 0 where
+  pub table : TableOf g t
+  pub inside : Inside g r gr 0
+  pub under : had ≤ most
+
+-- a span whose values are not above the most
+pub record SpanBelow (most : ℕ) (s : Span) : Type 0 where
+  pub low : s .low ≤ s .high
+  pub high : s .high ≤ most
+
+-- the spans of a row's bins in the first two dimensions, and their squares added
+pub record RowSpans (s1 s2 row : Span) : Type 0 where
+  pub one : SpanBelow 255 s1
+  pub two : SpanBelow 255 s2
+  pub squares : row ≡ plusSpan (squaredSpan s1) (squaredSpan s2)

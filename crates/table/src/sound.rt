@@ -15,7 +15,8 @@ ghost use Rattle.grid.specs.Grid.{placeOf};
 ghost use Rattle.table.specs.Cell.{numberOf};
 ghost use Rattle.table.specs.Table.{viewOf, TableOf};
 ghost use Rattle.table.specs.Sound.{limit, between, squaredSpan, plusSpan, inBounds, soundTotal};
-ghost use Rattle.table.specs.Inner.{scanned, Row, SpanBelow, RowSpans};
+ghost use Rattle.table.specs.Sound.{Row, SpanBelow, RowSpans};
+ghost use Rattle.table.specs.Inner.{scanned};
 
 // The largest total of a table.
 pub const LIMIT: u64 = 4294967295;
@@ -36,7 +37,7 @@ fn lies_between(s: Span, n: u64, sum: u64) -> bool
 }
 
 // The squares of the first two spans, which a row has in common.
-fn row_squares(s1: Span, s2: Span) -> Span
+pub fn row_squares(s1: Span, s2: Span) -> Span
     requires { ⌜ SpanBelow 255 s1 × SpanBelow 255 s2 ⌝ }
     ensures { λ r. ⌜ r ≡ plusSpan (squaredSpan s1) (squaredSpan s2) ⌝ }
 {
@@ -78,7 +79,7 @@ fn is_bare(c: Cell) -> bool
 
 // Whether a bin keeps its own bounds, with a weight that is not past the limit by itself. The squares of the first two
 // spans are those of its row.
-fn keeps_bounds(s1: Span, s2: Span, row: Span, s3: Span, c: Cell) -> bool
+pub fn keeps_bounds(s1: Span, s2: Span, row: Span, s3: Span, c: Cell) -> bool
     requires { ⌜ RowSpans s1 s2 row × SpanBelow 255 s3 ⌝ }
     ensures { λ r. ⌜ r ≡ (leb (c .weight) limit && inBounds (λ d. choose d s1 s2 s3) (numberOf c)) ⌝ }
 {

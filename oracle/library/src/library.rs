@@ -3,7 +3,7 @@ use oracle::port::{Band, CutAnswer, Grid, Lent, Port, Recorded};
 use seluvava_sys::{
     Session, SessionAnswer, seluvava_batch, seluvava_begin, seluvava_bins, seluvava_compare,
     seluvava_cut, seluvava_load, seluvava_load_ppm, seluvava_map, seluvava_merge, seluvava_paint,
-    seluvava_ppm_header, seluvava_reload, seluvava_replay, seluvava_table_len,
+    seluvava_ppm_header, seluvava_reload, seluvava_replay, seluvava_rescue, seluvava_table_len,
 };
 use std::ptr;
 
@@ -114,6 +114,20 @@ impl Port for Library {
             )
         };
         (answer.number, answer.differ, answer.first)
+    }
+
+    fn rescue(&self, [b1, b2, b3]: Grid, table: &mut [u64], reasons: &mut [u8]) -> u8 {
+        unsafe {
+            seluvava_rescue(
+                b1,
+                b2,
+                b3,
+                start_mut(table),
+                table.len(),
+                start_mut(reasons),
+                reasons.len(),
+            )
+        }
     }
 
     fn begin(&self, interval: u32) -> (u8, u32) {

@@ -1,7 +1,7 @@
 //! Makes the damages of a case.
 use crate::{
     case::{Case, Kind},
-    damage::{DAMAGES, Damage, OF_NIGHTS, OF_PPM, OF_RECORDINGS},
+    damage::{DAMAGES, Damage, OF_NIGHTS, OF_PPM, OF_RECORDINGS, OF_RESCUES, WITH_RESCUES},
     numbers::{added, place},
     random::Random,
 };
@@ -13,12 +13,15 @@ const HUGE: [i64; 6] = [1 << 32, (1 << 32) + 2, -1, -2, i64::MIN, i64::MAX];
 pub fn one(case: &Case, r: &mut Random) -> Damage {
     let what = match case.kind {
         Kind::Nights { .. } => r.one_of(&OF_NIGHTS),
+        Kind::Rescues { .. } if r.once_in(16) => r.one_of(&WITH_RESCUES),
+        Kind::Rescues { .. } => r.one_of(&OF_RESCUES),
         Kind::Recordings { .. } => r.one_of(&OF_RECORDINGS),
         Kind::Ppm { .. } => r.one_of(&OF_PPM),
         _ => r.one_of(&DAMAGES),
     };
     let at = match what {
-        "number" | "second-number" => number_place(case, r),
+        "number" | "second-number" | "bit" => number_place(case, r),
+        "page" => r.from(0, 5 * case.bins() - 1),
         "entry" => r.from(0, case.bins() - 1),
         "size" => r.from(0, 2),
         "kind" | "listed-interval" | "listed-colours" => r.from(0, entries_of(case)),
@@ -30,6 +33,8 @@ pub fn one(case: &Case, r: &mut Random) -> Damage {
     let value = match what {
         "number" => change(case, true, at, r),
         "second-number" => change(case, false, at, r),
+        "bit" => r.from(0, 63) as i64,
+        "page" => r.one_of(&[-1, 0, 1, 1 << 31, huge]),
         "entry" => r.one_of(&[k - 1, k, k + 1, 255, 0]).clamp(0, 255),
         "size" if r.once_in(2) => r.one_of(&[1, 2, 4, 8, 16, 32, 64, 128]),
         "size" => r.one_of(&[0, 3, 5, 6, 7, 12, 127, 129, 255, 256, 258, huge]),
@@ -106,6 +111,7 @@ fn numbers_of(case: &Case, first: bool, bin: usize) -> [i64; 5] {
             (split, split)
         }
         Kind::Nights { from, split, .. } => (from, split),
+        Kind::Rescues { .. } => (0, case.input.colors.len()),
     };
     let mut numbers = [0; 5];
     for (i, &color) in case.input.colors.iter().enumerate() {

@@ -104,6 +104,16 @@ unsafe extern "C" {
         differences_len: usize,
     ) -> CompareAnswer;
 
+    pub fn seluvava_rescue(
+        b1: usize,
+        b2: usize,
+        b3: usize,
+        table: *mut u64,
+        table_len: usize,
+        reasons: *mut u8,
+        reasons_len: usize,
+    ) -> u8;
+
     pub fn seluvava_begin(interval: u32) -> SessionAnswer;
 
     pub fn seluvava_reload(session: Session, interval: u32) -> SessionAnswer;

@@ -7,8 +7,7 @@ use native.Mathlib.Nat.{mul-add, add-mul, mul-comm}
 use native.Mathlib.Omega.{arith}
 use borrow.Author.Needs.{needs}
 use Rattle.grid.specs.declared.dimension.Span.{Span}
-use Rattle.table.specs.Sound.{squaredSpan, plusSpan}
-use Rattle.table.specs.Inner.{SpanBelow}
+use Rattle.table.specs.Sound.{squaredSpan, plusSpan, SpanBelow}
 use Rattle.table.proofs.Scans.{square-byte, low-byte}
 use Rattle.table.proofs.sound.with_squares.Statement.{statement}
 use Rattle.table.proofs.sound.with_squares.Tie as tie

@@ -1,0 +1,5 @@
+pub mod Walks
+pub mod Calls
+pub mod Views
+pub mod Laws
+pub mod Worked

@@ -1,0 +1,2 @@
+pub mod Rescue
+pub mod Inner

@@ -1,0 +1,3 @@
+// The call that rescues a damaged table.
+mod bins;
+pub mod call;
