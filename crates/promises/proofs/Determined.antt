@@ -65,6 +65,7 @@ use Rattle.band.proofs.number.band_number as band-number
 use Rattle.band.proofs.look_up.index_at as index-at
 use Rattle.mapper.proofs.call.map as map
 use Rattle.painter.proofs.call.paint as paint
+use Rattle.terminal.proofs.call.nearest as nearest
 use Rattle.lines.specs.declared.batches.Loaded.{Loaded}
 use Rattle.lines.proofs.batches.empty_table as empty-table
 use Rattle.lines.proofs.batches.load_batch as load-batch
@@ -84,6 +85,7 @@ use Rattle.seluvava.proofs.recordings.seluvava_replay as exported-replay
 use Rattle.seluvava.proofs.cut.seluvava_cut as exported-cut
 use Rattle.seluvava.proofs.frames.seluvava_map as exported-map
 use Rattle.seluvava.proofs.frames.seluvava_paint as exported-paint
+use Rattle.seluvava.proofs.terminals.seluvava_nearest as exported-nearest
 use Rattle.basics.specs.Determines.{Determines}
 
 both : {A B : Type 0} {a c : A} {b d : B} → a ≡ c → b ≡ d → _≡_ {A = A × B} (a, b) (c, d)
@@ -282,6 +284,11 @@ pub paint-determined : Determines {A = ℕ × List ℕ} 3 paint.Kinds.ps paint.K
     (λ κs r e. (r, now (e .1 .1 .1 .1 .1 .0)))
 paint-determined κs a r s x y p q = both (determined (p .0) (q .0)) (determined (p .1) (q .1))
 
+-- ---- terminal
+pub nearest-determined : Determines {A = ℕ × List ℕ} 2 nearest.Kinds.ps nearest.Kinds.r nearest.Reads.Learnt
+    (λ κs r e. (r, now (e .1 .0)))
+nearest-determined κs a r s x y p q = both (determined (p .0) (q .0)) (determined (p .1) (q .1))
+
 -- ---- lines
 pub empty-table-determined : Determines 0 empty-table.Kinds.ps empty-table.Kinds.r empty-table.Reads.Learnt
     (λ κs r e. r)
@@ -352,3 +359,7 @@ exported-map-determined κs a r s x y p q = both (determined (p .0) (q .0)) (det
 pub exported-paint-determined : Determines {A = ℕ × List ℕ} 3 exported-paint.Kinds.ps exported-paint.Kinds.r
     exported-paint.Reads.Learnt (λ κs r e. (r, now (e .1 .1 .1 .1 .1 .0)))
 exported-paint-determined κs a r s x y p q = both (determined (p .0) (q .0)) (determined (p .1) (q .1))
+
+pub exported-nearest-determined : Determines {A = ℕ × List ℕ} 2 exported-nearest.Kinds.ps exported-nearest.Kinds.r
+    exported-nearest.Reads.Learnt (λ κs r e. (r, now (e .1 .0)))
+exported-nearest-determined κs a r s x y p q = both (determined (p .0) (q .0)) (determined (p .1) (q .1))

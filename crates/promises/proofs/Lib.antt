@@ -1,4 +1,5 @@
 pub mod Each
+pub mod Terminal
 pub mod Worked
 pub mod Answers
 pub mod Numbers

@@ -15,3 +15,4 @@ pub mod Rounds
 pub mod Remainders
 pub mod Recorder
 pub mod RecorderNumbers
+pub mod Terminal

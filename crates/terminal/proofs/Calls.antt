@@ -1,8 +1,8 @@
 -- The answer to a call, test by test, and the list that it leaves.
 -- Assumes nothing.
-use mathlib.Core.Path.{_≡_, sym, ap, _∙_}
+use mathlib.Core.Path.{_≡_, refl, sym, ap, _∙_}
 use mathlib.Core.List.{List, _++_}
-use Prim.Native.Nat.{ℕ, _+_, _/_, _%_, _≤_, _<_}
+use Prim.Native.Nat.{ℕ, suc, _+_, _/_, _%_, _≤_, _<_}
 use native.Mathlib.Omega.{arith}
 use native.Mathlib.Nat.{zero-add}
 use borrow.Author.Tests.{eqb-true, leb-true, ltb-false, not-false, le-ltb, le-leb, eq-eqb}
@@ -14,18 +14,11 @@ use Rattle.basics.specs.Answer.{refuse, whenDone}
 use Rattle.basics.specs.Range.{listFrom}
 use Rattle.basics.proofs.Range.{Filled, filled-more, length-list, list-at, list-is, and-left, and-right}
 use Rattle.basics.proofs.Ends.{passed}
-use Rattle.terminal.specs.Nearest.{entriesIn, nearestAt, nearestNumber, numbersFor, nearestLater}
+use Rattle.terminal.specs.Nearest.{entriesIn, nearestAt, nearestNumber, numbersFor, nearestLater, CanNearest}
 
 -- ---- the answer
--- what a call that nothing refuses is given
-pub record Passed (palette answers : List ℕ) : Type 0 where
-  pub some : 3 ≤ length palette
-  pub few : length palette ≤ 768
-  pub threes : length palette % 3 ≡ 0
-  pub room : entriesIn palette ≤ length answers
-
 module _ (palette answers : List ℕ) where
-  pub number-passed : nearestNumber palette answers ≡ 0 → Passed palette answers
+  pub number-passed : nearestNumber palette answers ≡ 0 → CanNearest palette answers
   unfolding nearestNumber
   number-passed e =
       let size = passed _ 4 _ e in
@@ -40,7 +33,7 @@ module _ (palette answers : List ℕ) where
       }
 
   -- and the other way round: "where none applies, the answer is 0"
-  pub number-accepted : Passed palette answers → nearestNumber palette answers ≡ 0
+  pub number-accepted : CanNearest palette answers → nearestNumber palette answers ≡ 0
   unfolding nearestNumber refuse
   number-accepted p = simp (le-leb _ _ (p .some), le-leb _ _ (p .few), eq-eqb _ _ (p .threes), le-ltb _ _ (p .room))
 
@@ -76,7 +69,7 @@ module _ (f : ℕ → ℕ) (old : List ℕ) where
       ∙ (λ i. list-is n f (take n l) 0 (length-take-le n l (omega (arith, w .long)))
       (λ k b. getD-take n l k 0 b ∙ w .front k b) i ++ w .rest i)
 
-module _ (palette answers : List ℕ) (p : Passed palette answers) where
+module _ (palette answers : List ℕ) (p : CanNearest palette answers) where
   abbrev numbers : List ℕ
   numbers = listFrom 0 (entriesIn palette) (nearestAt palette)
 
@@ -103,3 +96,14 @@ module _ (palette answers : List ℕ) (p : Passed palette answers) where
         length-drop (entriesIn palette) answers,
         p .room,
       )
+
+-- a refusal leaves the list as it was
+pub nearest-refused : {n : ℕ} (palette answers : List ℕ) → nearestNumber palette answers ≡ suc n
+    → nearestLater palette answers ≡ answers
+unfolding nearestLater whenDone
+nearest-refused palette answers e = rw e refl
+
+pub nearest-done : (palette answers : List ℕ) → nearestNumber palette answers ≡ 0
+    → nearestLater palette answers ≡ numbersFor palette answers
+unfolding nearestLater whenDone
+nearest-done palette answers e = rw e refl

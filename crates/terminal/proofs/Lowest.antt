@@ -8,7 +8,7 @@ use native.Mathlib.Omega.{arith}
 use native.Mathlib.Decide.{decLe}
 use borrow.Author.Tests.{ltb-true, ltb-false, lt-ltb, le-ltb}
 use lib.Dec.{ltb}
-use Rattle.terminal.specs.Nearest.{lowestFrom}
+use Rattle.terminal.specs.Nearest.{leastFrom}
 
 module _ (i : ℕ) (f : ℕ → ℕ) where
   -- it is among the numbers, none has a smaller f, and each lower one has a larger
@@ -57,15 +57,15 @@ module _ (i : ℕ) (f : ℕ → ℕ) where
       at m h k (yes l) = old .least m h l
       at m h k (no l) = let e : m ≡ i + suc n = omega (arith, lt-of-not-le l) in rw e now
 
-  pub lowest-is : (n : ℕ) → Lowest n (lowestFrom i n f)
-  unfolding lowestFrom
+  pub lowest-is : (n : ℕ) → Lowest n (leastFrom i n f)
+  unfolding leastFrom
   lowest-is zero = alone
-  lowest-is (suc n) = go (ltb (f (i + suc n)) (f (lowestFrom i n f))) refl (lowest-is n)
+  lowest-is (suc n) = go (ltb (f (i + suc n)) (f (leastFrom i n f))) refl (lowest-is n)
     where
-      go : (t : Bool) → ltb (f (i + suc n)) (f (lowestFrom i n f)) ≡ t → Lowest n (lowestFrom i n f)
-          → Lowest (suc n) (cond t (i + suc n) (lowestFrom i n f))
-      go true e old = more n _ old (ltb-true (f (i + suc n)) (f (lowestFrom i n f)) e)
-      go false e old = kept n _ old (ltb-false (f (i + suc n)) (f (lowestFrom i n f)) e)
+      go : (t : Bool) → ltb (f (i + suc n)) (f (leastFrom i n f)) ≡ t → Lowest n (leastFrom i n f)
+          → Lowest (suc n) (cond t (i + suc n) (leastFrom i n f))
+      go true e old = more n _ old (ltb-true (f (i + suc n)) (f (leastFrom i n f)) e)
+      go false e old = kept n _ old (ltb-false (f (i + suc n)) (f (leastFrom i n f)) e)
 
   -- there is one such number only
   pub lowest-one : (n a b : ℕ) → Lowest n a → Lowest n b → a ≡ b
@@ -80,32 +80,32 @@ module _ (i : ℕ) (f : ℕ → ℕ) where
   abbrev pub keyOf : ℕ → ℕ
   keyOf b = 256 * f b + b
 
-  next : (n : ℕ) → f (i + suc n) < f (lowestFrom i n f) → lowestFrom i (suc n) f ≡ i + suc n
-  unfolding lowestFrom
-  next n h = ap (λ (t : Bool). cond t (i + suc n) (lowestFrom i n f)) (lt-ltb (f (i + suc n)) (f (lowestFrom i n f)) h)
+  next : (n : ℕ) → f (i + suc n) < f (leastFrom i n f) → leastFrom i (suc n) f ≡ i + suc n
+  unfolding leastFrom
+  next n h = ap (λ (t : Bool). cond t (i + suc n) (leastFrom i n f)) (lt-ltb (f (i + suc n)) (f (leastFrom i n f)) h)
 
-  same : (n : ℕ) → f (lowestFrom i n f) ≤ f (i + suc n) → lowestFrom i (suc n) f ≡ lowestFrom i n f
-  unfolding lowestFrom
-  same n h = ap (λ (t : Bool). cond t (i + suc n) (lowestFrom i n f)) (le-ltb (f (i + suc n)) (f (lowestFrom i n f)) h)
+  same : (n : ℕ) → f (leastFrom i n f) ≤ f (i + suc n) → leastFrom i (suc n) f ≡ leastFrom i n f
+  unfolding leastFrom
+  same n h = ap (λ (t : Bool). cond t (i + suc n) (leastFrom i n f)) (le-ltb (f (i + suc n)) (f (leastFrom i n f)) h)
 
   -- one number more, as a loop over k has it, whose key is smaller, or is not
   module _ (low : i ≤ 16) where
-    pub key-next : (k l x : ℕ) → 1 ≤ k → k < 240 → l ≡ keyOf (lowestFrom i (k - 1) f) → x ≡ keyOf (i + k) → x < l
-        → x ≡ keyOf (lowestFrom i (k + 1 - 1) f)
+    pub key-next : (k l x : ℕ) → 1 ≤ k → k < 240 → l ≡ keyOf (leastFrom i (k - 1) f) → x ≡ keyOf (i + k) → x < l
+        → x ≡ keyOf (leastFrom i (k + 1 - 1) f)
     key-next zero l x h j p q r = absurd (omega arith)
     key-next (suc n) l x h j p q r =
         let back : suc n - 1 ≡ n = omega arith in
         let on : suc n + 1 - 1 ≡ suc n = omega arith in
-        let was = p ∙ ap (λ (m : ℕ). keyOf (lowestFrom i m f)) back in
+        let was = p ∙ ap (λ (m : ℕ). keyOf (leastFrom i m f)) back in
         let is = lowest-is n in
-        q ∙ ap keyOf (sym (ap (λ (m : ℕ). lowestFrom i m f) on ∙ next n (omega (arith, is .to, is .from, was, q, r))))
+        q ∙ ap keyOf (sym (ap (λ (m : ℕ). leastFrom i m f) on ∙ next n (omega (arith, is .to, is .from, was, q, r))))
 
-    pub key-same : (k l x : ℕ) → 1 ≤ k → k < 240 → l ≡ keyOf (lowestFrom i (k - 1) f) → x ≡ keyOf (i + k) → l ≤ x
-        → l ≡ keyOf (lowestFrom i (k + 1 - 1) f)
+    pub key-same : (k l x : ℕ) → 1 ≤ k → k < 240 → l ≡ keyOf (leastFrom i (k - 1) f) → x ≡ keyOf (i + k) → l ≤ x
+        → l ≡ keyOf (leastFrom i (k + 1 - 1) f)
     key-same zero l x h j p q r = absurd (omega arith)
     key-same (suc n) l x h j p q r =
         let back : suc n - 1 ≡ n = omega arith in
         let on : suc n + 1 - 1 ≡ suc n = omega arith in
-        let was = p ∙ ap (λ (m : ℕ). keyOf (lowestFrom i m f)) back in
+        let was = p ∙ ap (λ (m : ℕ). keyOf (leastFrom i m f)) back in
         let is = lowest-is n in
-        was ∙ ap keyOf (sym (ap (λ (m : ℕ). lowestFrom i m f) on ∙ same n (omega (arith, is .to, is .from, was, q, r))))
+        was ∙ ap keyOf (sym (ap (λ (m : ℕ). leastFrom i m f) on ∙ same n (omega (arith, is .to, is .from, was, q, r))))

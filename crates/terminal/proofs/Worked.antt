@@ -9,7 +9,7 @@ use Rattle.basics.specs.Range.{listFrom}
 use Rattle.basics.specs.Dimension.{choose}
 use Rattle.pixels.specs.Colour.{colourAt}
 use Rattle.terminal.specs.Colours.{levelOf, cubeLevel, greyLevel, levelAt, fixedColour}
-use Rattle.terminal.specs.Nearest.{differenceOf, squareOf, apart, distanceOf, lowestFrom, nearestOf, nearestAt}
+use Rattle.terminal.specs.Nearest.{differenceOf, squareOf, apart, distanceOf, leastFrom, nearestOf, nearestAt}
 use Rattle.terminal.specs.Nearest.{nearestNumber, numbersFor, nearestLater}
 
 -- black, white, a grey of the ramp, one between two of it, red, and a red between two levels
@@ -20,6 +20,6 @@ palette =
 -- 13 is as far from 8 as from 18, and 115 as far from 95 as from 135: the lower number each time. The seventh place stays
 worked : nearestLater palette (7 ∷ 7 ∷ 7 ∷ 7 ∷ 7 ∷ 7 ∷ 7 ∷ []) ≡ 16 ∷ 231 ∷ 244 ∷ 232 ∷ 196 ∷ 57 ∷ 7 ∷ []
 unfolding
-    palette nearestLater nearestNumber numbersFor refuse whenDone listFrom colourAt nearestAt nearestOf lowestFrom
+    palette nearestLater nearestNumber numbersFor refuse whenDone listFrom colourAt nearestAt nearestOf leastFrom
     distanceOf apart squareOf differenceOf fixedColour levelAt cubeLevel greyLevel levelOf choose
 worked = refl

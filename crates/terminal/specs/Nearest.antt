@@ -1,7 +1,8 @@
 -- The call nearest (Rules, Terminal; Rules, Answers). Definitions only.
+use mathlib.Core.Path.{_≡_}
 use mathlib.Core.Bool.{not, cond, _&&_}
 use mathlib.Core.List.{List, _++_}
-use Prim.Native.Nat.{ℕ, zero, suc, _+_, _*_, _/_, _%_, _-_}
+use Prim.Native.Nat.{ℕ, zero, suc, _+_, _*_, _/_, _%_, _-_, _≤_}
 use lib.Dec.{eqb, leb, ltb}
 use lib.ListN.{length, drop}
 use Rattle.basics.specs.Answer.{refuse, whenDone}
@@ -27,15 +28,15 @@ unfoldable pub distanceOf : Rgb → ℕ → ℕ
 distanceOf x n = apart x (fixedColour n)
 
 -- of a first number and some more after it, the one "with the smallest" f, "the lowest number on a tie"
-unfoldable pub lowestFrom : ℕ → ℕ → (ℕ → ℕ) → ℕ
-lowestFrom first zero f = first
-lowestFrom first (suc more) f =
-    let best = lowestFrom first more f in
+unfoldable pub leastFrom : ℕ → ℕ → (ℕ → ℕ) → ℕ
+leastFrom first zero f = first
+leastFrom first (suc more) f =
+    let best = leastFrom first more f in
     cond (ltb (f (first + suc more)) (f best)) (first + suc more) best
 
 -- "numbers 16 to 255"
 unfoldable pub nearestOf : Rgb → ℕ
-nearestOf x = lowestFrom 16 239 (distanceOf x)
+nearestOf x = leastFrom 16 239 (distanceOf x)
 
 -- ---- the call
 -- how many entries a palette has
@@ -52,6 +53,13 @@ nearestNumber palette answers =
     refuse (not (leb 3 (length palette) && leb (length palette) 768)) 5
     (refuse (not (eqb (length palette % 3) 0)) 5
     (refuse (ltb (length answers) (entriesIn palette)) 5 0))
+
+-- what a call is given that nothing refuses
+pub record CanNearest (palette answers : List ℕ) : Type 0 where
+  pub some : 3 ≤ length palette
+  pub few : length palette ≤ 768
+  pub threes : length palette % 3 ≡ 0
+  pub room : entriesIn palette ≤ length answers
 
 -- a list with the numbers in front: "Places past the entries stay."
 unfoldable pub numbersFor : List ℕ → List ℕ → List ℕ

@@ -5,14 +5,14 @@ use mathlib.Core.Logic.{⊎-elim}
 use Prim.Native.Nat.{ℕ, _+_, _*_, _%_, _-_, _≤_}
 use native.Mathlib.Omega.{arith}
 use denote.Ref.{now}
-use Rattle.terminal.specs.Nearest.{distanceOf, lowestFrom, nearestOf}
+use Rattle.terminal.specs.Nearest.{distanceOf, leastFrom, nearestOf}
 use Rattle.terminal.proofs.Lowest.{lowest-is, keyOf, key-next, key-same}
 use Rattle.terminal.proofs.closest.closest.Statement.{statement}
 use Rattle.terminal.proofs.closest.closest.Tie as tie
 
 abbrev Inv-loop : tie.InvT-loop
 Inv-loop reds greens blues x least₀ k₀ least k =
-    (1 ≤ k) × (k ≤ 240) × (least ≡ keyOf 16 (distanceOf x) (lowestFrom 16 (k - 1) (distanceOf x)))
+    (1 ≤ k) × (k ≤ 240) × (least ≡ keyOf 16 (distanceOf x) (leastFrom 16 (k - 1) (distanceOf x)))
 
 abbrev μ-loop : tie.MeasureT-loop
 μ-loop reds greens blues x least₀ k₀ least k = 240 - k
@@ -27,7 +27,7 @@ add-least : tie.Need-add-least Inv-loop μ-loop
 add-least c = omega arith
 
 loop-holds : tie.Need-loop-holds Inv-loop μ-loop
-unfolding lowestFrom
+unfolding leastFrom
 loop-holds c = (omega arith, omega arith, omega (arith, c .distance .ensures .0))
 
 distance-requires-2 : tie.Need-distance-requires-2 Inv-loop μ-loop
@@ -60,7 +60,7 @@ loop-again c =
     let key : x ≡ keyOf 16 f (16 + l .k) = λ i. 256 * d .ensures .0 i + (16 + l .k) in (
       omega arith,
       omega arith,
-      ⊎-elim {C = c .if1 .least ≡ keyOf 16 f (lowestFrom 16 (l .k + 1 - 1) f)}
+      ⊎-elim {C = c .if1 .least ≡ keyOf 16 f (leastFrom 16 (l .k + 1 - 1) f)}
           (λ w. w .1
           ∙ key-next 16 f (omega arith) (l .k) (l .least) x (l .inv .0) (omega arith) (l .inv .2) key
           (omega (arith, w .0 .taken)))
@@ -72,13 +72,13 @@ loop-again c =
 
 -- what it has once all are passed
 last : (c : tie.After-loop Inv-loop μ-loop)
-    → c .before .loop .least % 256 ≡ lowestFrom 16 239 (distanceOf (c .before .before .before .args .x))
+    → c .before .loop .least % 256 ≡ leastFrom 16 239 (distanceOf (c .before .before .before .args .x))
 last c =
     let f = distanceOf (c .before .before .before .args .x) in
     let all : c .before .loop .k - 1 ≡ 239 = omega arith in
     omega (
       arith,
-      c .before .loop .inv .2 ∙ ap (λ (n : ℕ). keyOf 16 f (lowestFrom 16 n f)) all,
+      c .before .loop .inv .2 ∙ ap (λ (n : ℕ). keyOf 16 f (leastFrom 16 n f)) all,
       lowest-is 16 f 239 .to,
     )
 
