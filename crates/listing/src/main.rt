@@ -1,11 +1,45 @@
 // Lists the palette of the colours on standard input, which are bare RGB triples. This file reads and writes; what is
-// loaded and what is said of it is the crate `lines`.
+// loaded and what is said of it is the crate `lines` and, for a terminal, `swatches`.
 use libc::STDERR_FILENO;
 use libc::STDIN_FILENO;
 use libc::STDOUT_FILENO;
 ghost use Prim.Native.Nat.{_+_, _≤_};
 ghost use lib.ListN.{length};
 ghost use Rattle.lines.specs.Reading.{progress, Came, AllCame};
+
+// ---- Arguments
+
+// Whether the first bytes of an argument are all there is of a word.
+fn is_word(argument: &[u8], filled: usize, word: &[u8]) -> bool
+    requires { ⌜ filled ≤ length (now argument) ⌝ }
+{
+    if filled != word.len() {
+        return false;
+    }
+    let mut i = 0;
+    while i < filled {
+        if argument[i] != word[i] {
+            return false;
+        }
+        i = i + 1;
+    }
+    true
+}
+
+// Whether the program was started with this word among its arguments. A longer argument is none of the program's words.
+fn has_argument(word: &[u8]) -> bool {
+    let arguments = os::arg_count();
+    let mut i = 1;
+    while i < arguments {
+        let mut argument = [0; 16];
+        let filled = os::arg(i, &mut argument);
+        if is_word(&argument, filled, word) {
+            return true;
+        }
+        i = i + 1;
+    }
+    false
+}
 
 // ---- Reading
 
@@ -111,7 +145,12 @@ fn main() {
         complain(b"standard input could not be read");
         return;
     }
-    let mut text = [0; 2176];
-    let n = lines::text::text(&table, input.number, &mut text);
-    write(&text[0..n]);
+    let mut text = [0; 2752];
+    if has_argument(b"--terminal") {
+        let n = swatches::text::swatch_text(&table, input.number, &mut text);
+        write(&text[0..n]);
+    } else {
+        let n = lines::text::text(&table, input.number, &mut text);
+        write(&text[0..n]);
+    }
 }

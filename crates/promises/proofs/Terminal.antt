@@ -105,17 +105,17 @@ own-distance n =
     let x = fixedColour n in
     omega (arith, no-difference (x .c1), no-difference (x .c2), no-difference (x .c3))
 
+none-apart : (a b : ℕ) → differenceOf a b ≡ 0 → a ≡ b
+unfolding differenceOf
+none-apart a b z = omega arith
+
 same-component : (a b : ℕ) → squareOf a b ≡ 0 → a ≡ b
 unfolding squareOf
 same-component a b e = go (decLe 1 (differenceOf a b))
   where
-    none : (a b : ℕ) → differenceOf a b ≡ 0 → a ≡ b
-    unfolding differenceOf
-    none a b z = omega arith
-
     go : Dec (1 ≤ differenceOf a b) → a ≡ b
     go (yes h) = let p : 1 * 1 ≤ differenceOf a b * differenceOf a b = mul-le-mul h h in absurd (omega arith)
-    go (no h) = none a b (omega (arith, lt-of-not-le h))
+    go (no h) = none-apart a b (omega (arith, lt-of-not-le h))
 
 same-colour : (x y : Rgb) → apart x y ≡ 0 → x ≡ y
 unfolding apart
