@@ -23,6 +23,8 @@ pub enum Kind {
         entries: Vec<[u32; 3]>,
         damages: Vec<Damage>,
     },
+    /// The colours as a palette, with some stray bytes, and a list of so many answers.
+    Palettes { stray: usize, answers: usize },
 }
 
 /// One case. `seed` decides what stands in lent buffers, and how an input is shuffled and split.
@@ -113,6 +115,7 @@ impl fmt::Display for Case {
                 write_entries(f, *first, entries)?;
                 write_damages(f, *split, damages)
             }
+            Kind::Palettes { stray, answers } => write!(f, "; stray {stray}; answers {answers}"),
         }
     }
 }
@@ -169,6 +172,10 @@ impl Case {
                 first: first as u32,
                 entries: entries(field("entries")?),
                 damages: damages()?,
+            },
+            _ if one("stray").is_some() => Kind::Palettes {
+                stray: one("stray")? as usize,
+                answers: one("answers")? as usize,
             },
             _ => Kind::Whole {
                 by_pixels: one("pixels")? != 0,

@@ -1,5 +1,6 @@
 //! Makes the cases of each class.
 mod damages;
+mod palettes;
 mod recordings;
 
 use crate::{
@@ -29,7 +30,7 @@ const fn class(name: &'static str, cases: Cases) -> Class {
 }
 
 /// The classes; README.md says what their cases are.
-pub const CLASSES: [Class; 21] = [
+pub const CLASSES: [Class; 24] = [
     class("tiny", Cases::Random(tiny)),
     class("few", Cases::Random(few)),
     class("equal", Cases::Random(equal)),
@@ -47,10 +48,13 @@ pub const CLASSES: [Class; 21] = [
     class("damaged", Cases::Random(damaged)),
     class("nights", Cases::Random(nights)),
     class("recordings", Cases::Random(recordings::one)),
+    class("palettes", Cases::Random(palettes::one)),
+    class("levels", Cases::Listed(palettes::levels)),
     class("width", Cases::Listed(width)),
     class("known", Cases::Listed(known)),
     class("corners", Cases::Listed(corners)),
     class("pixels", Cases::OnlyNamed(pixels)),
+    class("every-colour", Cases::OnlyNamed(palettes::every_colour)),
 ];
 
 /// Totals about which cases stand: where the sign of a spread may go wrong, where the original's sums change their

@@ -1,9 +1,10 @@
-//! Runs one case: whole, call by call, two tables compared, or recorded by intervals.
+//! Runs one case: whole, call by call, two tables compared, recorded by intervals, or a palette for a terminal.
 use crate::{
     buffer::Differs,
     calls::calls,
     case::{Case, Kind},
     nights::nights,
+    palettes::palettes,
     port::Port,
     recordings::recordings,
     tally::Tally,
@@ -41,6 +42,7 @@ pub fn check(port: &dyn Port, case: &Case, tally: &mut Tally) -> Result<(), Diff
             let list = (*first, entries.as_flattened());
             recordings(port, case, *split, list, damages, tally)
         }
+        Kind::Palettes { stray, answers } => palettes(port, case, *stray, *answers, tally),
     });
     catch_unwind(run).unwrap_or_else(|panic| Err(said(panic)))
 }

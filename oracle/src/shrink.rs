@@ -50,12 +50,12 @@ pub fn shrink(case: &Case, differs: &dyn Fn(&Case) -> bool) -> Case {
     }
 }
 
-/// Whether the judge has the grid, k is in its bounds and the band in the frame. A comparison and a recording ask no
-/// original.
+/// Whether the judge has the grid, k is in its bounds and the band in the frame. A comparison, a recording and a palette
+/// ask no original.
 fn is_fit(case: &Case) -> bool {
     let pixels: usize = case.frame.iter().map(|f| f.1).sum();
     let colours = case.input.colors.len();
-    let asked = !matches!(case.kind, Kind::Nights { .. } | Kind::Recordings { .. });
+    let asked = matches!(case.kind, Kind::Whole { .. } | Kind::Calls { .. });
     let any = case.grid.iter().all(|&size| size >= 2);
     (original(case.grid).is_some() || any && !asked)
         && (1..=256).contains(&case.k)
@@ -67,6 +67,7 @@ fn is_fit(case: &Case) -> bool {
             Kind::Recordings { split, entries, .. } => {
                 *split + entries.iter().map(|e| e[2] as usize).sum::<usize>() == colours
             }
+            Kind::Palettes { .. } => true,
         }
 }
 
@@ -78,7 +79,7 @@ fn without(case: &Case, at: usize, count: usize) -> Case {
     other.input.weights.drain(at..end);
     let fewer = |split: &mut usize| *split -= (*split).clamp(at, end) - at;
     match &mut other.kind {
-        Kind::Whole { .. } => {}
+        Kind::Whole { .. } | Kind::Palettes { .. } => {}
         Kind::Calls { split, .. } => fewer(split),
         Kind::Nights { from, split, .. } => {
             fewer(from);
@@ -132,7 +133,8 @@ fn recorded(case: &Case, change: impl Fn(&mut u32, &mut Vec<[u32; 3]>, &mut Vec<
     other
 }
 
-/// Nothing by pixels, fewer batches, or fewer damages; fewer entries of a recorded list, or smaller intervals.
+/// Nothing by pixels, fewer batches, or fewer damages; fewer entries of a recorded list, or smaller intervals; fewer
+/// stray bytes or answers.
 fn kinds(case: &Case) -> Vec<Case> {
     let mut list = Vec::new();
     match &case.kind {
@@ -230,6 +232,18 @@ fn kinds(case: &Case) -> Vec<Case> {
             for smaller in below(*first as usize) {
                 list.push(recorded(case, |first, _, _| *first = smaller as u32));
             }
+        }
+        Kind::Palettes { stray, answers } => {
+            list.extend(with(case, *stray, |c, n| {
+                if let Kind::Palettes { stray, .. } = &mut c.kind {
+                    *stray = n;
+                }
+            }));
+            list.extend(with(case, *answers, |c, n| {
+                if let Kind::Palettes { answers, .. } = &mut c.kind {
+                    *answers = n;
+                }
+            }));
         }
     }
     list.retain(|c| c.kind != case.kind);

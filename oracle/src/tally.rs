@@ -18,9 +18,9 @@ pub struct Tally {
 }
 
 /// The calls whose numbers are counted.
-pub const CALLS: [&str; 11] = [
+pub const CALLS: [&str; 12] = [
     "load", "merge", "cut", "map", "paint", "compare", "begin", "reload", "batch", "replay",
-    "entries",
+    "entries", "nearest",
 ];
 
 impl Tally {
