@@ -14,6 +14,7 @@ mod plain;
 mod recording;
 mod report;
 mod side;
+mod terminal;
 #[cfg(feature = "original")]
 mod theirs;
 
@@ -120,6 +121,8 @@ fn main() -> ExitCode {
     let mut rows = Vec::new();
     for sizes in GRIDS {
         let wanted = |o: &Operation| match &asked.only {
+            // it has no grid, and stands in one table
+            _ if *o == Operation::Nearest && sizes != GRIDS[0] => false,
             None => true,
             Some(text) => format!("{} {o}", report::grid(sizes)).contains(text),
         };

@@ -2,6 +2,7 @@
 use crate::{
     recording::Recording,
     side::{Answer, Lent, MOST, Operation, Side, Sizes, touch},
+    terminal::Terminal,
 };
 use seluvava_sys::{
     seluvava_bins, seluvava_compare, seluvava_cut, seluvava_load, seluvava_map, seluvava_merge,
@@ -196,6 +197,7 @@ pub struct Ours {
     differences: Vec<i64>,
     told: (usize, usize),
     recording: Recording,
+    terminal: Terminal,
     cut: Cut,
     /// What maps and paints read.
     kept: Cut,
@@ -216,6 +218,7 @@ impl Ours {
             differences: vec![0; loaded.len()],
             told: (0, 0),
             recording: Recording::new(),
+            terminal: Terminal::new(&lent.frame),
             loaded,
             second,
             cut,
@@ -254,6 +257,7 @@ impl Side for Ours {
                 touch(&self.loaded);
             }
             Operation::Map | Operation::Paint => touch(&self.kept.map),
+            Operation::Nearest => self.terminal.prepare(),
             Operation::Whole { anew: false } => {
                 self.table.fill(u64::MAX);
                 self.cut.reset();
@@ -278,6 +282,7 @@ impl Side for Ours {
             Operation::Cut(k) => self.cut.run(sizes, k, &self.loaded),
             Operation::Map => self.kept.map(sizes, lent),
             Operation::Paint => self.kept.paint(sizes, lent),
+            Operation::Nearest => self.terminal.by_call(),
             Operation::Whole { anew } => {
                 if anew {
                     self.make_anew();
@@ -308,6 +313,7 @@ impl Side for Ours {
                 answer.bytes.extend(self.cut.colours());
                 answer.bytes.extend(&self.cut.map);
             }
+            Operation::Nearest => self.terminal.answer(answer),
             Operation::Map | Operation::Paint => {}
         }
     }

@@ -16,13 +16,15 @@ pub enum Operation {
     Cut(usize),
     Map,
     Paint,
+    /// The numbers of 256 colours in a terminal; the other side is a plain loop.
+    Nearest,
     /// From pixels to indices. Our side makes its tables anew in the run, or was lent them.
     Whole {
         anew: bool,
     },
 }
 
-pub const OPERATIONS: [Operation; 12] = [
+pub const OPERATIONS: [Operation; 13] = [
     Operation::Load,
     Operation::LoadWeighted,
     Operation::Merge,
@@ -33,6 +35,7 @@ pub const OPERATIONS: [Operation; 12] = [
     Operation::Cut(256),
     Operation::Map,
     Operation::Paint,
+    Operation::Nearest,
     Operation::Whole { anew: false },
     Operation::Whole { anew: true },
 ];
@@ -52,6 +55,7 @@ impl fmt::Display for Operation {
             Operation::Cut(k) => write!(f, "cut, k = {k}"),
             Operation::Map => f.write_str("map"),
             Operation::Paint => f.write_str("paint"),
+            Operation::Nearest => f.write_str("nearest"),
             Operation::Whole { anew: false } => {
                 f.write_str("pixels to indices, our table lent and cleared")
             }
@@ -93,7 +97,11 @@ impl Lent {
                 self.indices.fill(0xa5);
             }
             Operation::Paint => self.painted.copy_from_slice(&self.frame),
-            Operation::Merge | Operation::Compare | Operation::Moments | Operation::Cut(_) => {}
+            Operation::Merge
+            | Operation::Compare
+            | Operation::Moments
+            | Operation::Cut(_)
+            | Operation::Nearest => {}
         }
     }
 

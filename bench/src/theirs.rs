@@ -3,6 +3,7 @@ use crate::{
     one_load::OneLoad,
     plain::Plain,
     side::{Answer, Lent, MOST, Operation, Side, Sizes, touch},
+    terminal::Terminal,
 };
 use oracle::{
     original::u8::{BinnerU8x3, WuU8x3, WuU8x3ColorMap, parts::Narrow},
@@ -35,6 +36,7 @@ struct Theirs<const B1: usize, const B2: usize, const B3: usize> {
     plain: Plain,
     /// What a replay is held to: it has no counterpart here.
     one_load: OneLoad,
+    terminal: Terminal,
     cut: Option<Colours<B1, B2, B3>>,
     /// What maps and paints read.
     kept: WuU8x3ColorMap<[u8; 3], B1, B2, B3>,
@@ -87,6 +89,7 @@ impl<const B1: usize, const B2: usize, const B3: usize> Theirs<B1, B2, B3> {
             second,
             plain,
             one_load: OneLoad::new([B1, B2, B3], &lent.weights),
+            terminal: Terminal::new(&lent.frame),
             cut: None,
             kept,
         }
@@ -127,6 +130,7 @@ impl<const B1: usize, const B2: usize, const B3: usize> Side for Theirs<B1, B2, 
             }
             Operation::Moments | Operation::Cut(_) => self.load_again(),
             Operation::Map | Operation::Paint => touch(self.kept.map()),
+            Operation::Nearest => self.terminal.prepare(),
             Operation::Whole { .. } => {}
         }
     }
@@ -147,6 +151,7 @@ impl<const B1: usize, const B2: usize, const B3: usize> Side for Theirs<B1, B2, 
             }
             Operation::Map => map(&self.kept, lent),
             Operation::Paint => self.kept.map_slice_in_place(&mut lent.painted),
+            Operation::Nearest => self.terminal.by_loop(),
             Operation::Whole { .. } => {
                 let run = run::<B1, B2, B3>(&lent.frame);
                 let (colours, counts) = run.color_map_and_counts(most(MOST));
@@ -169,6 +174,7 @@ impl<const B1: usize, const B2: usize, const B3: usize> Side for Theirs<B1, B2, 
                 answer.bytes.extend(colours.palette().as_flattened());
                 answer.bytes.extend(colours.map());
             }
+            Operation::Nearest => self.terminal.answer(answer),
             Operation::Map | Operation::Paint => {}
         }
     }
