@@ -14,6 +14,7 @@ pub mod Criterion
 pub mod Sign
 pub mod Half
 pub mod Listing
+pub mod Swatches
 pub mod Determined
 pub mod Finite
 pub mod Rounds

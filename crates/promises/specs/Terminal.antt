@@ -6,7 +6,9 @@ use Prim.Native.Nat.{ℕ, _%_, _≤_, _<_}
 use lib.Dec.{eqb, leb, ltb}
 use lib.ListN.{length}
 use Rattle.pixels.specs.declared.colour.Rgb.{Rgb}
+use Rattle.cutter.specs.Cut.{cutLater}
 use Rattle.terminal.specs.Nearest.{distanceOf, entriesIn}
+use Rattle.lines.specs.Listing.{lentZeros}
 use Rattle.promises.specs.Numbers.{Tests, applies}
 
 -- r is one of the numbers, "no colour is closer", and each lower number is farther
@@ -26,3 +28,7 @@ nearestTests palette answers =
 
 unfoldable pub nearestApplies : List ℕ → List ℕ → ℕ → Bool
 nearestApplies palette answers = applies (nearestTests palette answers)
+
+-- the palette that the listing program lists
+abbrev pub listedPalette : List ℕ → List ℕ
+listedPalette t = cutLater 8 8 8 16 t lentZeros .results .palette
