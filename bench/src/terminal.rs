@@ -49,6 +49,7 @@ impl Terminal {
         assert_eq!(number, 0, "nearest");
     }
 
+    #[cfg(feature = "original")]
     pub fn by_loop(&mut self) {
         for (number, colour) in self.numbers.iter_mut().zip(&self.palette) {
             let (mut least, mut best) = (u32::MAX, 0);

@@ -14,7 +14,7 @@ use Rattle.basics.specs.Answer.{refuse}
 use Rattle.basics.specs.Dimension.{choose}
 use Rattle.pixels.specs.declared.colour.Rgb.{Rgb}
 use Rattle.pixels.specs.Colour.{colourAt}
-use Rattle.terminal.specs.Colours.{levelOf, cubeLevel, greyLevel, levelAt, fixedColour, tableOf}
+use Rattle.terminal.specs.Colours.{levelOf, cubeLevel, greyLevel, levelAt, fixedColour, fixedTable}
 use Rattle.terminal.specs.Nearest.{differenceOf, squareOf, apart, distanceOf, leastFrom, nearestOf, entriesIn, nearestAt}
 use Rattle.terminal.specs.Nearest.{nearestNumber, nearestLater, CanNearest}
 use Rattle.terminal.proofs.Laws.{table-at}
@@ -49,11 +49,11 @@ grey-colours i h =
     rw (beyond, back) refl
 
 -- "a table of 720 numbers, three a colour from number 16 on"
-pub table-colours : (n : ℕ) → 16 ≤ n → n ≤ 255 → colourAt tableOf (n - 16) ≡ fixedColour n
+pub table-colours : (n : ℕ) → 16 ≤ n → n ≤ 255 → colourAt fixedTable (n - 16) ≡ fixedColour n
 unfolding colourAt fixedColour
 table-colours n h k =
     let back : 16 + (n - 16) ≡ n = omega arith in
-    let red = ap (λ (j : ℕ). getD tableOf j 0) (sym (add-zero (3 * (n - 16)))) ∙ at 0 (omega arith) in
+    let red = ap (λ (j : ℕ). getD fixedTable j 0) (sym (add-zero (3 * (n - 16)))) ∙ at 0 (omega arith) in
     let one = at 1 (omega arith) in
     let two = at 2 (omega arith) in
     λ i. record {
@@ -62,7 +62,7 @@ table-colours n h k =
       c3 = (two ∙ ap (λ (m : ℕ). levelAt m 2) back) i;
     }
   where
-    at : (d : ℕ) → d < 3 → getD tableOf (3 * (n - 16) + d) 0 ≡ levelAt (16 + (n - 16)) d
+    at : (d : ℕ) → d < 3 → getD fixedTable (3 * (n - 16) + d) 0 ≡ levelAt (16 + (n - 16)) d
     at d l = table-at (n - 16) d (omega arith) l
 
 -- "All 240 colours differ."

@@ -18,7 +18,7 @@ pub record IsNearest (x : Rgb) (r : ℕ) : Type 0 where
   pub none-closer : (n : ℕ) → 16 ≤ n → n ≤ 255 → distanceOf x r ≤ distanceOf x n
   pub lower-farther : (n : ℕ) → 16 ≤ n → n < r → distanceOf x r < distanceOf x n
 
--- "nearest 5"
+-- the answers of nearest: 5 alone (Rules, Answers)
 unfoldable pub nearestTests : List ℕ → List ℕ → Tests
 nearestTests palette answers =
     (5, not (leb 3 (length palette) && leb (length palette) 768))

@@ -8,12 +8,12 @@ use native.Mathlib.Omega.{arith}
 use lib.ListN.{getD}
 use Rattle.basics.proofs.Range.{list-at}
 use Rattle.pixels.specs.declared.colour.Rgb.{Rgb}
-use Rattle.terminal.specs.Colours.{levelAt, fixedColour, tableOf}
+use Rattle.terminal.specs.Colours.{levelAt, fixedColour, fixedTable}
 use Rattle.terminal.specs.Nearest.{squareOf, apart, distanceOf}
 use Rattle.terminal.specs.Inner.{planeOf, Planes}
 
-pub table-at : (k d : ℕ) → k < 240 → d < 3 → getD tableOf (3 * k + d) 0 ≡ levelAt (16 + k) d
-unfolding tableOf
+pub table-at : (k d : ℕ) → k < 240 → d < 3 → getD fixedTable (3 * k + d) 0 ≡ levelAt (16 + k) d
+unfolding fixedTable
 table-at k d h l =
     list-at 0 720 (λ j. levelAt (16 + j / 3) (j % 3)) (3 * k + d) 0 (omega arith)
     ∙ ap (λ (j : ℕ). levelAt (16 + j / 3) (j % 3)) (zero-add (3 * k + d))

@@ -29,8 +29,8 @@ unfoldable pub fixedColour : ℕ → Rgb
 fixedColour n = record { c1 = levelAt n 0; c2 = levelAt n 1; c3 = levelAt n 2 }
 
 -- "a table of 720 numbers, three a colour"
-unfoldable pub tableOf : List ℕ
-tableOf = listFrom 0 720 (λ j. levelAt (16 + j / 3) (j % 3))
+unfoldable pub fixedTable : List ℕ
+fixedTable = listFrom 0 720 (λ j. levelAt (16 + j / 3) (j % 3))
 
 -- "All 240 colours differ": each from every one before it
 unfoldable pub allDiffer : Bool

@@ -2,19 +2,19 @@
 use crate::fixed::COLOURS;
 ghost use mathlib.Core.Path.{_≡_};
 ghost use Prim.Native.Nat.{_<_};
-ghost use Rattle.terminal.specs.Colours.{tableOf};
+ghost use Rattle.terminal.specs.Colours.{fixedTable};
 ghost use Rattle.terminal.specs.Inner.{planeOf};
 
 // The table. No other function names the constant, which is written out wherever it is named.
 pub(crate) fn colours() -> [u8; 720]
-    ensures { λ r. ⌜ r ≡ tableOf ⌝ }
+    ensures { λ r. ⌜ r ≡ fixedTable ⌝ }
 {
     COLOURS
 }
 
 // Component d of each colour.
 pub(crate) fn plane(table: &[u8; 720], d: usize) -> [u8; 240]
-    requires { ⌜ (now table ≡ tableOf) × (d < 3) ⌝ }
+    requires { ⌜ (now table ≡ fixedTable) × (d < 3) ⌝ }
     ensures { λ r. ⌜ r ≡ planeOf d ⌝ }
 {
     let mut out = [0; 240];

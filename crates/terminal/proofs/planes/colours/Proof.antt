@@ -3,12 +3,12 @@
 use mathlib.Core.Path.{refl}
 use Rattle.basics.specs.Range.{listFrom}
 use Rattle.basics.specs.Dimension.{choose}
-use Rattle.terminal.specs.Colours.{levelOf, cubeLevel, greyLevel, levelAt, tableOf}
+use Rattle.terminal.specs.Colours.{levelOf, cubeLevel, greyLevel, levelAt, fixedTable}
 use Rattle.terminal.proofs.planes.colours.Statement.{statement}
 use Rattle.terminal.proofs.planes.colours.Tie as tie
 
 returns : tie.Need-returns
-unfolding tableOf listFrom levelAt cubeLevel greyLevel levelOf choose
+unfolding fixedTable listFrom levelAt cubeLevel greyLevel levelOf choose
 returns c = refl
 
 pub colours-spec : {M : Type 1} → statement M
