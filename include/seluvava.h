@@ -11,7 +11,8 @@
  * load counts colours into a table, and load_ppm those of a PPM file; merge adds a second table into a first, compare
  * tells where two tables differ, rescue clears what is damaged in a table, cut makes of a table a palette of at most
  * 256 colours and a map to it, and map and paint take the pixels of a frame to that palette. begin, reload and batch
- * record frames that were sampled at an interval, and replay does a whole list of such reloads and batches.
+ * record frames that were sampled at an interval, and replay does a whole list of such reloads and batches. nearest
+ * gives each colour of a palette its number in a terminal.
  * docs/CHOOSING.md has what to know first: which grid, what comes back inexactly, how to save a table.
  * docs/INTERVALS.md has a recording as an example, with every answer, and docs/RESCUE.md a night with one bad page of
  * memory.
@@ -43,8 +44,8 @@
  * enough for each, as tests/stack.c measures. Of a C library the archive takes memcpy and memset and nothing else; a
  * program without one brings these two.
  *
- * ANSWERS. What load, load_ppm, merge, rescue, batch, map and paint hand back, and ppm_header, compare, begin, reload,
- * replay and cut in `number`:
+ * ANSWERS. What load, load_ppm, merge, rescue, batch, map, paint and nearest hand back, and ppm_header, compare, begin,
+ * reload, replay and cut in `number`:
  *
  *   0  done
  *   1  a grid size not among the seven
@@ -359,6 +360,21 @@ uint8_t seluvava_paint(size_t b1, size_t b2, size_t b3,
                        const uint8_t *palette, size_t palette_len,
                        uint8_t *frame, size_t frame_len,
                        size_t first, size_t pixels);
+
+/*
+ * Nearest: writes for each colour of a palette the number of the closest of the 240 fixed colours that the common
+ * 256-colour terminal has, 16 to 255: the one with the smallest sum of the three squared differences, the lowest number
+ * on a tie. Number 16 + 36 * r + 6 * g + b has the levels 0, 95, 135, 175, 215, 255 at r, g and b, each from 0 to 5, and
+ * number 232 + i has 8 + 10 * i three times, for i from 0 to 23. Numbers 0 to 15, which vary between terminals, are never
+ * given. As background a number n is the escape ESC[48;5;nm, as text colour ESC[38;5;nm.
+ *
+ *   palette   3..768 bytes, a multiple of three; after a cut the first 3 * boxes bytes.
+ *   answers   at least one byte per colour. Colour i's number, at place i. Places past the colours stay as they were.
+ *
+ * Answers 0, 5.
+ */
+uint8_t seluvava_nearest(const uint8_t *palette, size_t palette_len,
+                         uint8_t *answers, size_t answers_len);
 
 #ifdef __cplusplus
 }

@@ -1,8 +1,8 @@
 /*
  * Every call of seluvava.h, held to docs/RULES.md: the cases P1 to P10, every number of every call, alone and two
  * at a time, lengths one off, NULL with length 0, bands, batches and frames of every length up to 200, every
- * recorded list of up to three entries out of ten, and PPM files cut at every byte and with every byte in the place of
- * each of their headers; and all of it once more with the processor's flush modes set.
+ * recorded list of up to three entries out of ten, PPM files cut at every byte and with every byte in the place of
+ * each of their headers, and palettes of every length; and all of it once more with the processor's flush modes set.
  * What a lent buffer must hold afterwards is said here once more, in C, by the same rules.
  */
 #define _DEFAULT_SOURCE
@@ -10,6 +10,7 @@
 
 #include "check.h"
 
+#include <limits.h>
 #include <math.h>
 #include <sys/mman.h>
 
@@ -34,7 +35,7 @@ struct asked {
     uint8_t reasons[65];
     uint8_t colours[3 * PIXELS], ppm[3 * PIXELS + 60];
     uint32_t weights[PIXELS], entries[24];
-    uint8_t answers[12], palette[780];
+    uint8_t answers[260], palette[780];
     uint32_t counts[260], remainders[780];
     uint8_t map[65], boxes[1560];
     double spreads[260];
@@ -60,7 +61,7 @@ static const struct {
 };
 
 /* Which buffers a call is lent, and which of them it may change. */
-enum call { LOAD, LOAD_PPM, MERGE, COMPARE, RESCUE, BATCH, REPLAY, CUT, MAPPING, PAINT, HEADER, CALLS };
+enum call { LOAD, LOAD_PPM, MERGE, COMPARE, RESCUE, BATCH, REPLAY, CUT, MAPPING, PAINT, HEADER, NEAREST, CALLS };
 #define BIT(n) (1u << (n))
 #define RESULTS (BIT(PALETTE) | BIT(COUNTS) | BIT(REMAINDERS) | BIT(MAP) | BIT(BOXES) | BIT(SPREADS))
 
@@ -80,6 +81,7 @@ static const struct {
     [MAPPING] = {"map", BIT(MAP) | BIT(FRAME) | BIT(INDICES), BIT(INDICES)},
     [PAINT] = {"paint", BIT(MAP) | BIT(PALETTE) | BIT(FRAME), BIT(FRAME)},
     [HEADER] = {"ppm_header", BIT(PPM), 0},
+    [NEAREST] = {"nearest", BIT(PALETTE) | BIT(ANSWERS), BIT(ANSWERS)},
 };
 
 /* What a call hands back, of whatever it has. */
@@ -145,9 +147,12 @@ static struct answer answer_of(enum call call, const struct asked *q, void *cons
         answer.number = seluvava_map(b1, b2, b3, at[MAP], length[MAP], q->told, at[FRAME], length[FRAME],
                                      at[INDICES], length[INDICES], q->first, q->pixels);
         break;
-    default:
+    case PAINT:
         answer.number = seluvava_paint(b1, b2, b3, at[MAP], length[MAP], at[PALETTE], length[PALETTE],
                                        at[FRAME], length[FRAME], q->first, q->pixels);
+        break;
+    default:
+        answer.number = seluvava_nearest(at[PALETTE], length[PALETTE], at[ANSWERS], length[ANSWERS]);
     }
     return answer;
 }
@@ -405,6 +410,30 @@ static void painted(struct asked *q)
         memcpy(q->frame + 3 * p, q->palette + 3 * q->map[place(q, q->frame + 3 * p)], 3);
 }
 
+/* The colour of a terminal's number, by the rule of the levels. */
+static void fixed_colour(unsigned number, int *colour)
+{
+    static const int levels[] = {0, 95, 135, 175, 215, 255};
+    const unsigned left = number - 16, steps[] = {left / 36, left / 6 % 6, left % 6};
+    for (size_t d = 0; d < 3; d++) colour[d] = number < 232 ? levels[steps[d]] : 8 + 10 * (int)(number - 232);
+}
+
+static void numbered(struct asked *q)
+{
+    for (size_t i = 0; i < q->length[PALETTE] / 3; i++) {
+        int least = INT_MAX;
+        for (unsigned number = 16; number < 256; number++) {
+            int colour[3], distance = 0;
+            fixed_colour(number, colour);
+            for (size_t d = 0; d < 3; d++) {
+                const int difference = q->palette[3 * i + d] - colour[d];
+                distance += difference * difference;
+            }
+            if (distance < least) least = distance, q->answers[i] = (uint8_t)number;
+        }
+    }
+}
+
 /* ---- Lending and asking */
 
 /* A buffer has no byte that is not lent, for AddressSanitizer; or it ends, or starts, at a page that is shut. */
@@ -472,7 +501,8 @@ static struct answer ask(enum call call, struct asked *q, unsigned number, const
     else if (call == REPLAY) replayed(q, answer.interval);
     else if (call == CUT) cut(q, answer, at[BOXES], at[SPREADS]);
     else if (call == MAPPING) mapped(q);
-    else painted(q);
+    else if (call == PAINT) painted(q);
+    else numbered(q);
     for (size_t b = 0; b < BUFFERS; b++) {
         const size_t size = q->length[b] * buffers[b].element;
         if (!(calls[call].lent & BIT(b)) || !size) continue;
@@ -641,7 +671,7 @@ static struct asked good(void)
 #define LOADS (BIT(LOAD) | BIT(BATCH))
 #define TABLES (LOADS | BIT(LOAD_PPM) | TWO | BIT(RESCUE) | BIT(REPLAY) | BIT(CUT))
 #define FRAMES (BIT(MAPPING) | BIT(PAINT))
-#define ALL (TABLES | FRAMES)
+#define GRIDS (TABLES | FRAMES)
 #define FILES (BIT(LOAD_PPM) | BIT(HEADER))
 
 /* Who looks at 32 bits alone takes it for n. */
@@ -688,12 +718,12 @@ static const struct change {
     {BIT(BATCH), 14, "interval 3 and 65,536 in force", PUT(in_force, 65539)},
     {BIT(BATCH), 14, "interval 1", PUT(own, 1)},
     {BIT(BATCH), 14, "interval 4,096", PUT(own, 4096)},
-    {ALL, 1, "first size 1", PUT(b1, 1)},
-    {ALL, 1, "first size 4 and 2^32", PUT(b1, MORE_THAN(4))},
-    {ALL, 1, "second size 0", PUT(b2, 0)},
-    {ALL, 1, "second size 3", PUT(b2, 3)},
-    {ALL, 1, "third size 256", PUT(b3, 256)},
-    {ALL, 1, "third size the largest number", PUT(b3, SIZE_MAX)},
+    {GRIDS, 1, "first size 1", PUT(b1, 1)},
+    {GRIDS, 1, "first size 4 and 2^32", PUT(b1, MORE_THAN(4))},
+    {GRIDS, 1, "second size 0", PUT(b2, 0)},
+    {GRIDS, 1, "second size 3", PUT(b2, 3)},
+    {GRIDS, 1, "third size 256", PUT(b3, 256)},
+    {GRIDS, 1, "third size the largest number", PUT(b3, SIZE_MAX)},
     {BIT(CUT), 2, "k 0", PUT(k, 0)},
     {BIT(CUT), 2, "k 257", PUT(k, 257)},
     {BIT(CUT), 2, "k 3 and 2^32", PUT(k, MORE_THAN(3))},
@@ -706,7 +736,7 @@ static const struct change {
     {LOADS, 4, "weights one long", PUT(length[WEIGHTS], 6)},
     {LOADS, 4, "no weights", PUT(length[WEIGHTS], 0)},
     {LOADS, 4, "one colour", PUT(length[COLOURS], 3)},
-    {ALL, 5, "another grid", PUT(b1, 2)},
+    {GRIDS, 5, "another grid", PUT(b1, 2)},
     {TABLES, 5, "table one short", PUT(length[TABLE], 319)},
     {TABLES, 5, "table one long", PUT(length[TABLE], 321)},
     {TABLES, 5, "no table", PUT(length[TABLE], 0)},
@@ -758,10 +788,13 @@ static const struct change {
     {BIT(CUT) | FRAMES, 5, "map one short", PUT(length[MAP], 63)},
     {BIT(CUT) | FRAMES, 5, "map one long", PUT(length[MAP], 65)},
     {BIT(CUT) | FRAMES, 5, "no map", PUT(length[MAP], 0)},
-    {BIT(CUT) | BIT(PAINT), 5, "no palette", PUT(length[PALETTE], 0)},
-    {BIT(PAINT), 5, "palette of two bytes", PUT(length[PALETTE], 2)},
-    {BIT(PAINT), 5, "palette no multiple of three", PUT(length[PALETTE], 10)},
-    {BIT(PAINT), 5, "palette of 257 colours", PUT(length[PALETTE], 771)},
+    {BIT(CUT) | BIT(PAINT) | BIT(NEAREST), 5, "no palette", PUT(length[PALETTE], 0)},
+    {BIT(PAINT) | BIT(NEAREST), 5, "palette of two bytes", PUT(length[PALETTE], 2)},
+    {BIT(PAINT) | BIT(NEAREST), 5, "palette no multiple of three", PUT(length[PALETTE], 10)},
+    {BIT(PAINT) | BIT(NEAREST), 5, "palette of 257 colours", PUT(length[PALETTE], 771)},
+    {BIT(NEAREST), 5, "palette of one entry more than answers", PUT(length[PALETTE], 21)},
+    {BIT(NEAREST), 5, "answers one fewer than entries", PUT(length[ANSWERS], 2)},
+    {BIT(NEAREST), 5, "no answers", PUT(length[ANSWERS], 0)},
     {BIT(MAPPING), 5, "0 colours", PUT(told, 0)},
     {BIT(MAPPING), 5, "257 colours", PUT(told, 257)},
     {BIT(MAPPING), 5, "3 colours and 2^32", PUT(told, MORE_THAN(3))},
@@ -842,6 +875,9 @@ static const struct change {
     {BIT(REPLAY), 0, "answers three bytes long", PUT(length[ANSWERS], 9)},
     {BIT(CUT), 0, "k 1", PUT(k, 1)},
     {BIT(CUT) | BIT(PAINT), 0, "palette of 256 colours", PUT(length[PALETTE], 768)},
+    {BIT(NEAREST), 0, "palette of one entry", PUT(length[PALETTE], 3)},
+    {BIT(NEAREST), 0, "palette of as many entries as answers", PUT(length[PALETTE], 18)},
+    {BIT(NEAREST), 0, "answers as many as entries", PUT(length[ANSWERS], 3)},
     {BIT(CUT), 0, "palette one byte long", PUT(length[PALETTE], 10)},
     {BIT(CUT), 0, "counts one long", PUT(length[COUNTS], 4)},
     {BIT(CUT), 0, "remainders one long", PUT(length[REMAINDERS], 10)},
@@ -1168,6 +1204,45 @@ static void ask_counts(void)
     }
 }
 
+/* ---- The colours of a terminal */
+
+static void ask_nearest(size_t entries, const char *words)
+{
+    struct asked q = good();
+    q.length[PALETTE] = 3 * entries;
+    q.length[ANSWERS] = entries + 1;
+    for (size_t i = 0; i < entries; i++) {
+        int colour[3];
+        fixed_colour(16 + (unsigned)(entries + i) % 240, colour);
+        for (size_t d = 0; d < 3; d++) q.palette[3 * i + d] = (uint8_t)(colour[d] + (int)(i / 240));
+    }
+    ask(NEAREST, &q, entries < 1 || 256 < entries ? 5 : 0, words, "fixed colours");
+    for (size_t i = 0; i < 3 * entries; i++) q.palette[i] = (uint8_t)(37 * (i + entries) + i / 3);
+    ask(NEAREST, &q, entries < 1 || 256 < entries ? 5 : 0, words, "colours of every kind");
+}
+
+/* Palettes of every length, the 240 colours themselves, and every grey. */
+static void ask_terminal(void)
+{
+    struct asked q = good();
+    for (size_t entries = 0; entries < 260; entries++) {
+        char words[40];
+        snprintf(words, sizeof words, "palette of %zu entries", entries);
+        ask_nearest(entries, words);
+    }
+    q.length[PALETTE] = 720, q.length[ANSWERS] = 240;
+    for (unsigned number = 16; number < 256; number++) {
+        int colour[3];
+        fixed_colour(number, colour);
+        for (size_t d = 0; d < 3; d++) q.palette[3 * (number - 16) + d] = (uint8_t)colour[d];
+    }
+    ask(NEAREST, &q, 0, "the 240 colours", "");
+    for (size_t i = 0; i < 240; i++) check(q.answers[i] == 16 + i, "colour %zu has number %u", 16 + i, q.answers[i]);
+    q.length[PALETTE] = 768, q.length[ANSWERS] = 256;
+    for (size_t i = 0; i < 768; i++) q.palette[i] = (uint8_t)(i / 3);
+    ask(NEAREST, &q, 0, "every grey", "");
+}
+
 /* ---- Batches, bands and frames of every length */
 
 /* Weights that are not given are not looked at, however many are lent. */
@@ -1329,6 +1404,7 @@ static void ask_all(void)
     ask_sessions();
     ask_lists();
     ask_counts();
+    ask_terminal();
     ask_plain();
     for (size_t i = 0; i < COUNT(bands); i++)
         ask_band(bands[i].frame, bands[i].first, bands[i].pixels, bands[i].number);

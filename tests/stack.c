@@ -29,7 +29,7 @@ struct lent {
     uint32_t weights[PIXELS], counts[K], remainders[3 * K];
     uint32_t entries[6 * BATCHES];
     uint8_t answers[2 * BATCHES];
-    uint8_t palette[3 * K], map[BINS], boxes[6 * K];
+    uint8_t palette[3 * K], map[BINS], boxes[6 * K], numbers[K];
     double spreads[K];
     size_t answer, found;
 };
@@ -139,6 +139,11 @@ static void paint(struct lent *l)
                                0, PIXELS);
 }
 
+static void nearest(struct lent *l)
+{
+    l->answer = seluvava_nearest(l->palette, COUNT(l->palette), l->numbers, COUNT(l->numbers));
+}
+
 static const struct call {
     const char *name;
     void (*make)(struct lent *);
@@ -160,6 +165,7 @@ static const struct call {
     {"cut", cut, 0},
     {"map", map, 0},
     {"paint", paint, 0},
+    {"nearest", nearest, 0},
 };
 
 /* ---- The small stack */

@@ -16,6 +16,7 @@ mod recording;
 mod report;
 mod rescue;
 mod side;
+mod terminal;
 #[cfg(feature = "original")]
 mod theirs;
 #[cfg(feature = "original")]
@@ -124,6 +125,8 @@ fn main() -> ExitCode {
     let mut rows = Vec::new();
     for sizes in GRIDS {
         let wanted = |o: &Operation| match &asked.only {
+            // it has no grid, and stands in one table
+            _ if *o == Operation::Nearest && sizes != GRIDS[0] => false,
             None => true,
             Some(text) => format!("{} {o}", report::grid(sizes)).contains(text),
         };

@@ -4,6 +4,7 @@ use crate::{
     recording::Recording,
     rescue::Rescue,
     side::{Answer, Lent, MOST, Operation, Side, Sizes, touch},
+    terminal::Terminal,
 };
 use seluvava_sys::{
     seluvava_bins, seluvava_compare, seluvava_cut, seluvava_load, seluvava_map, seluvava_merge,
@@ -200,6 +201,7 @@ pub struct Ours {
     rescue: Rescue,
     recording: Recording,
     ppm: Ppm,
+    terminal: Terminal,
     cut: Cut,
     /// What maps and paints read.
     kept: Cut,
@@ -222,6 +224,7 @@ impl Ours {
             rescue: Rescue::new(sizes, loaded.clone()),
             recording: Recording::new(),
             ppm: Ppm::new(&lent.frame),
+            terminal: Terminal::new(&lent.frame),
             loaded,
             second,
             cut,
@@ -265,6 +268,7 @@ impl Side for Ours {
                 touch(&self.loaded);
             }
             Operation::Map | Operation::Paint => touch(&self.kept.map),
+            Operation::Nearest => self.terminal.prepare(),
             Operation::Whole { anew: false } => {
                 self.table.fill(u64::MAX);
                 self.cut.reset();
@@ -291,6 +295,7 @@ impl Side for Ours {
             Operation::Cut(k) => self.cut.run(sizes, k, &self.loaded),
             Operation::Map => self.kept.map(sizes, lent),
             Operation::Paint => self.kept.paint(sizes, lent),
+            Operation::Nearest => self.terminal.by_call(),
             Operation::Whole { anew } => {
                 if anew {
                     self.make_anew();
@@ -322,6 +327,7 @@ impl Side for Ours {
                 answer.bytes.extend(self.cut.colours());
                 answer.bytes.extend(&self.cut.map);
             }
+            Operation::Nearest => self.terminal.answer(answer),
             Operation::Map | Operation::Paint => {}
         }
     }

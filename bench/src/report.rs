@@ -52,6 +52,7 @@ impl Row {
             (Operation::Cut(256), ON_A_COPY) => Some([1.0; 3]),
             (Operation::Cut(256), IN_PLACE) => Some([1.1; 3]),
             (Operation::Map | Operation::Paint, _) => Some([1.0, 1.0, 0.65]),
+            (Operation::Nearest, _) => Some([0.8; 3]),
             (Operation::Whole { .. }, _) => Some([1.1, 0.9, 0.55]),
             _ => None,
         }

@@ -22,13 +22,15 @@ pub enum Operation {
     Cut(usize),
     Map,
     Paint,
+    /// The numbers of 256 colours in a terminal; the other side is a plain loop.
+    Nearest,
     /// From pixels to indices. Our side makes its tables anew in the run, or was lent them.
     Whole {
         anew: bool,
     },
 }
 
-pub const OPERATIONS: [Operation; 15] = [
+pub const OPERATIONS: [Operation; 16] = [
     Operation::Load,
     Operation::LoadWeighted,
     Operation::LoadPpm,
@@ -42,6 +44,7 @@ pub const OPERATIONS: [Operation; 15] = [
     Operation::Cut(256),
     Operation::Map,
     Operation::Paint,
+    Operation::Nearest,
     Operation::Whole { anew: false },
     Operation::Whole { anew: true },
 ];
@@ -64,6 +67,7 @@ impl fmt::Display for Operation {
             Operation::Cut(k) => write!(f, "cut, k = {k}"),
             Operation::Map => f.write_str("map"),
             Operation::Paint => f.write_str("paint"),
+            Operation::Nearest => f.write_str("nearest"),
             Operation::Whole { anew: false } => {
                 f.write_str("pixels to indices, our table lent and cleared")
             }
@@ -110,7 +114,8 @@ impl Lent {
             | Operation::Compare
             | Operation::Rescue { .. }
             | Operation::Moments
-            | Operation::Cut(_) => {}
+            | Operation::Cut(_)
+            | Operation::Nearest => {}
         }
     }
 

@@ -4,6 +4,7 @@ use crate::{
     plain::Plain,
     rescue::Rescue,
     side::{Answer, Lent, MOST, Operation, Side, Sizes, touch},
+    terminal::Terminal,
     triples::Triples,
 };
 use oracle::{
@@ -39,6 +40,7 @@ struct Theirs<const B1: usize, const B2: usize, const B3: usize> {
     rescue: Rescue,
     one_load: OneLoad,
     triples: Triples,
+    terminal: Terminal,
     cut: Option<Colours<B1, B2, B3>>,
     /// What maps and paints read.
     kept: WuU8x3ColorMap<[u8; 3], B1, B2, B3>,
@@ -94,6 +96,7 @@ impl<const B1: usize, const B2: usize, const B3: usize> Theirs<B1, B2, B3> {
             rescue,
             one_load: OneLoad::new([B1, B2, B3], &lent.weights),
             triples: Triples::new([B1, B2, B3], &lent.frame),
+            terminal: Terminal::new(&lent.frame),
             cut: None,
             kept,
         }
@@ -136,6 +139,7 @@ impl<const B1: usize, const B2: usize, const B3: usize> Side for Theirs<B1, B2, 
             }
             Operation::Moments | Operation::Cut(_) => self.load_again(),
             Operation::Map | Operation::Paint => touch(self.kept.map()),
+            Operation::Nearest => self.terminal.prepare(),
             Operation::Whole { .. } => {}
         }
     }
@@ -158,6 +162,7 @@ impl<const B1: usize, const B2: usize, const B3: usize> Side for Theirs<B1, B2, 
             }
             Operation::Map => map(&self.kept, lent),
             Operation::Paint => self.kept.map_slice_in_place(&mut lent.painted),
+            Operation::Nearest => self.terminal.by_loop(),
             Operation::Whole { .. } => {
                 let run = run::<B1, B2, B3>(&lent.frame);
                 let (colours, counts) = run.color_map_and_counts(most(MOST));
@@ -182,6 +187,7 @@ impl<const B1: usize, const B2: usize, const B3: usize> Side for Theirs<B1, B2, 
                 answer.bytes.extend(colours.palette().as_flattened());
                 answer.bytes.extend(colours.map());
             }
+            Operation::Nearest => self.terminal.answer(answer),
             Operation::Map | Operation::Paint => {}
         }
     }

@@ -31,6 +31,8 @@ pub enum Kind {
         header: Vec<u8>,
         damages: Vec<Damage>,
     },
+    /// The colours as a palette, with some stray bytes, and a list of so many answers.
+    Palettes { stray: usize, answers: usize },
 }
 
 /// One case. `seed` decides what stands in lent buffers, and how an input is shuffled and split.
@@ -136,6 +138,7 @@ impl fmt::Display for Case {
                 write!(f, "; split {split}")?;
                 write_damages(f, damages)
             }
+            Kind::Palettes { stray, answers } => write!(f, "; stray {stray}; answers {answers}"),
         }
     }
 }
@@ -200,6 +203,10 @@ impl Case {
             },
             (None, None, None, None) if field("damages").is_some() => Kind::Rescues {
                 damages: damages()?,
+            },
+            _ if one("stray").is_some() => Kind::Palettes {
+                stray: one("stray")? as usize,
+                answers: one("answers")? as usize,
             },
             _ => Kind::Whole {
                 by_pixels: one("pixels")? != 0,

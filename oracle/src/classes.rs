@@ -1,5 +1,6 @@
 //! Makes the cases of each class.
 mod damages;
+mod palettes;
 pub mod ppm;
 mod recordings;
 
@@ -30,7 +31,7 @@ const fn class(name: &'static str, cases: Cases) -> Class {
 }
 
 /// The classes; README.md says what their cases are.
-pub const CLASSES: [Class; 23] = [
+pub const CLASSES: [Class; 26] = [
     class("tiny", Cases::Random(tiny)),
     class("few", Cases::Random(few)),
     class("equal", Cases::Random(equal)),
@@ -50,10 +51,13 @@ pub const CLASSES: [Class; 23] = [
     class("rescues", Cases::Random(rescues)),
     class("recordings", Cases::Random(recordings::one)),
     class("ppm", Cases::Random(ppm::one)),
+    class("palettes", Cases::Random(palettes::one)),
+    class("levels", Cases::Listed(palettes::levels)),
     class("width", Cases::Listed(width)),
     class("known", Cases::Listed(known)),
     class("corners", Cases::Listed(corners)),
     class("pixels", Cases::OnlyNamed(pixels)),
+    class("every-colour", Cases::OnlyNamed(palettes::every_colour)),
 ];
 
 /// Totals about which cases stand: where the sign of a spread may go wrong, where the original's sums change their

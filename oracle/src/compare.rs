@@ -1,10 +1,11 @@
-//! Runs one case: whole, call by call, two tables compared, a damaged one rescued, recorded by intervals, or from a
-//! file.
+//! Runs one case: whole, call by call, two tables compared, a damaged one rescued, recorded by intervals, from a file,
+//! or a palette for a terminal.
 use crate::{
     buffer::Differs,
     calls::calls,
     case::{Case, Kind},
     nights::nights,
+    palettes::palettes,
     port::Port,
     ppm::ppm,
     recordings::recordings,
@@ -50,6 +51,7 @@ pub fn check(port: &dyn Port, case: &Case, tally: &mut Tally) -> Result<(), Diff
             header,
             damages,
         } => ppm(port, case, *split, header, damages, tally),
+        Kind::Palettes { stray, answers } => palettes(port, case, *stray, *answers, tally),
     });
     catch_unwind(run).unwrap_or_else(|panic| Err(said(panic)))
 }

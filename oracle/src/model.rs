@@ -229,6 +229,15 @@ fn fields(file: &[u8]) -> Option<([u64; 3], usize)> {
 
 pub struct Model;
 
+/// The colour of a terminal's number, 16 to 255 (Rules, Terminal).
+fn fixed_colour(number: u8) -> [u8; 3] {
+    let level = |step: u8| [0, 95, 135, 175, 215, 255][usize::from(step)];
+    match number.checked_sub(232) {
+        Some(i) => [8 + 10 * i; 3],
+        None => [(number - 16) / 36, (number - 16) / 6 % 6, (number - 16) % 6].map(level),
+    }
+}
+
 impl Port for Model {
     fn sizes(&self, grid: Grid) -> (usize, usize) {
         numbers::sizes(grid)
@@ -360,6 +369,27 @@ impl Port for Model {
             for pixel in &mut pixels[band.first..band.first + band.pixels] {
                 let index = usize::from(map[place(grid, *pixel)]);
                 *pixel = palette.as_chunks::<3>().0[index];
+            }
+        }
+        number
+    }
+
+    fn nearest(&self, palette: &[u8], answers: &mut [u8]) -> u8 {
+        let number = numbers::nearest(palette.len(), answers.len());
+        if number == 0 {
+            for (answer, &[r, g, b]) in answers.iter_mut().zip(palette.as_chunks::<3>().0) {
+                let square = |a: u8, b: u8| i32::from(a.abs_diff(b)).pow(2);
+                let distance = |n: u8| {
+                    let [x, y, z] = fixed_colour(n);
+                    square(r, x) + square(g, y) + square(b, z)
+                };
+                let mut best = 16;
+                for n in 17..=255 {
+                    if distance(n) < distance(best) {
+                        best = n;
+                    }
+                }
+                *answer = best;
             }
         }
         number

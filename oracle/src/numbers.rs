@@ -242,3 +242,11 @@ pub fn paint(grid: Grid, map: &[u8], palette: usize, frame: usize, band: Band) -
         (&|| !all_below(map, palette / 3), 9),
     ])
 }
+
+pub fn nearest(palette: usize, answers: usize) -> u8 {
+    lowest(&[
+        (&|| !(3..=768).contains(&palette), 5),
+        (&|| !palette.is_multiple_of(3), 5),
+        (&|| answers < palette / 3, 5),
+    ])
+}

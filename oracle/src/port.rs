@@ -116,4 +116,6 @@ pub trait Port {
     ) -> u8;
 
     fn paint(&self, grid: Grid, map: &[u8], palette: &[u8], frame: &mut [u8], band: Band) -> u8;
+
+    fn nearest(&self, palette: &[u8], answers: &mut [u8]) -> u8;
 }

@@ -50,8 +50,8 @@ pub fn shrink(case: &Case, differs: &dyn Fn(&Case) -> bool) -> Case {
     }
 }
 
-/// Whether the judge has the grid, k is in its bounds and the band in the frame. A comparison, a rescue, a recording
-/// and a file ask no original.
+/// Whether the judge has the grid, k is in its bounds and the band in the frame. A comparison, a rescue, a recording, a
+/// file and a palette ask no original.
 fn is_fit(case: &Case) -> bool {
     let pixels: usize = case.frame.iter().map(|f| f.1).sum();
     let colours = case.input.colors.len();
@@ -68,6 +68,7 @@ fn is_fit(case: &Case) -> bool {
             Kind::Recordings { split, entries, .. } => {
                 *split + entries.iter().map(|e| e[2] as usize).sum::<usize>() == colours
             }
+            Kind::Palettes { .. } => true,
         }
 }
 
@@ -79,7 +80,7 @@ fn without(case: &Case, at: usize, count: usize) -> Case {
     other.input.weights.drain(at..end);
     let fewer = |split: &mut usize| *split -= (*split).clamp(at, end) - at;
     match &mut other.kind {
-        Kind::Whole { .. } | Kind::Rescues { .. } => {}
+        Kind::Whole { .. } | Kind::Rescues { .. } | Kind::Palettes { .. } => {}
         Kind::Calls { split, .. } | Kind::Ppm { split, .. } => fewer(split),
         Kind::Nights { from, split, .. } => {
             fewer(from);
@@ -157,7 +158,7 @@ fn plain(case: &Case, split: usize, pixels: usize) -> Case {
 }
 
 /// Nothing by pixels, fewer batches, or fewer damages; fewer entries of a recorded list, or smaller intervals; fewer
-/// pixels of a file, fewer bytes of its header, or a blank or a 1 among them.
+/// pixels of a file, fewer bytes of its header, or a blank or a 1 among them; fewer stray bytes or answers.
 fn kinds(case: &Case) -> Vec<Case> {
     let mut list = Vec::new();
     match &case.kind {
@@ -294,6 +295,18 @@ fn kinds(case: &Case) -> Vec<Case> {
                 };
                 list.push(filed(case, |_, header, _| header[i] = simple));
             }
+        }
+        Kind::Palettes { stray, answers } => {
+            list.extend(with(case, *stray, |c, n| {
+                if let Kind::Palettes { stray, .. } = &mut c.kind {
+                    *stray = n;
+                }
+            }));
+            list.extend(with(case, *answers, |c, n| {
+                if let Kind::Palettes { answers, .. } = &mut c.kind {
+                    *answers = n;
+                }
+            }));
         }
     }
     list.retain(|c| c.kind != case.kind);

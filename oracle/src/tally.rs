@@ -19,7 +19,7 @@ pub struct Tally {
 }
 
 /// The calls whose numbers are counted.
-pub const CALLS: [&str; 15] = [
+pub const CALLS: [&str; 16] = [
     "load",
     "merge",
     "cut",
@@ -35,6 +35,7 @@ pub const CALLS: [&str; 15] = [
     "entries",
     "ppm_header",
     "load_ppm",
+    "nearest",
 ];
 
 impl Tally {

@@ -162,6 +162,10 @@ impl Port for Faulty {
         }
         number
     }
+
+    fn nearest(&self, palette: &[u8], answers: &mut [u8]) -> u8 {
+        Model.nearest(palette, answers)
+    }
 }
 
 #[test]

@@ -7,6 +7,7 @@
 //! any batches and any merge tree, as long as nothing is refused, they give the same palette in the same order.
 //! A [`Recorder`] counts frames that were sampled at an interval, and refuses a batch that was sampled at another.
 //! Frames that are stored as [PPM files](ppm) are [loaded](Table::load_ppm) as they are.
+//! The module [`terminal`] has a palette in the fixed colours of a terminal.
 //!
 //! The work is done by code in Rattle, a language in which every function is proved to meet its contract: that it
 //! follows the written rules, whatever it is given. It is linked as a static library, and this crate only lends it
@@ -80,6 +81,7 @@ mod rescue;
 #[allow(unsafe_code)]
 mod sys;
 mod table;
+pub mod terminal;
 
 pub use colour_map::ColourMap;
 pub use comparison::{BinDifference, Comparison};

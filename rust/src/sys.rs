@@ -10,8 +10,9 @@
 use crate::{Grid, Refused, ppm};
 use seluvava_sys::{
     Session, SessionAnswer, seluvava_batch, seluvava_begin, seluvava_bins, seluvava_compare,
-    seluvava_cut, seluvava_load, seluvava_load_ppm, seluvava_map, seluvava_merge, seluvava_paint,
-    seluvava_ppm_header, seluvava_reload, seluvava_replay, seluvava_rescue, seluvava_table_len,
+    seluvava_cut, seluvava_load, seluvava_load_ppm, seluvava_map, seluvava_merge, seluvava_nearest,
+    seluvava_paint, seluvava_ppm_header, seluvava_reload, seluvava_replay, seluvava_rescue,
+    seluvava_table_len,
 };
 
 /// The bins of a grid, or 0 where it is refused.
@@ -355,6 +356,21 @@ pub fn paint(
             frame.len(),
             band.first,
             band.pixels,
+        )
+    };
+    Refused::unless_done(number)
+}
+
+/// Writes the number of the terminal's nearest colour for each colour of a palette.
+pub fn nearest(palette: &[[u8; 3]], answers: &mut [u8]) -> Result<(), Refused> {
+    let palette = palette.as_flattened();
+    // SAFETY: pointers and lengths are those of slices, and `answers` is the only one that is written.
+    let number = unsafe {
+        seluvava_nearest(
+            palette.as_ptr(),
+            palette.len(),
+            answers.as_mut_ptr(),
+            answers.len(),
         )
     };
     Refused::unless_done(number)

@@ -6,8 +6,7 @@ use Prim.Native.Nat.{ℕ, suc, _+_, _≤_}
 use native.Mathlib.Omega.{arith}
 use lib.ListN.{length, drop, set, length-append}
 use lib.Seq.{sets, sets-eq, length-sets}
-use Rattle.lines.specs.Text.{withText}
-use Rattle.lines.specs.Inner.{Put}
+use Rattle.lines.specs.Text.{withText, Put}
 
 sets-append : (a : List ℕ) (i : ℕ) (xs ys : List ℕ) → sets (sets a i xs) (i + length xs) ys ≡ sets a i (xs ++ ys)
 sets-append a i [] ys = ap (λ (k : ℕ). sets a k ys) (omega arith)

@@ -37,12 +37,12 @@ lower-same (suc n) zero h l = absurd (omega arith)
 lower-same (suc n) (suc m) h l = omega arith
 
 -- ---- the text
-when-refused : {A : Type 0} (n : ℕ) (x y : A) → (n ≡ 0 → ⊥) → whenDone n x y ≡ y
+pub when-refused : {A : Type 0} (n : ℕ) (x y : A) → (n ≡ 0 → ⊥) → whenDone n x y ≡ y
 unfolding whenDone
 when-refused zero x y h = absurd (h refl)
 when-refused (suc n) x y h = refl
 
-when-done : {A : Type 0} (n : ℕ) (x y : A) → n ≡ 0 → whenDone n x y ≡ x
+pub when-done : {A : Type 0} (n : ℕ) (x y : A) → n ≡ 0 → whenDone n x y ≡ x
 unfolding whenDone
 when-done zero x y e = refl
 when-done (suc n) x y e = absurd (omega arith)

@@ -1,9 +1,11 @@
 -- The text that the listing program writes (Rules, Listing), as a list of bytes. Definitions only.
+use mathlib.Core.Path.{_≡_}
 use mathlib.Core.Bool.{cond}
 use mathlib.Core.List.{List, [], _∷_, _++_}
 use Prim.Native.Nat.{ℕ, zero, suc, _+_, _*_, _/_, _%_}
 use lib.Dec.{ltb}
 use lib.ListN.{length, getD, drop}
+use lib.Seq.{sets}
 use Rattle.basics.specs.Range.{sumFrom}
 
 -- ---- decimals
@@ -78,3 +80,13 @@ refusedOf number = namedOf refusedWord number ++ newline
 -- a lent buffer with a text at its start, and after it what stood there
 unfoldable pub withText : List ℕ → List ℕ → List ℕ
 withText text old = text ++ drop (length text) old
+
+-- ---- a text that is put into a buffer, part by part
+-- the buffer `before` with a text from place `at` on is `after`, and the place behind the text is `end`
+pub record Put (before : List ℕ) (at : ℕ) (text after : List ℕ) (end : ℕ) : Type 0 where
+  pub later : after ≡ sets before at text
+  pub ends : end ≡ at + length text
+
+-- every line has room in so many bytes
+abbrev pub lineRoom : ℕ
+lineRoom = 128

@@ -7,9 +7,11 @@ ghost use mathlib.Core.Path.{_≡_};
 ghost use Prim.Native.Nat.{_+_, _*_, _≤_, _<_};
 ghost use lib.ListN.{length};
 ghost use Rattle.lines.specs.Text.{headOf, lineOf, lineAt, totalOf, listingOf, refusedOf, withText};
-ghost use Rattle.lines.specs.Inner.{Put, RoomForLines, lineRoom};
+ghost use Rattle.lines.specs.Text.{Put, lineRoom};
+ghost use Rattle.lines.specs.Inner.{RoomForLines};
 
-fn head(out: &mut [u8], boxes: u64, total: u64, rounds: u64) -> usize
+// The first line.
+pub fn head(out: &mut [u8], boxes: u64, total: u64, rounds: u64) -> usize
     requires { ⌜ lineRoom ≤ length (now out) ⌝ }
     ensures put { λ r. ⌜ Put (now (out .entry)) 0 (headOf boxes total rounds) (now (out .exit)) r ⌝ }
     ensures fits { λ r. ⌜ r ≤ lineRoom ⌝ }
@@ -34,7 +36,7 @@ fn line(out: &mut [u8], at: usize, index: u64, red: u8, green: u8, blue: u8, cou
 }
 
 // The line of box i.
-fn box_line(out: &mut [u8], at: usize, i: usize, palette: &[u8], counts: &[u32]) -> usize
+pub fn box_line(out: &mut [u8], at: usize, i: usize, palette: &[u8], counts: &[u32]) -> usize
     requires room { ⌜ at + lineRoom ≤ length (now out) ⌝ }
     requires there { ⌜ (3 * i + 2 < length (now palette)) × (i < length (now counts)) ⌝ }
     ensures put { λ r. ⌜ Put (now (out .entry)) at (lineAt (now (palette .entry)) (now (counts .entry)) i)
@@ -48,7 +50,7 @@ fn box_line(out: &mut [u8], at: usize, i: usize, palette: &[u8], counts: &[u32])
 }
 
 // The weight of the first boxes together.
-fn total(boxes: usize, counts: &[u32]) -> u64
+pub fn total(boxes: usize, counts: &[u32]) -> u64
     requires { ⌜ (boxes ≤ 256) × (boxes ≤ length (now counts)) ⌝ }
     ensures { λ r. ⌜ r ≡ totalOf (now (counts .entry)) boxes ⌝ }
 {
@@ -62,7 +64,13 @@ fn total(boxes: usize, counts: &[u32]) -> u64
 }
 
 // Puts the whole listing at the start of a buffer, and answers its length.
-pub fn listing(boxes: usize, rounds: usize, palette: &[u8], counts: &[u32], out: &mut [u8]) -> usize
+pub(crate) fn listing(
+    boxes: usize,
+    rounds: usize,
+    palette: &[u8],
+    counts: &[u32],
+    out: &mut [u8],
+) -> usize
     requires { ⌜ RoomForLines boxes (now palette) (now counts) (now out) ⌝ }
     ensures ends { λ r. ⌜ r ≡ length (listingOf boxes rounds (now (palette .entry)) (now (counts .entry))) ⌝ }
     ensures later { λ r. ⌜ now (out .exit)

@@ -3,10 +3,9 @@ ghost use mathlib.Core.Path.{_≡_};
 ghost use mathlib.Core.List.{[], _∷_};
 ghost use Prim.Native.Nat.{_+_, _%_, _≤_, _<_};
 ghost use lib.ListN.{length};
-ghost use Rattle.lines.specs.Text.{decimalOf, fieldOf, namedOf};
-ghost use Rattle.lines.specs.Inner.{Put};
+ghost use Rattle.lines.specs.Text.{decimalOf, fieldOf, namedOf, Put};
 
-pub fn byte(out: &mut [u8], at: usize, value: u8) -> usize
+pub(crate) fn byte(out: &mut [u8], at: usize, value: u8) -> usize
     requires { ⌜ at < length (now out) ⌝ }
     ensures { λ r. ⌜ Put (now (out .entry)) at (value ∷ []) (now (out .exit)) r ⌝ }
 {
@@ -14,6 +13,7 @@ pub fn byte(out: &mut [u8], at: usize, value: u8) -> usize
     at + 1
 }
 
+// Some bytes.
 pub fn word(out: &mut [u8], at: usize, bytes: &[u8]) -> usize
     requires { ⌜ at + length (now bytes) ≤ length (now out) ⌝ }
     ensures { λ r. ⌜ Put (now (out .entry)) at (now (bytes .entry)) (now (out .exit)) r ⌝ }
@@ -45,7 +45,7 @@ fn digits(out: &mut [u8], at: usize, n: u64) -> usize
     byte(out, last, last_digit(n))
 }
 
-pub fn number(out: &mut [u8], at: usize, n: u64) -> usize
+pub(crate) fn number(out: &mut [u8], at: usize, n: u64) -> usize
     requires { ⌜ at + 20 ≤ length (now out) ⌝ }
     ensures put { λ r. ⌜ Put (now (out .entry)) at (decimalOf n) (now (out .exit)) r ⌝ }
     ensures fits { λ r. ⌜ r ≤ at + 20 ⌝ }
@@ -54,7 +54,7 @@ pub fn number(out: &mut [u8], at: usize, n: u64) -> usize
 }
 
 // A number after a space.
-pub fn field(out: &mut [u8], at: usize, n: u64) -> usize
+pub(crate) fn field(out: &mut [u8], at: usize, n: u64) -> usize
     requires { ⌜ at + 21 ≤ length (now out) ⌝ }
     ensures put { λ r. ⌜ Put (now (out .entry)) at (fieldOf n) (now (out .exit)) r ⌝ }
     ensures fits { λ r. ⌜ r ≤ at + 21 ⌝ }

@@ -1,6 +1,6 @@
 // Lists the palette of the colours on standard input: bare RGB triples or, where the program is started with the word
 // `--ppm`, a PPM. This file reads and writes; what is decided of the input is the crate `inputs`, what is loaded and
-// what is said of it `lines`.
+// what is said of it `lines` and, for a terminal, `swatches`.
 use libc::STDERR_FILENO;
 use libc::STDIN_FILENO;
 use libc::STDOUT_FILENO;
@@ -257,9 +257,14 @@ fn list(table: &[u64], number: u8, failed: bool) {
         complain(b"standard input could not be read");
         return;
     }
-    let mut text = [0; 2176];
-    let n = lines::text::text(table, number, &mut text);
-    write(&text[0..n]);
+    let mut text = [0; 2752];
+    if has_argument(b"--terminal") {
+        let n = swatches::text::swatch_text(table, number, &mut text);
+        write(&text[0..n]);
+    } else {
+        let n = lines::text::text(table, number, &mut text);
+        write(&text[0..n]);
+    }
 }
 
 // Lists a PPM. Where the header tells no image there is nothing to load.

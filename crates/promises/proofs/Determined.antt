@@ -73,10 +73,18 @@ use Rattle.painter.proofs.call.paint as paint
 use Rattle.inputs.proofs.looks.begins_with as begins-with
 use Rattle.inputs.proofs.frames.to_front as to-front
 use Rattle.inputs.proofs.frames.frame_number as frame-number
+use Rattle.terminal.proofs.call.nearest as nearest
 use Rattle.lines.specs.declared.batches.Loaded.{Loaded}
 use Rattle.lines.proofs.batches.empty_table as empty-table
 use Rattle.lines.proofs.batches.load_batch as load-batch
+use Rattle.lines.proofs.parts.word as word
+use Rattle.lines.proofs.parts.named as named
+use Rattle.lines.proofs.listing.head as head
+use Rattle.lines.proofs.listing.total as total
+use Rattle.lines.proofs.listing.box_line as box-line
+use Rattle.lines.proofs.listing.refused as refused
 use Rattle.lines.proofs.text.text as text
+use Rattle.swatches.proofs.text.swatch_text as swatch-text
 use Rattle.cutter.proofs.call.cut as cut
 use Rattle.seluvava.specs.declared.cut.CutAnswer.{CutAnswer}
 use Rattle.seluvava.specs.Cut.{Lent, lent}
@@ -95,6 +103,7 @@ use Rattle.seluvava.proofs.recordings.seluvava_replay as exported-replay
 use Rattle.seluvava.proofs.cut.seluvava_cut as exported-cut
 use Rattle.seluvava.proofs.frames.seluvava_map as exported-map
 use Rattle.seluvava.proofs.frames.seluvava_paint as exported-paint
+use Rattle.seluvava.proofs.terminals.seluvava_nearest as exported-nearest
 use Rattle.basics.specs.Determines.{Determines}
 
 both : {A B : Type 0} {a c : A} {b d : B} → a ≡ c → b ≡ d → _≡_ {A = A × B} (a, b) (c, d)
@@ -327,6 +336,11 @@ pub frame-number-determined : Determines 0 frame-number.Kinds.ps frame-number.Ki
     (λ κs r e. r)
 frame-number-determined κs a r s x y p q = determined p q
 
+-- ---- terminal
+pub nearest-determined : Determines {A = ℕ × List ℕ} 2 nearest.Kinds.ps nearest.Kinds.r nearest.Reads.Learnt
+    (λ κs r e. (r, now (e .1 .0)))
+nearest-determined κs a r s x y p q = both (determined (p .0) (q .0)) (determined (p .1) (q .1))
+
 -- ---- lines
 pub empty-table-determined : Determines 0 empty-table.Kinds.ps empty-table.Kinds.r empty-table.Reads.Learnt
     (λ κs r e. r)
@@ -336,9 +350,39 @@ pub load-batch-determined : Determines {A = Loaded × List ℕ} 2 load-batch.Kin
     load-batch.Reads.Learnt (λ κs r e. (r, now (e .0)))
 load-batch-determined κs a r s x y p q = both (determined (p .0) (q .0)) (determined (p .1) (q .1))
 
+pub word-determined : Determines {A = ℕ × List ℕ} 2 word.Kinds.ps word.Kinds.r word.Reads.Learnt
+    (λ κs r e. (r, now (e .0)))
+word-determined κs a r s x y p q = both (determined (p .ends) (q .ends)) (determined (p .later) (q .later))
+
+pub named-determined : Determines {A = ℕ × List ℕ} 2 named.Kinds.ps named.Kinds.r named.Reads.Learnt
+    (λ κs r e. (r, now (e .0)))
+named-determined κs a r s x y p q =
+    both (determined (p .0 .ends) (q .0 .ends)) (determined (p .0 .later) (q .0 .later))
+
+pub head-determined : Determines {A = ℕ × List ℕ} 1 head.Kinds.ps head.Kinds.r head.Reads.Learnt
+    (λ κs r e. (r, now (e .0)))
+head-determined κs a r s x y p q = both (determined (p .0 .ends) (q .0 .ends)) (determined (p .0 .later) (q .0 .later))
+
+pub total-determined : Determines 1 total.Kinds.ps total.Kinds.r total.Reads.Learnt (λ κs r e. r)
+total-determined κs a r s x y p q = determined p q
+
+pub box-line-determined : Determines {A = ℕ × List ℕ} 3 box-line.Kinds.ps box-line.Kinds.r box-line.Reads.Learnt
+    (λ κs r e. (r, now (e .0)))
+box-line-determined κs a r s x y p q =
+    both (determined (p .0 .ends) (q .0 .ends)) (determined (p .0 .later) (q .0 .later))
+
+pub refused-determined : Determines {A = ℕ × List ℕ} 1 refused.Kinds.ps refused.Kinds.r refused.Reads.Learnt
+    (λ κs r e. (r, now (e .1 .0)))
+refused-determined κs a r s x y p q = both (determined (p .0) (q .0)) (determined (p .1 .0) (q .1 .0))
+
 pub text-determined : Determines {A = ℕ × List ℕ} 2 text.Kinds.ps text.Kinds.r text.Reads.Learnt
     (λ κs r e. (r, now (e .1 .1 .0)))
 text-determined κs a r s x y p q = both (determined (p .0) (q .0)) (determined (p .1 .0) (q .1 .0))
+
+-- ---- swatches
+pub swatch-text-determined : Determines {A = ℕ × List ℕ} 2 swatch-text.Kinds.ps swatch-text.Kinds.r
+    swatch-text.Reads.Learnt (λ κs r e. (r, now (e .1 .1 .0)))
+swatch-text-determined κs a r s x y p q = both (determined (p .0) (q .0)) (determined (p .1 .0) (q .1 .0))
 
 -- ---- seluvava
 pub exported-bins-determined : Determines 0 exported-bins.Kinds.ps exported-bins.Kinds.r exported-bins.Reads.Learnt
@@ -410,3 +454,7 @@ exported-map-determined κs a r s x y p q = both (determined (p .0) (q .0)) (det
 pub exported-paint-determined : Determines {A = ℕ × List ℕ} 3 exported-paint.Kinds.ps exported-paint.Kinds.r
     exported-paint.Reads.Learnt (λ κs r e. (r, now (e .1 .1 .1 .1 .1 .0)))
 exported-paint-determined κs a r s x y p q = both (determined (p .0) (q .0)) (determined (p .1) (q .1))
+
+pub exported-nearest-determined : Determines {A = ℕ × List ℕ} 2 exported-nearest.Kinds.ps exported-nearest.Kinds.r
+    exported-nearest.Reads.Learnt (λ κs r e. (r, now (e .1 .0)))
+exported-nearest-determined κs a r s x y p q = both (determined (p .0) (q .0)) (determined (p .1) (q .1))

@@ -1,4 +1,5 @@
 pub mod Each
+pub mod Terminal
 pub mod Worked
 pub mod Answers
 pub mod Numbers
@@ -16,6 +17,7 @@ pub mod Criterion
 pub mod Sign
 pub mod Half
 pub mod Listing
+pub mod Swatches
 pub mod Determined
 pub mod Finite
 pub mod Rounds

@@ -18,3 +18,4 @@ pub mod Remainders
 pub mod Recorder
 pub mod RecorderNumbers
 pub mod Grammar
+pub mod Terminal

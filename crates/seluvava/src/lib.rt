@@ -5,3 +5,4 @@ pub mod frames;
 pub mod recordings;
 pub mod sizes;
 pub mod tables;
+pub mod terminals;

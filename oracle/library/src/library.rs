@@ -2,8 +2,9 @@
 use oracle::port::{Band, CutAnswer, Grid, Lent, Port, Recorded};
 use seluvava_sys::{
     Session, SessionAnswer, seluvava_batch, seluvava_begin, seluvava_bins, seluvava_compare,
-    seluvava_cut, seluvava_load, seluvava_load_ppm, seluvava_map, seluvava_merge, seluvava_paint,
-    seluvava_ppm_header, seluvava_reload, seluvava_replay, seluvava_rescue, seluvava_table_len,
+    seluvava_cut, seluvava_load, seluvava_load_ppm, seluvava_map, seluvava_merge, seluvava_nearest,
+    seluvava_paint, seluvava_ppm_header, seluvava_reload, seluvava_replay, seluvava_rescue,
+    seluvava_table_len,
 };
 use std::ptr;
 
@@ -278,6 +279,17 @@ impl Port for Library {
                 frame.len(),
                 band.first,
                 band.pixels,
+            )
+        }
+    }
+
+    fn nearest(&self, palette: &[u8], answers: &mut [u8]) -> u8 {
+        unsafe {
+            seluvava_nearest(
+                start(palette),
+                palette.len(),
+                start_mut(answers),
+                answers.len(),
             )
         }
     }

@@ -106,7 +106,7 @@ fn number_place(case: &Case, r: &mut Random) -> usize {
 /// The five numbers of a bin in the first table or in the second.
 fn numbers_of(case: &Case, first: bool, bin: usize) -> [i64; 5] {
     let (from, split) = match case.kind {
-        Kind::Whole { .. } => return [0; 5],
+        Kind::Whole { .. } | Kind::Palettes { .. } => return [0; 5],
         Kind::Calls { split, .. } | Kind::Recordings { split, .. } | Kind::Ppm { split, .. } => {
             (split, split)
         }

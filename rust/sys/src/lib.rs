@@ -201,4 +201,11 @@ unsafe extern "C" {
         first: usize,
         pixels: usize,
     ) -> u8;
+
+    pub fn seluvava_nearest(
+        palette: *const u8,
+        palette_len: usize,
+        answers: *mut u8,
+        answers_len: usize,
+    ) -> u8;
 }

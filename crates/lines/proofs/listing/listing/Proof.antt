@@ -5,8 +5,7 @@ use Prim.Native.Nat.{_+_, _-_, _*_, _≤_}
 use native.Mathlib.Omega.{arith}
 use native.Mathlib.Numerals.{add-one}
 use borrow.Author.Needs.{needs}
-use Rattle.lines.specs.Text.{linesOf, listingOf}
-use Rattle.lines.specs.Inner.{Put}
+use Rattle.lines.specs.Text.{linesOf, listingOf, Put}
 use Rattle.lines.proofs.Putting.{put-none, put-more, put-length, put-whole}
 use Rattle.lines.proofs.listing.listing.Statement.{statement}
 use Rattle.lines.proofs.listing.listing.Tie as tie

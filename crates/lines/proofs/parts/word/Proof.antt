@@ -9,7 +9,7 @@ use native.Mathlib.Numerals.{add-one}
 use denote.Ref.{now}
 use lib.ListN.{length, getD, set, take}
 use lib.Seq.{take-suc, take-all}
-use Rattle.lines.specs.Inner.{Put}
+use Rattle.lines.specs.Text.{Put}
 use Rattle.lines.proofs.Putting.{put-one, put-more, put-length}
 use Rattle.lines.proofs.parts.word.Statement.{statement}
 use Rattle.lines.proofs.parts.word.Tie as tie

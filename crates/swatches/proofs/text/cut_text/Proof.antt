@@ -1,0 +1,109 @@
+-- `swatches::text::cut_text` meets its contract: a cut into 16 boxes finds no more, and for these there is room.
+-- Assumes nothing.
+use mathlib.Core.Path.{ap, _∙_}
+use native.Mathlib.Omega.{arith}
+use Rattle.cutter.proofs.RecordSize.{few}
+use borrow.Author.Needs.{needs}
+use Rattle.cutter.specs.Cut.{cutRecord, cutLater}
+use Rattle.lines.proofs.Texts.{lent-zeros}
+use Rattle.swatches.specs.Swatches.{numbersOf}
+use Rattle.swatches.proofs.Texts.{cut-refused, cut-listed}
+use Rattle.swatches.proofs.text.cut_text.Statement.{statement}
+use Rattle.swatches.proofs.text.cut_text.Tie as tie
+
+slice-aggregate-cut : tie.Need-slice-aggregate-cut
+slice-aggregate-cut c = search needs
+
+slice-aggregate-cut-2 : tie.Need-slice-aggregate-cut-2
+slice-aggregate-cut-2 c = search needs
+
+slice-aggregate-cut-3 : tie.Need-slice-aggregate-cut-3
+slice-aggregate-cut-3 c = search needs
+
+slice-aggregate-cut-4 : tie.Need-slice-aggregate-cut-4
+slice-aggregate-cut-4 c = search needs
+
+slice-aggregate-cut-5 : tie.Need-slice-aggregate-cut-5
+slice-aggregate-cut-5 c = search needs
+
+cut-requires : tie.Need-cut-requires
+cut-requires c κs = search needs
+
+refused-requires : tie.Need-refused-requires
+refused-requires c κs = search needs
+
+same-length : tie.Need-same-length
+same-length c = search needs
+
+returns : tie.Need-returns
+returns c =
+    let cut = c .before .before .before .before .before .before .before .before .before .before .before .cut in
+    rw (cut-refused _ (cut .ensures .0 ∙ ap (cutRecord 8 8 8 16 _) lent-zeros)
+    (c .before .before .before .before .if1 .taken))
+    (c .before .before .refused .ensures)
+
+slice-aggregate-nearest : tie.Need-slice-aggregate-nearest
+slice-aggregate-nearest c = search needs
+
+slice-aggregate-nearest-2 : tie.Need-slice-aggregate-nearest-2
+slice-aggregate-nearest-2 c = search needs
+
+nearest-requires : tie.Need-nearest-requires
+nearest-requires c κs = search needs
+
+slice-aggregate-swatch-lines : tie.Need-slice-aggregate-swatch-lines
+slice-aggregate-swatch-lines c = search needs
+
+slice-aggregate-swatch-lines-2 : tie.Need-slice-aggregate-swatch-lines-2
+slice-aggregate-swatch-lines-2 c = search needs
+
+slice-aggregate-swatch-lines-3 : tie.Need-slice-aggregate-swatch-lines-3
+slice-aggregate-swatch-lines-3 c = search needs
+
+swatch-lines-requires : tie.Need-swatch-lines-requires
+swatch-lines-requires c κs =
+    let nearest = c .before .before .before .before .before in
+    let cut = nearest .before .before .before .before .before .before .before .before .before .before in
+    let room = cut .before .before .before .before .before .before .before .before .pre in
+    let h = few 16 (omega arith) (omega arith) _ 8 8 8 _ (cut .cut .ensures .0) in
+    search needs
+
+same-length-2 : tie.Need-same-length-2
+same-length-2 c = search needs
+
+returns-2 : tie.Need-returns-2
+unfolding numbersOf
+returns-2 c =
+    let listed = c .before .before in
+    let nearest = listed .before .before .before .before .before .before in
+    let cut = nearest .before .before .before .before .before .before .before .before .before .before .cut in
+    rw (
+      cut-listed _ (cut .ensures .0 ∙ ap (cutRecord 8 8 8 16 _) lent-zeros)
+          (cut .ensures .1 ∙ ap (cutLater 8 8 8 16 _) lent-zeros)
+          (nearest .before .before .before .if1 .left),
+      ← nearest .nearest .ensures .1,
+    )
+    (listed .swatch-lines .ensures)
+
+pub cut-text-spec : {M : Type 1} → statement M
+cut-text-spec =
+    tie.close
+    (tie.spec
+    slice-aggregate-cut
+    slice-aggregate-cut-2
+    slice-aggregate-cut-3
+    slice-aggregate-cut-4
+    slice-aggregate-cut-5
+    cut-requires
+    refused-requires
+    same-length
+    returns
+    slice-aggregate-nearest
+    slice-aggregate-nearest-2
+    nearest-requires
+    slice-aggregate-swatch-lines
+    slice-aggregate-swatch-lines-2
+    slice-aggregate-swatch-lines-3
+    swatch-lines-requires
+    same-length-2
+    returns-2)

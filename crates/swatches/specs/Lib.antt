@@ -1,0 +1,2 @@
+pub mod Swatches
+pub mod Inner

@@ -1,0 +1,5 @@
+pub mod Lowest
+pub mod Laws
+pub mod Calls
+pub mod Distinct
+pub mod Worked
