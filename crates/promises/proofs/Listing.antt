@@ -31,7 +31,8 @@ use Rattle.loader.proofs.Parts.{batch-weight, all-bytes-of}
 use Rattle.loader.proofs.Order.{bytes-append, weight-append, table-holds, table-total, table-sound, empty-table}
 use Rattle.loader.proofs.Batches.{batch-none, batch-append, load-stray, load-fits, load-passes}
 use Rattle.boxes.specs.Box.{minAt, maxAt, lowSide, highSide}
-use Rattle.sums.specs.Box.{sum3, binSum, boxSum, statsOf}
+use Rattle.bins.specs.Sum.{sum3, binSum, boxSum}
+use Rattle.sums.specs.Box.{statsOf}
 use Rattle.spread.specs.Spread.{zeroOf, quotientOf, spreadOf, scoreOf}
 use Rattle.boxes.specs.Box.{oneBin}
 use Rattle.spread.specs.Cut.{positionOf, positionAt, laterWins, better, bestRun, bestIn, bestCut}

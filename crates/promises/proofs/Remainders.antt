@@ -16,7 +16,7 @@ use Rattle.table.specs.Table.{viewOf}
 use Rattle.table.specs.Sound.{limit}
 use Rattle.boxes.specs.declared.sides.Bounds.{Bounds}
 use Rattle.boxes.specs.Box.{noBox}
-use Rattle.sums.specs.Box.{boxSum}
+use Rattle.bins.specs.Sum.{boxSum}
 use Rattle.rounds.specs.Loop.{boxesOf}
 use Rattle.cutter.specs.Palette.{itsColour, itsRemainders, countOf}
 use Rattle.cutter.specs.Cut.{Buffers, CanCut, cutNumber, doneRecord, cutRecord, listOf, boxList, resultsOn, laterOn}

@@ -25,7 +25,7 @@ use Rattle.loader.proofs.Plans.{filled-table}
 use Rattle.boxes.specs.declared.sides.Bounds.{Bounds}
 use Rattle.boxes.specs.Box.{Within}
 use Rattle.loaded.proofs.Boxes.{colour-held, loaded-box}
-use Rattle.sums.proofs.Same.{box-same}
+use Rattle.bins.proofs.Same.{box-same}
 use Rattle.rounds.specs.declared.gather.Boxes.{Boxes}
 use Rattle.boxes.specs.Box.{noBox}
 use Rattle.rounds.specs.Loop.{boxesOf}

@@ -20,7 +20,8 @@ use Rattle.table.specs.Sound.{total, sound}
 use Rattle.loader.specs.Load.{share, adds, sumOver, weightOf, loaded, tableOf, weightedAt, batchOf, loadNumberOn}
 use Rattle.loader.specs.Load.{loadNumber, loadLater}
 use Rattle.boxes.specs.Box.{minAt, maxAt, lowSide, highSide}
-use Rattle.sums.specs.Box.{sum3, binSum, boxSum, statsOf}
+use Rattle.bins.specs.Sum.{sum3, binSum, boxSum}
+use Rattle.sums.specs.Box.{statsOf}
 use Rattle.sums.specs.Moments.{belowSum, momentsOf}
 use Rattle.spread.specs.Spread.{quotientOf, spreadOf, scoreOf}
 use Rattle.boxes.specs.Box.{oneBin}

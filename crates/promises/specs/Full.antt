@@ -7,7 +7,7 @@ use Rattle.grid.specs.declared.place.Grid.{Grid}
 use Rattle.basics.specs.Range.{sumFrom}
 use Rattle.grid.specs.Grid.{binsOf}
 use Rattle.table.specs.Table.{tableLen, viewOf}
-use Rattle.sums.specs.Box.{marks}
+use Rattle.bins.specs.Sum.{marks}
 use Rattle.cutter.specs.Cut.{Buffers}
 
 -- the occupied bins of a table: those of weight above 0

@@ -16,7 +16,7 @@ use Rattle.boxes.specs.declared.sides.Bounds.{Bounds}
 use Rattle.sums.specs.declared.box_sums.Stats.{Stats}
 use Rattle.boxes.specs.Box.{maxAt, lowSide, highSide, Within}
 use Rattle.sums.specs.Box.{statsOf}
-use Rattle.sums.proofs.Laws.{box-sums-high, box-weight-high}
+use Rattle.bins.proofs.Laws.{box-sums-high, box-weight-high}
 use Rattle.spread.specs.declared.position.Position.{Position}
 use Rattle.spread.specs.declared.position.Position.the-variants.{Nowhere}
 use Rattle.spread.specs.Spread.{Plain}

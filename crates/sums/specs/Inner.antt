@@ -8,7 +8,8 @@ use Rattle.table.specs.declared.cell.Cell.{Cell}
 use Rattle.table.specs.Cell.{View, numberOf, cellOf, plusCell, minusCell, AtLeast}
 use Rattle.table.specs.Table.{Table, viewOf, putAt}
 use Rattle.table.specs.Sound.{limit}
-use Rattle.sums.specs.Box.{binSum}
+use Rattle.bins.specs.Sum.{binSum}
+use Rattle.sums.specs.declared.source.Source.the-variants.{Moments}
 use Rattle.sums.specs.Moments.{momentsOf, MomentsBefore, ForMoments, CanSum}
 
 -- the cell of the moments at a place
@@ -49,7 +50,7 @@ pub record Ready (g : Grid) (t w : Table) (r gr b : ℕ) : Type 0 where
 
 -- the work table holds the moments, and some bins of the grid end at r, gr and b
 pub record Corner (g : Grid) (t w : Table) (r gr b : ℕ) : Type 0 where
-  pub can-sum : CanSum limit g t w
+  pub can-sum : CanSum limit Moments g t w
   pub one : r ≤ g .size1
   pub two : gr ≤ g .size2
   pub three : b ≤ g .size3

@@ -1,9 +1,11 @@
-// The statistics of boxes, from the moments of their table.
-use crate::moments::ZEROS;
+// The statistics of boxes, from the moments of their table or from its bins.
+use crate::source::Source;
+use bins::add_up::add_up;
 use boxes::sides::Bounds;
 use grid::place::Grid;
 use grid::place::place;
 use table::cell::Cell;
+use table::cell::ZEROS;
 use table::cell::minus;
 use table::layout::cell_at;
 ghost use mathlib.Core.Path.{_≡_};
@@ -12,7 +14,10 @@ ghost use Rattle.table.specs.Cell.{numberOf};
 ghost use Rattle.table.specs.Sound.{limit};
 ghost use Rattle.table.specs.Table.{viewOf};
 ghost use Rattle.boxes.specs.Box.{Within};
-ghost use Rattle.sums.specs.Box.{boxCell, whole, statsFrom, statsOf};
+ghost use Rattle.bins.specs.Sum.{boxCell};
+ghost use Rattle.bins.specs.Inner.{CanAdd};
+ghost use Rattle.sums.specs.declared.source.Source.the-variants.{Moments};
+ghost use Rattle.sums.specs.Box.{whole, statsFrom, statsOf};
 ghost use Rattle.sums.specs.Moments.{CanSum};
 ghost use Rattle.sums.specs.Inner.{binCell, Corner};
 
@@ -79,7 +84,7 @@ fn slab(table: &[u64], work: &[u64], g: Grid, r: usize, x: Bounds) -> Cell
 
 // The five sums of a box, from the moments of its table (`volume`).
 fn box_cell(table: &[u64], work: &[u64], g: Grid, x: Bounds) -> Cell
-    requires { ⌜ CanSum limit g (now table) (now work) × Within g x ⌝ }
+    requires { ⌜ CanSum limit Moments g (now table) (now work) × Within g x ⌝ }
     ensures { λ c. ⌜ c ≡ boxCell g (viewOf (now (table .entry))) x ⌝ }
 {
     let upper = slab(table, work, g, x.r1 as usize, x);
@@ -111,10 +116,21 @@ pub fn stats_of(c: Cell) -> Stats
     }
 }
 
-// The statistics of a box, from the moments of its table.
-pub fn box_sum(table: &[u64], work: &[u64], g: Grid, x: Bounds) -> Stats
-    requires { ⌜ CanSum limit g (now table) (now work) × Within g x ⌝ }
+// The statistics of a box, from its bins.
+pub fn sum_of_bins(table: &[u64], g: Grid, x: Bounds) -> Stats
+    requires { ⌜ CanAdd limit g (now table) x ⌝ }
     ensures { λ r. ⌜ r ≡ statsOf g (viewOf (now (table .entry))) x ⌝ }
 {
-    stats_of(box_cell(table, work, g, x))
+    stats_of(add_up(table, g, x))
+}
+
+// The statistics of a box, from where sums come from.
+pub fn box_sum(table: &[u64], work: &[u64], source: Source, g: Grid, x: Bounds) -> Stats
+    requires { ⌜ CanSum limit source g (now table) (now work) × Within g x ⌝ }
+    ensures { λ r. ⌜ r ≡ statsOf g (viewOf (now (table .entry))) x ⌝ }
+{
+    match source {
+        Source::Moments => stats_of(box_cell(table, work, g, x)),
+        Source::Bins => sum_of_bins(table, g, x),
+    }
 }

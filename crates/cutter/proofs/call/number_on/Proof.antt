@@ -36,7 +36,7 @@ abbrev view : tie.Start → View
 view s = viewOf (table s)
 
 abbrev fit : tie.Start → Bool
-fit s = longEnough (s .args .g) (s .args .k) (length (table s)) (lengths s)
+fit s = longEnough (s .args .source) (s .args .g) (s .args .k) (length (table s)) (lengths s)
 
 returns : tie.Need-returns
 returns c =

@@ -7,8 +7,9 @@ use borrow.Author.Needs.{needs}
 use denote.Ref.{now}
 use Rattle.table.specs.Table.{viewOf}
 use Rattle.sums.specs.Inner.{binCell}
-use Rattle.sums.specs.Box.{binSum, boxSum, boxCell}
-use Rattle.sums.proofs.Corners.{first-from, from-least, from-is, from-start}
+use Rattle.bins.specs.Sum.{binSum, boxSum, boxCell}
+use Rattle.bins.proofs.Runs.{first-from}
+use Rattle.sums.proofs.Corners.{from-least, from-is, from-start}
 use Rattle.boxes.proofs.Within.{sides}
 use Rattle.sums.proofs.box_sums.box_cell.Statement.{statement}
 use Rattle.sums.proofs.box_sums.box_cell.Tie as tie

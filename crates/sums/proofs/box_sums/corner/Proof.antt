@@ -4,7 +4,8 @@ use native.Mathlib.Omega.{arith}
 use borrow.Author.Needs.{needs}
 use denote.Ref.{now}
 use Rattle.table.specs.Table.{viewOf}
-use Rattle.sums.proofs.Corners.{no-first, no-second, no-third, zeros-are, corner-cell, corner-is}
+use Rattle.bins.proofs.Runs.{no-first, no-second, no-third}
+use Rattle.sums.proofs.Corners.{zeros-are, corner-cell, corner-is}
 use Rattle.sums.proofs.box_sums.corner.Statement.{statement}
 use Rattle.sums.proofs.box_sums.corner.Tie as tie
 

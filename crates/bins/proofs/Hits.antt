@@ -17,8 +17,8 @@ use Rattle.boxes.specs.declared.sides.Bounds.{Bounds}
 use Rattle.boxes.specs.Box.{Within}
 use Rattle.boxes.specs.Holds.{lies, holds}
 use Rattle.boxes.proofs.Within.{sides}
-use Rattle.sums.specs.Box.{sum3, binSum, boxSum}
-use Rattle.sums.proofs.Boxes.{sum3-same}
+use Rattle.bins.specs.Sum.{sum3, binSum, boxSum}
+use Rattle.bins.proofs.Boxes.{sum3-same}
 
 -- a run of numbers hits q once, or not at all
 run-hit : (i e q y : ℕ) → i ≤ e → sumFrom i (e - i) (λ p. hit q p y) ≡ cond (lies i e q) y 0

@@ -1,4 +1,4 @@
--- `cutter::call::cut` meets its contract: the refusals, and else the cut.
+-- `cutter::call::cut_from` meets its contract: the refusals, and else the cut.
 -- Assumes nothing.
 use mathlib.Core.Path.{_≡_, sym, _∙_}
 use borrow.Author.Needs.{needs}
@@ -9,8 +9,8 @@ use Rattle.grid.specs.Grid.{gridOf, Accepted}
 use Rattle.grid.proofs.Places.{chose}
 use Rattle.cutter.specs.Cut.{Buffers, buffers}
 use Rattle.cutter.proofs.Refusals.{lengths-fit, can-cut, cut-no-grid, cut-refused, cut-done}
-use Rattle.cutter.proofs.call.cut.Statement.{statement}
-use Rattle.cutter.proofs.call.cut.Tie as tie
+use Rattle.cutter.proofs.call.cut_from.Statement.{statement}
+use Rattle.cutter.proofs.call.cut_from.Tie as tie
 
 -- the grid, once it is accepted
 abbrev grid : tie.After-known-told → Grid
@@ -44,7 +44,7 @@ refused-requires c κs = search needs
 returns : tie.Need-returns
 returns c =
     let s = c .before .before .before .before .before .before .before .before .before .before in
-    cut-no-grid (s .args .b1) (s .args .b2) (s .args .b3) (s .args .k) (now (s .args .table)) (lent s)
+    cut-no-grid (s .args .source) (s .args .b1) (s .args .b2) (s .args .b3) (s .args .k) (now (s .args .table)) (lent s)
     (sym (c .before .before .before .grid-of .ensures) ∙ c .before .enum-told .given .1) (c .refused .ensures)
 
 number-on-requires : tie.Need-number-on-requires
@@ -56,7 +56,7 @@ refused-requires-2 c κs = search needs
 returns-2 : tie.Need-returns-2
 returns-2 c =
     let s = c .before .before .before .before .before .before .before .before .before .before .before .before .before in
-    cut-refused (s .args .b1) (s .args .b2) (s .args .b3) (s .args .k) (now (s .args .table)) (lent s)
+    cut-refused (s .args .source) (s .args .b1) (s .args .b2) (s .args .b3) (s .args .k) (now (s .args .table)) (lent s)
     (on-grid (c .before .before .before)) (c .before .before .number-on .ensures) (c .before .if1 .taken)
     (c .refused2 .ensures)
 
@@ -84,11 +84,11 @@ returns-3 : tie.Need-returns-3
 returns-3 c =
     let s = c .before .before .before .before .before .before .before .before .before .before .before .before .before .before .before .before .before .before .before .before .before .before .before .before .before .before .before .before in
     let e = c .before .before .before .before .before .before .before .before .before .before .cut-on .ensures in
-    cut-done (s .args .b1) (s .args .b2) (s .args .b3) (s .args .k) (now (s .args .table)) (lent s)
+    cut-done (s .args .source) (s .args .b1) (s .args .b2) (s .args .b3) (s .args .k) (now (s .args .table)) (lent s)
     (on-grid (c .before .before .before .before .before .before .before .before .before .before .before .before .before .before .before .before .before .before)) (sym (c .before .before .before .before .before .before .before .before .before .before .before .before .before .before .before .before .before .number-on .ensures) ∙ c .before .before .before .before .before .before .before .before .before .before .before .before .before .before .before .before .if1 .left) (e .0) (e .1)
 
-pub cut-spec : {M : Type 1} → statement M
-cut-spec =
+pub cut-from-spec : {M : Type 1} → statement M
+cut-from-spec =
     tie.close
     (tie.spec
     grid-of-requires

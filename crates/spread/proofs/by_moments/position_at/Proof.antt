@@ -1,4 +1,4 @@
--- `spread::position_at` meets its contract: the high side is what the box has beside its low side.
+-- `spread::by_moments::position_at` meets its contract: the high side is what the box has beside its low side.
 -- Assumes nothing.
 use mathlib.Core.Path.{_≡_}
 use Prim.Native.Nat.{ℕ}
@@ -8,13 +8,14 @@ use Rattle.table.specs.Cell.{View}
 use Rattle.table.specs.Table.{viewOf}
 use Rattle.table.specs.Sound.{limit}
 use Rattle.table.proofs.Soundness.{Sound}
-use Rattle.sums.specs.Box.{boxSum, statsOf}
+use Rattle.bins.specs.Sum.{boxSum}
+use Rattle.sums.specs.Box.{statsOf}
 use Rattle.boxes.specs.Box.{highSide}
 use Rattle.boxes.proofs.Within.{low-within, high-within}
 use Rattle.spread.proofs.Choose.{plain-stats, position-is}
 use Rattle.spread.proofs.Sides.{Less, high}
-use Rattle.spread.proofs.search.position_at.Statement.{statement}
-use Rattle.spread.proofs.search.position_at.Tie as tie
+use Rattle.spread.proofs.by_moments.position_at.Statement.{statement}
+use Rattle.spread.proofs.by_moments.position_at.Tie as tie
 
 module _ (s : tie.Start) where
   abbrev view : View

@@ -14,14 +14,14 @@ use Rattle.grid.specs.Grid.{placeOf}
 use Rattle.basics.proofs.Range.{hit, hit-yes, hit-no}
 use Rattle.table.specs.Cell.{View}
 use Rattle.boxes.specs.declared.sides.Bounds.{Bounds}
-use Rattle.sums.specs.Box.{sum3, binSum, boxSum, marks, occupiedIn}
+use Rattle.bins.specs.Sum.{sum3, binSum, boxSum, marks, occupiedIn}
 use Rattle.boxes.specs.Box.{Within}
 use Rattle.boxes.specs.Holds.{holds}
 use Rattle.boxes.proofs.Within.{InBox}
-use Rattle.sums.proofs.Boxes.{sum3-same, sum3-plus}
-use Rattle.sums.proofs.Laws.{bins-empty}
+use Rattle.bins.proofs.Boxes.{sum3-same, sum3-plus}
+use Rattle.bins.proofs.Laws.{bins-empty}
 use Rattle.boxes.proofs.Within.{bin-inside}
-use Rattle.sums.proofs.Hits.{hit-box}
+use Rattle.bins.proofs.Hits.{hit-box}
 
 -- 1 for an occupied bin
 pub marks-none : (v : View) (p j : ℕ) → v p 0 ≡ 0 → marks v p j ≡ 0
