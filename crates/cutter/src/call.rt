@@ -209,8 +209,10 @@ fn cut_on(
     done(b)
 }
 
-// Cuts a table, with sums from where they come from.
-fn cut_from(
+// Cuts a table into at most k boxes: their colours go into the palette, their weights into the counts, what the means
+// leave of their sums into the remainders, and the index of the box of each bin into the map. Sums come from moments in
+// the work table, or from the bins of the table.
+pub fn cut_from(
     source: Source,
     b1: usize,
     b2: usize,
@@ -253,8 +255,7 @@ fn cut_from(
     cut_on(source, g, k, table, work, palette, counts, remainders, map)
 }
 
-// Cuts a table into at most k boxes: their colours go into the palette, their weights into the counts, what the means
-// leave of their sums into the remainders, and the index of the box of each bin into the map.
+// Cuts a table by its moments.
 pub fn cut(
     b1: usize,
     b2: usize,
@@ -292,7 +293,7 @@ pub fn cut(
     )
 }
 
-// The same without a work table: the bins of a box are added up each time that its sums are needed.
+// Cuts a table without a work table: the bins of a box are added up each time that its sums are needed.
 pub fn cut_slowly(
     b1: usize,
     b2: usize,

@@ -1,13 +1,15 @@
 // Cutting a table, with its boxes and spreads written into lent arrays.
 use boxes::sides::Bounds;
 use cutter::call::CutRecord;
-use cutter::call::cut;
+use cutter::call::cut_from;
 use grid::place::Chosen;
 use grid::place::grid_of;
+use sums::source::Source;
 ghost use mathlib.Core.Path.{_≡_};
 ghost use Prim.Native.Nat.{_+_, _*_, _≤_, _<_};
 ghost use lib.ListN.{length};
-ghost use Rattle.cutter.specs.Cut.{buffers};
+ghost use Rattle.sums.specs.declared.source.Source.the-variants.{Moments, Bins};
+ghost use Rattle.cutter.specs.Cut.{buffers, noWork};
 ghost use Rattle.cutter.specs.Fronts.{filled};
 ghost use Rattle.seluvava.specs.Cut.{lent, cutAnswer, callLater, itsBytes, spreadOf, told};
 ghost use Rattle.seluvava.specs.Inner.{roomNumber, withBoxAt};
@@ -73,6 +75,65 @@ fn put_boxes(r: CutRecord, boxes: &mut [u8], spreads: &mut [f64])
     }
 }
 
+// A cut with sums from where they come from, and its boxes and spreads written.
+fn cut_and_write(
+    source: Source,
+    b1: usize,
+    b2: usize,
+    b3: usize,
+    k: usize,
+    table: &[u64],
+    work: &mut [u64],
+    palette: &mut [u8],
+    counts: &mut [u32],
+    remainders: &mut [u32],
+    map: &mut [u8],
+    boxes: &mut [u8],
+    spreads: &mut [f64],
+) -> CutAnswer
+    ensures answer { λ r. ⌜ r
+        ≡ cutAnswer source b1 b2 b3 k (now (table .entry))
+        (lent (buffers (now (work .entry)) (now (palette .entry)) (now (counts .entry)) (now (remainders .entry))
+        (now (map .entry)))
+        (now (boxes .entry)) (now (spreads .entry))) ⌝ }
+    ensures later { λ r. ⌜
+        lent (buffers (now (work .exit)) (now (palette .exit)) (now (counts .exit)) (now (remainders .exit))
+        (now (map .exit)))
+        (now (boxes .exit)) (now (spreads .exit))
+        ≡ callLater source b1 b2 b3 k (now (table .entry))
+        (lent (buffers (now (work .entry)) (now (palette .entry)) (now (counts .entry)) (now (remainders .entry))
+        (now (map .entry)))
+        (now (boxes .entry)) (now (spreads .entry))) ⌝ }
+{
+    let number = room_number(b1, b2, b3, k, boxes.len(), spreads.len());
+    if number != 0 {
+        return CutAnswer {
+            number,
+            boxes: 0,
+            rounds: 0,
+        };
+    }
+    let r = cut_from(
+        source,
+        b1,
+        b2,
+        b3,
+        k,
+        table,
+        work,
+        palette,
+        counts,
+        remainders,
+        map,
+    );
+    put_boxes(r, boxes, spreads);
+    CutAnswer {
+        number: r.number,
+        boxes: r.boxes,
+        rounds: r.rounds,
+    }
+}
+
 // Cuts a table into at most k boxes: their colours go into the palette, their weights into the counts, what the means
 // leave of their sums into the remainders, the index of the box of each bin into the map, and the boxes with their
 // spreads into arrays of their own.
@@ -92,7 +153,7 @@ pub extern "C" fn seluvava_cut(
     spreads: &mut [f64],
 ) -> CutAnswer
     ensures answer { λ r. ⌜ r
-        ≡ cutAnswer b1 b2 b3 k (now (table .entry))
+        ≡ cutAnswer Moments b1 b2 b3 k (now (table .entry))
         (lent (buffers (now (work .entry)) (now (palette .entry)) (now (counts .entry)) (now (remainders .entry))
         (now (map .entry)))
         (now (boxes .entry)) (now (spreads .entry))) ⌝ }
@@ -100,24 +161,71 @@ pub extern "C" fn seluvava_cut(
         lent (buffers (now (work .exit)) (now (palette .exit)) (now (counts .exit)) (now (remainders .exit))
         (now (map .exit)))
         (now (boxes .exit)) (now (spreads .exit))
-        ≡ callLater b1 b2 b3 k (now (table .entry))
+        ≡ callLater Moments b1 b2 b3 k (now (table .entry))
         (lent (buffers (now (work .entry)) (now (palette .entry)) (now (counts .entry)) (now (remainders .entry))
         (now (map .entry)))
         (now (boxes .entry)) (now (spreads .entry))) ⌝ }
 {
-    let number = room_number(b1, b2, b3, k, boxes.len(), spreads.len());
-    if number != 0 {
-        return CutAnswer {
-            number,
-            boxes: 0,
-            rounds: 0,
-        };
-    }
-    let r = cut(b1, b2, b3, k, table, work, palette, counts, remainders, map);
-    put_boxes(r, boxes, spreads);
-    CutAnswer {
-        number: r.number,
-        boxes: r.boxes,
-        rounds: r.rounds,
-    }
+    cut_and_write(
+        Source::Moments,
+        b1,
+        b2,
+        b3,
+        k,
+        table,
+        work,
+        palette,
+        counts,
+        remainders,
+        map,
+        boxes,
+        spreads,
+    )
+}
+
+// The same without a work table: the bins of a box are added up each time that its sums are needed.
+#[no_mangle]
+pub extern "C" fn seluvava_cut_slowly(
+    b1: usize,
+    b2: usize,
+    b3: usize,
+    k: usize,
+    table: &[u64],
+    palette: &mut [u8],
+    counts: &mut [u32],
+    remainders: &mut [u32],
+    map: &mut [u8],
+    boxes: &mut [u8],
+    spreads: &mut [f64],
+) -> CutAnswer
+    ensures answer { λ r. ⌜ r
+        ≡ cutAnswer Bins b1 b2 b3 k (now (table .entry))
+        (lent (buffers noWork (now (palette .entry)) (now (counts .entry)) (now (remainders .entry))
+        (now (map .entry)))
+        (now (boxes .entry)) (now (spreads .entry))) ⌝ }
+    ensures later { λ r. ⌜
+        lent (buffers noWork (now (palette .exit)) (now (counts .exit)) (now (remainders .exit))
+        (now (map .exit)))
+        (now (boxes .exit)) (now (spreads .exit))
+        ≡ callLater Bins b1 b2 b3 k (now (table .entry))
+        (lent (buffers noWork (now (palette .entry)) (now (counts .entry)) (now (remainders .entry))
+        (now (map .entry)))
+        (now (boxes .entry)) (now (spreads .entry))) ⌝ }
+{
+    let mut none = [0u64; 0];
+    cut_and_write(
+        Source::Bins,
+        b1,
+        b2,
+        b3,
+        k,
+        table,
+        &mut none,
+        palette,
+        counts,
+        remainders,
+        map,
+        boxes,
+        spreads,
+    )
 }

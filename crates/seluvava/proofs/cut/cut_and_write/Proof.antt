@@ -1,4 +1,4 @@
--- `seluvava::cut::seluvava_cut` meets its contract: without the room nothing is cut, and else the boxes of the record
+-- `seluvava::cut::cut_and_write` meets its contract: without the room nothing is cut, and else the boxes of the record
 -- are written.
 -- Assumes nothing.
 use mathlib.Core.Path.{sym, _∙_}
@@ -10,8 +10,8 @@ use Rattle.cutter.specs.Cut.{Buffers, buffers}
 use Rattle.cutter.proofs.RecordSize.{few, all-places}
 use Rattle.seluvava.specs.Cut.{Lent, lent}
 use Rattle.seluvava.proofs.Calls.{roomy, call-refused, call-done}
-use Rattle.seluvava.proofs.cut.seluvava_cut.Statement.{statement}
-use Rattle.seluvava.proofs.cut.seluvava_cut.Tie as tie
+use Rattle.seluvava.proofs.cut.cut_and_write.Statement.{statement}
+use Rattle.seluvava.proofs.cut.cut_and_write.Tie as tie
 
 abbrev five : tie.Start → Buffers
 five s =
@@ -27,11 +27,11 @@ room-number-requires c κs = search needs
 returns : tie.Need-returns
 returns c =
     let s = c .before .before .before .before .before .before .before .before .before .before in
-    call-refused (s .args .b1) (s .args .b2) (s .args .b3) (s .args .k) (now (s .args .table)) (all s)
+    call-refused (s .args .source) (s .args .b1) (s .args .b2) (s .args .b3) (s .args .k) (now (s .args .table)) (all s)
     (c .before .room-number .ensures) (c .if1 .taken)
 
-cut-requires : tie.Need-cut-requires
-cut-requires c κs = search needs
+cut-from-requires : tie.Need-cut-from-requires
+cut-from-requires c κs = search needs
 
 put-boxes-requires : tie.Need-put-boxes-requires
 put-boxes-requires c κs =
@@ -39,10 +39,10 @@ put-boxes-requires c κs =
     let r = roomy (s .args .b1) (s .args .b2) (s .args .b3) (s .args .k) (length (now (s .args .boxes)))
     (length (now (s .args .spreads)))
     (sym (c .before .before .before .before .before .before .before .before .before .before .before .before .before .before .before .before .before .before .before .room-number .ensures) ∙ c .before .before .before .before .before .before .before .before .before .before .before .before .before .before .before .before .before .before .if1 .left) in
-    let e = c .before .before .before .before .before .before .before .before .before .before .before .before .cut .ensures .0 in
-    let n = few (s .args .k) (r .least) (r .most) (now (s .args .table)) (s .args .b1) (s .args .b2) (s .args .b3)
+    let e = c .before .before .before .before .before .before .before .before .before .before .before .before .cut-from .ensures .0 in
+    let n = few (s .args .source) (s .args .k) (r .least) (r .most) (now (s .args .table)) (s .args .b1) (s .args .b2) (s .args .b3)
     (five s) e in (
-      all-places (s .args .k) (now (s .args .table)) (s .args .b1) (s .args .b2) (s .args .b3) (five s) e,
+      all-places (s .args .source) (s .args .k) (now (s .args .table)) (s .args .b1) (s .args .b2) (s .args .b3) (five s) e,
       omega (arith, n, r .most),
       omega (arith, n, r .boxes-fit),
       omega (arith, n, r .spreads-fit),
@@ -72,18 +72,18 @@ same-length-7 c = search needs
 returns-2 : tie.Need-returns-2
 returns-2 c =
     let s = c .before .before .before .before .before .before .before .before .before .before .before .before .before .before .before .before .before .before .before .before .before .before .before .before .before .before .before .before .before .before .before .before .before in
-    let e = c .before .before .before .before .before .before .before .before .before .before .before .before .before .before .before .before .before .cut .ensures in
+    let e = c .before .before .before .before .before .before .before .before .before .before .before .before .before .before .before .before .before .cut-from .ensures in
     let put = c .before .before .before .before .put-boxes .ensures in
-    call-done (s .args .b1) (s .args .b2) (s .args .b3) (s .args .k) (now (s .args .table)) (all s)
+    call-done (s .args .source) (s .args .b1) (s .args .b2) (s .args .b3) (s .args .k) (now (s .args .table)) (all s)
     (c .before .before .before .before .before .before .before .before .before .before .before .before .before .before .before .before .before .before .before .before .before .before .before .before .room-number .ensures) (c .before .before .before .before .before .before .before .before .before .before .before .before .before .before .before .before .before .before .before .before .before .before .before .if1 .left) (e .0) (e .1) (put .0) (put .1)
 
-pub seluvava-cut-spec : {M : Type 1} → statement M
-seluvava-cut-spec =
+pub cut-and-write-spec : {M : Type 1} → statement M
+cut-and-write-spec =
     tie.close
     (tie.spec
     room-number-requires
     returns
-    cut-requires
+    cut-from-requires
     put-boxes-requires
     same-length
     same-length-2
