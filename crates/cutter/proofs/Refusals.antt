@@ -29,6 +29,10 @@ pub moments-fit : (g : Grid) (n : ℕ) → workFits Moments g n ≡ true → n �
 unfolding workFits
 moments-fit g n e = eqb-true _ _ e
 
+pub fit-moments : (g : Grid) (n : ℕ) → n ≡ tableLen (binsOf g) → workFits Moments g n ≡ true
+unfolding workFits
+fit-moments g n e = eq-eqb _ _ e
+
 -- ---- the lengths
 module _ (source : Source) (g : Grid) (k table : ℕ) (l : Lengths) where
   pub table-wrong : (table ≡ tableLen (binsOf g) → ⊥) → longEnough source g k table l ≡ false

@@ -37,7 +37,7 @@ use Rattle.cutter.specs.Palette.{paletteLater, countsLater, remaindersLater}
 use Rattle.boxes.specs.Holds.{lies, holds, holdsAt}
 use Rattle.cutter.specs.Map.{indexFrom, mapOf}
 use Rattle.cutter.specs.Cut.{resultsOn, longEnough, cutNumberOn, cutNumber, refusedRecord, doneRecord, recordOn}
-use Rattle.cutter.specs.Cut.{cutRecord}
+use Rattle.cutter.specs.Cut.{workFits, cutRecord}
 use Rattle.cutter.specs.Cut.{listOf, boxList, laterOn, cutLater}
 use Rattle.promises.specs.Cases.{Case, loadsOf, tableAfter, positionIn, lentTo, outcome, times, empties, plain}
 use Rattle.promises.specs.Cases.{weighted, loadGives, at, nowhere, box, recordWith, done, refusedWith, blackWhite}
@@ -64,7 +64,7 @@ unfolding loadsOf tableAfter positionIn lentTo outcome times empties plain weigh
     paletteLater countsLater remaindersLater lies holdsAt holds
     indexFrom
     mapOf
-    longEnough cutNumberOn cutNumber refusedRecord doneRecord recordOn cutRecord listOf boxList laterOn resultsOn
+    workFits longEnough cutNumberOn cutNumber refusedRecord doneRecord recordOn cutRecord listOf boxList laterOn resultsOn
     cutLater
     lib.Ieee.ofInt lib.Ieee.mul lib.Ieee.add lib.Ieee.sub lib.Ieee.div lib.Ieee.neg lib.Ieee.lt lib.Ieee.le
     lib.Ieee.round lib.Ieee.size lib.Ieee.span lib.Ieee.climb lib.Ieee.units lib.Ieee.odd lib.Ieee.sum lib.Ieee.eq

@@ -50,7 +50,7 @@ slice-aggregate-listing-2 c = search needs
 listing-requires : tie.Need-listing-requires
 listing-requires c κs =
     let cut = c .before .before .before .before .before .before .before .before .before .before .cut in
-    let h = few 16 (omega arith) (omega arith) _ 8 8 8 _ (cut .ensures .0) in
+    let h = few Moments 16 (omega arith) (omega arith) _ 8 8 8 _ (cut .ensures .0) in
     search needs
 
 same-length-2 : tie.Need-same-length-2

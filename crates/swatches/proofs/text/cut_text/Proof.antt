@@ -66,7 +66,7 @@ swatch-lines-requires c κs =
     let nearest = c .before .before .before .before .before in
     let cut = nearest .before .before .before .before .before .before .before .before .before .before in
     let room = cut .before .before .before .before .before .before .before .before .pre in
-    let h = few 16 (omega arith) (omega arith) _ 8 8 8 _ (cut .cut .ensures .0) in
+    let h = few Moments 16 (omega arith) (omega arith) _ 8 8 8 _ (cut .cut .ensures .0) in
     search needs
 
 same-length-2 : tie.Need-same-length-2
