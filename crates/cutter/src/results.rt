@@ -41,7 +41,17 @@ pub(crate) fn put_results(
     let mut i = 0;
     while i < n {
         let x = places[i];
-        put_result(table, work, source, g, x.bounds, i, palette, counts, remainders);
+        put_result(
+            table,
+            work,
+            source,
+            g,
+            x.bounds,
+            i,
+            palette,
+            counts,
+            remainders,
+        );
         i = i + 1;
     }
 }

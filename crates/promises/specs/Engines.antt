@@ -31,15 +31,15 @@ abbrev pub lentWith : Buffers → List ℕ → List Float → Lent
 lentWith b boxes spreads = record { buffers = b; boxes = boxes; spreads = spreads }
 
 pub record SameCalls (b1 b2 b3 k : ℕ) (t work : Table) (r : Results) (boxes : List ℕ) (spreads : List Float) : Type 0
-    where
-  pub answer : cutAnswer Bins b1 b2 b3 k t (lentWith (without r) boxes spreads)
-      ≡ cutAnswer Moments b1 b2 b3 k t (lentWith (beside work r) boxes spreads)
-  pub leaves : callLater Bins b1 b2 b3 k t (lentWith (without r) boxes spreads) .buffers .results
-      ≡ callLater Moments b1 b2 b3 k t (lentWith (beside work r) boxes spreads) .buffers .results
-  pub boxes-left : callLater Bins b1 b2 b3 k t (lentWith (without r) boxes spreads) .boxes
-      ≡ callLater Moments b1 b2 b3 k t (lentWith (beside work r) boxes spreads) .boxes
-  pub spreads-left : callLater Bins b1 b2 b3 k t (lentWith (without r) boxes spreads) .spreads
-      ≡ callLater Moments b1 b2 b3 k t (lentWith (beside work r) boxes spreads) .spreads
+  where
+    pub answer : cutAnswer Bins b1 b2 b3 k t (lentWith (without r) boxes spreads)
+        ≡ cutAnswer Moments b1 b2 b3 k t (lentWith (beside work r) boxes spreads)
+    pub leaves : callLater Bins b1 b2 b3 k t (lentWith (without r) boxes spreads) .buffers .results
+        ≡ callLater Moments b1 b2 b3 k t (lentWith (beside work r) boxes spreads) .buffers .results
+    pub boxes-left : callLater Bins b1 b2 b3 k t (lentWith (without r) boxes spreads) .boxes
+        ≡ callLater Moments b1 b2 b3 k t (lentWith (beside work r) boxes spreads) .boxes
+    pub spreads-left : callLater Bins b1 b2 b3 k t (lentWith (without r) boxes spreads) .spreads
+        ≡ callLater Moments b1 b2 b3 k t (lentWith (beside work r) boxes spreads) .spreads
 
 -- a work table that the engine with moments is lent on a grid: "exactly 5·bins"
 abbrev pub Exact : Grid → Table → Type 0

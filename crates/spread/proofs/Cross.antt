@@ -213,17 +213,25 @@ module _ {g : Grid} {t w : Table} (can-sum : CanSum limit Moments g t w) where
   at-corner : (r gr b : ℕ) → r ≤ g .size1 → gr ≤ g .size2 → b ≤ g .size3 → 0 < r → 0 < gr → 0 < b
       → {p : ℕ} → p ≡ placeOf g (r - 1) (gr - 1) (b - 1) → Reads w p (binSum g (viewOf t) 0 r 0 gr 0 b)
   at-corner r gr b h k l r0 gr0 b0 {p} at =
-      let c : Corner g t w r gr b = record { can-sum = can-sum; one = h; two = k; three = l } in
-      let squares = corner-squares c r0 gr0 b0 in
+      let c : Corner g t w r gr b = record {
+        can-sum = can-sum;
+        some-one = r0;
+        one = h;
+        some-two = gr0;
+        two = k;
+        some-three = b0;
+        three = l;
+      } in
+      let squares = corner-squares c in
       record {
-        low = omega (arith, at, place-lt (corner-inside c r0 gr0 b0), bins-high (can-sum .table .accepted));
+        low = omega (arith, at, place-lt (corner-inside c), bins-high (can-sum .table .accepted));
         has = record {
-          cell = corner-cell c r0 gr0 b0 at;
-          squares = omega (arith, corner-number c r0 gr0 b0 at 4 (lit< tt));
+          cell = corner-cell c at;
+          squares = omega (arith, corner-number c at 4 (lit< tt));
         };
         exact = λ e.
             record {
-              is = e ∙ stats-by (viewOf w p) (binSum g (viewOf t) 0 r 0 gr 0 b) (corner-number c r0 gr0 b0 at);
+              is = e ∙ stats-by (viewOf w p) (binSum g (viewOf t) 0 r 0 gr 0 b) (corner-number c at);
               squares = squares;
             };
       }

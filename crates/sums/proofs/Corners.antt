@@ -55,45 +55,44 @@ module _ {g : Grid} {t w : Table} {r gr b : ℕ} (c : Corner g t w r gr b) where
   before : (n : ℕ) → 0 < n → (n - 1) + 1 ≡ n
   before n h = omega arith
 
-  module _ (h : 0 < r) (k : 0 < gr) (l : 0 < b) where
-    pub corner-inside : Inside g (r - 1) (gr - 1) (b - 1)
-    corner-inside =
-        record {
-          accepted = c .can-sum .table .accepted;
-          one = omega (arith, c .one);
-          two = omega (arith, c .two);
-          three = omega (arith, c .three);
-        }
+  pub corner-inside : Inside g (r - 1) (gr - 1) (b - 1)
+  corner-inside =
+      record {
+        accepted = c .can-sum .table .accepted;
+        one = omega (arith, c .some-one, c .one);
+        two = omega (arith, c .some-two, c .two);
+        three = omega (arith, c .some-three, c .three);
+      }
 
-    pub corner-cell : {p : ℕ} → p ≡ placeOf g (r - 1) (gr - 1) (b - 1) → HasCell w p
-    corner-cell {p} at = has-cell (c .can-sum .provided .work) p (omega (arith, place-lt corner-inside, at))
+  pub corner-cell : {p : ℕ} → p ≡ placeOf g (r - 1) (gr - 1) (b - 1) → HasCell w p
+  corner-cell {p} at = has-cell (c .can-sum .provided .work) p (omega (arith, place-lt corner-inside, at))
 
-    pub corner-number : {p : ℕ} → p ≡ placeOf g (r - 1) (gr - 1) (b - 1) → (j : ℕ) → j < 5 → viewOf w p j
-        ≡ binSum g (viewOf t) 0 r 0 gr 0 b j
-    unfolding belowSum
-    corner-number at j m =
-        ap (λ (n : ℕ). viewOf w n j) at
-        ∙ c .can-sum .provided .has-moments .at (placeOf g (r - 1) (gr - 1) (b - 1)) j (place-lt corner-inside) m
-        ∙ moments-at g (viewOf t) (r - 1) (gr - 1) (b - 1) j (corner-inside .two) (corner-inside .three)
-        ∙ (λ i. binSum g (viewOf t) 0 (before r h i) 0 (before gr k i) 0 (before b l i) j)
+  pub corner-number : {p : ℕ} → p ≡ placeOf g (r - 1) (gr - 1) (b - 1) → (j : ℕ) → j < 5 → viewOf w p j
+      ≡ binSum g (viewOf t) 0 r 0 gr 0 b j
+  unfolding belowSum
+  corner-number at j m =
+      ap (λ (n : ℕ). viewOf w n j) at
+      ∙ c .can-sum .provided .has-moments .at (placeOf g (r - 1) (gr - 1) (b - 1)) j (place-lt corner-inside) m
+      ∙ moments-at g (viewOf t) (r - 1) (gr - 1) (b - 1) j (corner-inside .two) (corner-inside .three)
+      ∙ (λ i. binSum g (viewOf t) 0 (before r (c .some-one) i) 0 (before gr (c .some-two) i) 0 (before b (c .some-three) i) j)
 
-    pub corner-is : {p : ℕ} → p ≡ placeOf g (r - 1) (gr - 1) (b - 1) → {x : Cell} → x ≡ cellOf (viewOf w p) → x
-        ≡ binCell g (viewOf t) 0 r 0 gr 0 b
-    unfolding binCell
-    corner-is {p} at {x} e =
-        cell-by x (binCell g (viewOf t) 0 r 0 gr 0 b)
-        (λ j m.
-        ap (λ (y : Cell). numberOf y j) e
-        ∙ number-cell (viewOf w p) j m
-        ∙ corner-number at j m
-        ∙ sym (number-cell (binSum g (viewOf t) 0 r 0 gr 0 b) j m))
+  pub corner-is : {p : ℕ} → p ≡ placeOf g (r - 1) (gr - 1) (b - 1) → {x : Cell} → x ≡ cellOf (viewOf w p) → x
+      ≡ binCell g (viewOf t) 0 r 0 gr 0 b
+  unfolding binCell
+  corner-is {p} at {x} e =
+      cell-by x (binCell g (viewOf t) 0 r 0 gr 0 b)
+      (λ j m.
+      ap (λ (y : Cell). numberOf y j) e
+      ∙ number-cell (viewOf w p) j m
+      ∙ corner-number at j m
+      ∙ sym (number-cell (binSum g (viewOf t) 0 r 0 gr 0 b) j m))
 
-    pub corner-squares : binSum g (viewOf t) 0 r 0 gr 0 b 4 ≤ 2 ^ 53
-    unfolding belowSum
-    corner-squares =
-        let h = c .can-sum in
-        let s : Sound limit g (viewOf t) = record { holds = h .is-sound } in
-        omega (arith, below-small (h .table .accepted) s r gr b 4 (c .one) (c .two) (c .three) (lit< tt))
+  pub corner-squares : binSum g (viewOf t) 0 r 0 gr 0 b 4 ≤ 2 ^ 53
+  unfolding belowSum
+  corner-squares =
+      let h = c .can-sum in
+      let s : Sound limit g (viewOf t) = record { holds = h .is-sound } in
+      omega (arith, below-small (h .table .accepted) s r gr b 4 (c .one) (c .two) (c .three) (lit< tt))
 
 -- ---- statistics of five numbers
 pub stats-by : (f h : ℕ → ℕ) → ((j : ℕ) → j < 5 → f j ≡ h j) → statsFrom f ≡ statsFrom h

@@ -5,7 +5,6 @@ use boxes::sides::Bounds;
 use grid::place::Grid;
 use grid::place::place;
 use table::cell::Cell;
-use table::cell::ZEROS;
 use table::cell::minus;
 use table::layout::cell_at;
 ghost use mathlib.Core.Path.{_≡_};
@@ -30,21 +29,11 @@ pub struct Stats {
     pub squares: f64,
 }
 
-// The sums of all bins below r, gr and b; an index below 0 counts as zeros. The table is named by the contract alone,
-// here and below.
+// The sums of all bins below r, gr and b. The table is named by the contract alone, here and below.
 fn corner(table: &[u64], work: &[u64], g: Grid, r: usize, gr: usize, b: usize) -> Cell
     requires { ⌜ Corner g (now table) (now work) r gr b ⌝ }
     ensures { λ c. ⌜ c ≡ binCell g (viewOf (now (table .entry))) 0 r 0 gr 0 b ⌝ }
 {
-    if r == 0 {
-        return ZEROS;
-    }
-    if gr == 0 {
-        return ZEROS;
-    }
-    if b == 0 {
-        return ZEROS;
-    }
     cell_at(work, place(g, r - 1, gr - 1, b - 1))
 }
 

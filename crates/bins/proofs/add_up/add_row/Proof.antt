@@ -37,7 +37,7 @@ cast-b c = search needs
 
 loop-holds : tie.Need-loop-holds Inv-loop μ-loop
 unfolding rowSum
-loop-holds c = 
+loop-holds c =
     let s = c .before .before .before in
     let e = sides (s .pre .in-plane .can-add .within) in (
       omega arith,
@@ -49,14 +49,14 @@ place-requires : tie.Need-place-requires Inv-loop μ-loop
 place-requires c κs = row-inside (c .before .before .before .before .before .pre) (c .loop-test .taken)
 
 cell-at-requires : tie.Need-cell-at-requires Inv-loop μ-loop
-cell-at-requires c κs = 
+cell-at-requires c κs =
     let s = c .before .before .before .before .before .before in
     has-cell (s .pre .in-plane .can-add .table .lent) (c .place .result)
     (omega (arith, place-lt (row-inside (s .pre) (c .before .loop-test .taken)), c .place .ensures))
 
 plus-requires : tie.Need-plus-requires Inv-loop μ-loop
 unfolding rowSum
-plus-requires c κs = 
+plus-requires c κs =
     let s = c .before .before .before .before .before .before .before in
     let l = c .before .before .before .loop in
     next-fits (bin s) (s .args .x .b0) (l .inv .0) (l .inv .2)
@@ -64,16 +64,20 @@ plus-requires c κs =
     (bins-small (s .pre) (l .b + 1) (omega (arith, c .before .before .loop-test .taken)))
 
 add-b : tie.Need-add-b Inv-loop μ-loop
-add-b c = 
-    omega (arith, c .before .before .before .loop-test .taken, sides (c .before .before .before .before .before .before .before .before .pre .in-plane .can-add .within) .three-fits,
-    size-high (three (c .before .before .before .before .before .before .before .before .pre .in-plane .can-add .within .accepted)))
+add-b c =
+    omega (
+      arith,
+      c .before .before .before .loop-test .taken,
+      sides (c .before .before .before .before .before .before .before .before .pre .in-plane .can-add .within) .three-fits,
+      size-high (three (c .before .before .before .before .before .before .before .before .pre .in-plane .can-add .within .accepted)),
+    )
 
 loop-less : tie.Need-loop-less Inv-loop μ-loop
 loop-less c = omega arith
 
 loop-again : tie.Need-loop-again Inv-loop μ-loop
 unfolding rowSum
-loop-again c = 
+loop-again c =
     let s = c .before .before .before .before .before .before .before .before in
     let l = c .before .before .before .before .loop in (
       omega (arith, l .inv .0),
@@ -85,7 +89,7 @@ loop-again c =
     )
 
 returns : tie.Need-returns Inv-loop μ-loop
-returns c = 
+returns c =
     let s = c .before .before .before .before .before in
     let l = c .before .loop in
     l .inv .2
