@@ -15,8 +15,8 @@ use Rattle.table.specs.Sound.{limit}
 use Rattle.table.proofs.Cells.{number-cell, number-plus, cell-by, zeroCell, zeros-cell}
 use Rattle.boxes.specs.declared.sides.Bounds.{Bounds}
 use Rattle.boxes.proofs.Within.{sides}
-use Rattle.bins.specs.Sum.{sum3, binSum, boxSum}
-use Rattle.bins.specs.Inner.{CanAdd, InPlane, InRow, rowSum, planeSum, planesSum}
+use Rattle.bins.specs.Sum.{sum3, binSum, boxSum, CanAdd}
+use Rattle.bins.specs.Inner.{InPlane, InRow, rowSum, planeSum, planesSum}
 use Rattle.bins.proofs.Laws.{box-small}
 
 -- ---- cells added from the first to an end, each with the numbers of f

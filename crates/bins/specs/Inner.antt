@@ -1,21 +1,12 @@
--- What adding up the bins of a box asks for, and its rows and planes on the way. Definitions only.
-use mathlib.Core.Path.{_≡_}
-use mathlib.Core.Bool.{true}
+-- What the crate's own functions are told: rows and planes of a box on the way to its sum. Definitions only.
 use Prim.Native.Nat.{ℕ, _-_, _≤_, _<_}
 use Rattle.basics.specs.Range.{sumFrom}
 use Rattle.grid.specs.declared.place.Grid.{Grid}
 use Rattle.grid.specs.Grid.{placeOf}
 use Rattle.table.specs.Cell.{View}
-use Rattle.table.specs.Table.{Table, viewOf, TableOf}
-use Rattle.table.specs.Sound.{sound}
+use Rattle.table.specs.Table.{Table}
 use Rattle.boxes.specs.declared.sides.Bounds.{Bounds}
-use Rattle.boxes.specs.Box.{Within}
-
--- a box of a table that is sound for a limit
-pub record CanAdd (most : ℕ) (g : Grid) (t : Table) (x : Bounds) : Type 0 where
-  pub table : TableOf g t
-  pub is-sound : sound most g (viewOf t) ≡ true
-  pub within : Within g x
+use Rattle.bins.specs.Sum.{CanAdd}
 
 -- a plane of it
 pub record InPlane (most : ℕ) (g : Grid) (t : Table) (x : Bounds) (r : ℕ) : Type 0 where

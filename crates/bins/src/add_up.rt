@@ -11,8 +11,8 @@ ghost use Prim.Native.Nat.{_-_};
 ghost use Rattle.table.specs.Cell.{cellOf};
 ghost use Rattle.table.specs.Sound.{limit};
 ghost use Rattle.table.specs.Table.{viewOf};
-ghost use Rattle.bins.specs.Sum.{boxCell};
-ghost use Rattle.bins.specs.Inner.{rowSum, planeSum, CanAdd, InPlane, InRow};
+ghost use Rattle.bins.specs.Sum.{boxCell, CanAdd};
+ghost use Rattle.bins.specs.Inner.{rowSum, planeSum, InPlane, InRow};
 
 // The bins of one row of a box.
 fn add_row(table: &[u64], g: Grid, x: Bounds, r: usize, gr: usize) -> Cell

@@ -41,7 +41,7 @@ pub record SameCalls (b1 b2 b3 k : ℕ) (t work : Table) (r : Results) (boxes : 
     pub spreads-left : callLater Bins b1 b2 b3 k t (lentWith (without r) boxes spreads) .spreads
         ≡ callLater Moments b1 b2 b3 k t (lentWith (beside work r) boxes spreads) .spreads
 
--- a work table that the engine with moments is lent on a grid: "exactly 5·bins"
+-- a work table as the engine with moments asks for on a grid: "table and work table exactly 5·bins"
 abbrev pub Exact : Grid → Table → Type 0
 Exact g work = length work ≡ tableLen (binsOf g)
 

@@ -12,7 +12,7 @@ use sums::box_sums::sum_of_bins;
 ghost use mathlib.Core.Path.{_≡_};
 ghost use Rattle.table.specs.Sound.{limit};
 ghost use Rattle.table.specs.Table.{viewOf, TableOf};
-ghost use Rattle.bins.specs.Inner.{CanAdd};
+ghost use Rattle.bins.specs.Sum.{CanAdd};
 ghost use Rattle.spread.specs.Cut.{positionAt, bestIn};
 ghost use Rattle.spread.specs.Inner.{CutsAt};
 

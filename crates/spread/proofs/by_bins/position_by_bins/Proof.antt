@@ -10,7 +10,7 @@ use Rattle.table.proofs.Soundness.{Sound}
 use Rattle.boxes.specs.declared.sides.Bounds.{Bounds}
 use Rattle.boxes.specs.Box.{lowSide, highSide, Within}
 use Rattle.boxes.proofs.Within.{low-within, high-within}
-use Rattle.bins.specs.Inner.{CanAdd}
+use Rattle.bins.specs.Sum.{CanAdd}
 use Rattle.sums.specs.Box.{statsOf}
 use Rattle.spread.proofs.Choose.{plain-stats, position-is}
 use Rattle.spread.proofs.by_bins.position_by_bins.Statement.{statement}
