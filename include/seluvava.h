@@ -10,9 +10,9 @@
  *
  * load counts colours into a table, and load_ppm those of a PPM file; merge adds a second table into a first, compare
  * tells where two tables differ, rescue clears what is damaged in a table, cut makes of a table a palette of at most
- * 256 colours and a map to it, and map and paint take the pixels of a frame to that palette. begin, reload and batch
- * record frames that were sampled at an interval, and replay does a whole list of such reloads and batches. nearest
- * gives each colour of a palette its number in a terminal.
+ * 256 colours and a map to it, cut_slowly does so without a work table, and map and paint take the pixels of a frame to
+ * that palette. begin, reload and batch record frames that were sampled at an interval, and replay does a whole list of
+ * such reloads and batches. nearest gives each colour of a palette its number in a terminal.
  * docs/CHOOSING.md has what to know first: which grid, what comes back inexactly, how to save a table.
  * docs/INTERVALS.md has a recording as an example, with every answer, and docs/RESCUE.md a night with one bad page of
  * memory.
@@ -45,7 +45,7 @@
  * program without one brings these two.
  *
  * ANSWERS. What load, load_ppm, merge, rescue, batch, map, paint and nearest hand back, and ppm_header, compare, begin,
- * reload, replay and cut in `number`:
+ * reload, replay, cut and cut_slowly in `number`:
  *
  *   0  done
  *   1  a grid size not among the seven
@@ -327,6 +327,31 @@ seluvava_cut(size_t b1, size_t b2, size_t b3, size_t k,
              uint8_t *map, size_t map_len,
              uint8_t *boxes, size_t boxes_len,
              double *spreads, size_t spreads_len);
+
+/*
+ * Cut slowly: what cut does, without a work table. The bins of a box are added up each time that its sums are needed.
+ * Answer and results are those of cut, to the bit, and so are the refusals, but for the one of the work table's length.
+ * It serves where there is no room for a second table, and to hold the other cut to.
+ *
+ *   table, palette, counts, remainders, map, boxes, spreads
+ *             as for cut.
+ *
+ * A round adds up all bins of its box less than b1 + b2 + b3 times. So the time grows with the bins times the three
+ * sizes together: twice each size takes 16 times as long, and more where the table outgrows the caches. Frames of
+ * 1920 * 1080 pixels take, at k from 16 to 256, about 0.1 ms at 8,8,8, 1 to 3 ms at 16,32,16, 10 to 20 ms at 32,32,32,
+ * and 5 to 8 seconds at 128,128,128; a table whose boxes lose but one layer of bins a round took 13 seconds there.
+ *
+ * Answers 0, 1, 2, 5, 6, 8.
+ */
+struct seluvava_cut_answer
+seluvava_cut_slowly(size_t b1, size_t b2, size_t b3, size_t k,
+                    const uint64_t *table, size_t table_len,
+                    uint8_t *palette, size_t palette_len,
+                    uint32_t *counts, size_t counts_len,
+                    uint32_t *remainders, size_t remainders_len,
+                    uint8_t *map, size_t map_len,
+                    uint8_t *boxes, size_t boxes_len,
+                    double *spreads, size_t spreads_len);
 
 /*
  * Map: writes the index of each pixel of a band, which is the map's byte at the pixel's bin. The band is the
