@@ -46,13 +46,13 @@ struct Cutting<'a> {
 impl Cutting<'_> {
     fn sum(&self, min: [usize; 3], max: [usize; 3]) -> Sums {
         match self.source {
-            Source::Moments(moments) => self.from_moments(moments, min, max),
-            Source::Bins(table) => self.from_bins(table, min, max),
+            Source::Moments(moments) => self.sum_by_moments(moments, min, max),
+            Source::Bins(table) => self.sum_of_bins(table, min, max),
         }
     }
 
     /// The bins of a box, one after the other.
-    fn from_bins(&self, table: &[u64], min: [usize; 3], max: [usize; 3]) -> Sums {
+    fn sum_of_bins(&self, table: &[u64], min: [usize; 3], max: [usize; 3]) -> Sums {
         let [_, b2, b3] = self.grid;
         let mut sums = [0; 5];
         for r in min[0]..max[0] {
@@ -77,7 +77,7 @@ impl Cutting<'_> {
     }
 
     /// "Its sum is found by inclusion and exclusion"
-    fn from_moments(&self, moments: &[u64], min: [usize; 3], max: [usize; 3]) -> Sums {
+    fn sum_by_moments(&self, moments: &[u64], min: [usize; 3], max: [usize; 3]) -> Sums {
         let [mut with, mut without] = [[0; 5]; 2];
         for corner in 0..8 {
             let low = [corner & 4, corner & 2, corner & 1].map(|bit| bit != 0);
