@@ -337,9 +337,10 @@ seluvava_cut(size_t b1, size_t b2, size_t b3, size_t k,
  *             as for cut.
  *
  * A round adds up all bins of its box less than b1 + b2 + b3 times. So the time grows with the bins times the three
- * sizes together: twice each size takes 16 times as long, and more where the table outgrows the caches. Frames of
- * 1920 * 1080 pixels take, at k from 16 to 256, about 0.1 ms at 8,8,8, 1 to 3 ms at 16,32,16, 10 to 20 ms at 32,32,32,
- * and 5 to 8 seconds at 128,128,128; a table whose boxes lose but one layer of bins a round took 13 seconds there.
+ * sizes together: twice each size is about 16 times the additions. Tables of two million pixels, of noise and of
+ * pictures, took at k = 16 and 256 0.04 to 0.13 ms at 8,8,8, 1 to 3 ms at 16,32,16, 8 to 21 ms at 32,32,32 and 5 to 8
+ * seconds at 128,128,128, and one whose boxes lose little in a round took 13 seconds there. These times are of an
+ * aarch64 machine, for which the archive's code was compiled apart.
  *
  * Answers 0, 1, 2, 5, 6, 8.
  */
