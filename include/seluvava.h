@@ -35,8 +35,8 @@
  * never looked at, so its pointer may be NULL; 0 is a length like any other, accepted or refused as each call says.
  * Buffers that are const are only read: they may overlap each other, and any number of calls may read them at once.
  *
- * ROUNDING. A cut works in double, each operation rounded once to nearest, as every C program begins. A caller that
- * has changed the rounding mode (fesetround) sets it back to FE_TONEAREST before a cut: in another mode its boxes may
+ * ROUNDING. Both cuts work in double, each operation rounded once to nearest, as every C program begins. A caller that
+ * has changed the rounding mode (fesetround) sets it back to FE_TONEAREST before either: in another mode its boxes may
  * be others. Of the other calls none works in double. The flush modes of the processor, flush-to-zero and
  * denormals-are-zero, may be as they like: no spread and no score is so small.
  *
@@ -79,9 +79,9 @@ extern "C" {
 #endif
 
 /* The version of the calls, the crate for Rust and the pages. */
-#define SELUVAVA_VERSION "0.6.0"
+#define SELUVAVA_VERSION "0.7.0"
 #define SELUVAVA_VERSION_MAJOR 0
-#define SELUVAVA_VERSION_MINOR 6
+#define SELUVAVA_VERSION_MINOR 7
 #define SELUVAVA_VERSION_PATCH 0
 
 /* The three sizes for RGB, as every call takes them: 8,192 bins. */
@@ -337,10 +337,8 @@ seluvava_cut(size_t b1, size_t b2, size_t b3, size_t k,
  *             as for cut.
  *
  * A round adds up all bins of its box less than b1 + b2 + b3 times. So the time grows with the bins times the three
- * sizes together: twice each size is about 16 times the additions. Tables of two million pixels, of noise and of
- * pictures, took at k = 16 and 256 0.04 to 0.13 ms at 8,8,8, 1 to 3 ms at 16,32,16, 8 to 21 ms at 32,32,32 and 5 to 8
- * seconds at 128,128,128, and one whose boxes lose little in a round took 13 seconds there. These times are of an
- * aarch64 machine, for which the archive's code was compiled apart.
+ * sizes together, and twice each size takes about 16 times as long: expect milliseconds at 16,32,16, some hundredths of
+ * a second at 32,32,32, and 5 to 15 seconds at 128,128,128. docs/SPEED.md has measured times.
  *
  * Answers 0, 1, 2, 5, 6, 8.
  */

@@ -2,14 +2,13 @@
 -- Assumes nothing.
 use mathlib.Core.Path.{_≡_, sym, ap, _∙_}
 use Prim.Native.Nat.{ℕ, _+_, _-_, _^_, _≤_, _<_}
-use native.Mathlib.Nat.{le-trans}
 use native.Mathlib.Omega.{arith}
 use Rattle.grid.specs.declared.place.Grid.{Grid}
 use Rattle.basics.specs.Range.{sumFrom}
 use Rattle.grid.specs.Grid.{Inside, placeOf}
 use Rattle.basics.proofs.Range.{run-none, run-more, sum-grow, term-le}
 use Rattle.table.specs.declared.cell.Cell.{Cell}
-use Rattle.table.specs.Cell.{View, numberOf, cellOf, plusCell, SumsFit}
+use Rattle.table.specs.Cell.{numberOf, cellOf, plusCell, SumsFit}
 use Rattle.table.specs.Table.{Table, viewOf}
 use Rattle.table.specs.Sound.{limit}
 use Rattle.table.proofs.Cells.{number-cell, number-plus, cell-by, zeroCell, zeros-cell}

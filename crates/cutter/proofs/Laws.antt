@@ -43,7 +43,8 @@ module _ (source : Source) (b1 b2 b3 k : ℕ) (t : List ℕ) (b : Buffers) where
 
       go : (c : Chosen)
           → onGrid c (refusedRecord (gridAnswer c .number))
-          (λ g. whenDone (cutNumberOn limit g k (lengthsRight source g k t b) (viewOf t)) (doneRecord (boxesOf g (viewOf t) k))
+          (λ g. whenDone (cutNumberOn limit g k (lengthsRight source g k t b) (viewOf t))
+          (doneRecord (boxesOf g (viewOf t) k))
           (refusedRecord (cutNumberOn limit g k (lengthsRight source g k t b) (viewOf t)))) .number
           ≡ onGrid c (gridAnswer c .number) (λ g. cutNumberOn limit g k (lengthsRight source g k t b) (viewOf t))
       go (chosen.Accepted g) =
@@ -59,13 +60,16 @@ module _ (source : Source) (b1 b2 b3 k : ℕ) (t : List ℕ) (b : Buffers) where
       of : {A : Type 0} (m : ℕ) (x y : A) → m ≡ suc n → whenDone m x y ≡ y
       of m x y e = rw e refl
 
-      go : (c : Chosen) → onGrid c (gridAnswer c .number) (λ g. cutNumberOn limit g k (lengthsRight source g k t b) (viewOf t))
+      go : (c : Chosen)
+          → onGrid c (gridAnswer c .number) (λ g. cutNumberOn limit g k (lengthsRight source g k t b) (viewOf t))
           ≡ suc n
           → (onGrid c (refusedRecord (gridAnswer c .number))
-          (λ g. whenDone (cutNumberOn limit g k (lengthsRight source g k t b) (viewOf t)) (doneRecord (boxesOf g (viewOf t) k))
+          (λ g. whenDone (cutNumberOn limit g k (lengthsRight source g k t b) (viewOf t))
+          (doneRecord (boxesOf g (viewOf t) k))
           (refusedRecord (cutNumberOn limit g k (lengthsRight source g k t b) (viewOf t)))) ≡ refusedRecord (suc n))
           × (onGrid c b
-          (λ g. whenDone (cutNumberOn limit g k (lengthsRight source g k t b) (viewOf t)) (laterOn source g (viewOf t) k b) b)
+          (λ g. whenDone (cutNumberOn limit g k (lengthsRight source g k t b) (viewOf t))
+          (laterOn source g (viewOf t) k b) b)
           ≡ b)
       go (chosen.Accepted g) e = (
         of (cutNumberOn limit g k (lengthsRight source g k t b) (viewOf t)) _ _ e

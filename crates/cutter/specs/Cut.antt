@@ -111,8 +111,7 @@ lengthsOf b =
           (r .map);
     }
 
--- ---- what a source of sums asks of the work table, and leaves in it
--- moments stand in it, and who adds up bins needs none
+-- ---- what a source of sums asks of the work table's length, and leaves in it
 unfoldable pub workFits : Source → Grid → ℕ → Bool
 workFits Moments g numbers = eqb numbers (tableLen (binsOf g))
 workFits Bins g numbers = true

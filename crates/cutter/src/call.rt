@@ -1,19 +1,16 @@
 // The call cut: what it refuses, and what it hands back and leaves behind.
+use crate::number::number_on;
 use crate::results::fill_boxes;
 use crate::results::put_results;
 use boxes::sides::Bounds;
 use grid::place::Chosen;
 use grid::place::Grid;
-use grid::place::bins;
 use grid::place::grid_of;
 use rounds::gather::BoxSpread;
 use rounds::gather::Boxes;
 use rounds::gather::cut_boxes;
 use sums::moments::moments;
 use sums::source::Source;
-use table::layout::table_len;
-use table::sound::SoundTotal;
-use table::sound::sound_total;
 ghost use mathlib.Core.Path.{_≡_};
 ghost use mathlib.Core.Bool.{true};
 ghost use Prim.Native.Nat.{_≤_};
@@ -72,100 +69,6 @@ fn done(b: Boxes) -> CutRecord
         rounds: b.rounds,
         places,
     }
-}
-
-// Whether the length of the work table is right: moments stand in it, and who adds up bins needs none.
-fn work_fits(source: Source, g: Grid, work: usize) -> bool
-    requires { ⌜ Accepted g ⌝ }
-    ensures { λ r. ⌜ r ≡ workFits source g work ⌝ }
-{
-    match source {
-        Source::Moments => work == table_len(g),
-        Source::Bins => true,
-    }
-}
-
-// Whether the lengths of what is lent are right for a k within its bounds.
-fn long_enough(
-    source: Source,
-    g: Grid,
-    k: usize,
-    table: usize,
-    work: usize,
-    palette: usize,
-    counts: usize,
-    remainders: usize,
-    map: usize,
-) -> bool
-    requires { ⌜ Accepted g × (k ≤ 256) ⌝ }
-    ensures { λ r. ⌜ r
-        ≡ longEnough source g k table
-        (record { work = work; palette = palette; counts = counts; remainders = remainders; map = map }) ⌝ }
-{
-    let n = bins(g);
-    if table != table_len(g) {
-        return false;
-    }
-    if !work_fits(source, g, work) {
-        return false;
-    }
-    if palette < 3 * k {
-        return false;
-    }
-    if counts < k {
-        return false;
-    }
-    if remainders < 3 * k {
-        return false;
-    }
-    map == n
-}
-
-// The answer to a cut on an accepted grid.
-fn number_on(
-    source: Source,
-    g: Grid,
-    k: usize,
-    table: &[u64],
-    work: usize,
-    palette: usize,
-    counts: usize,
-    remainders: usize,
-    map: usize,
-) -> u8
-    requires { ⌜ Accepted g ⌝ }
-    ensures { λ r. ⌜ r
-        ≡ cutNumberOn limit g k
-        (longEnough source g k (length (now (table .entry)))
-        (record { work = work; palette = palette; counts = counts; remainders = remainders; map = map }))
-        (viewOf (now (table .entry))) ⌝ }
-{
-    if k < 1 {
-        return 2;
-    }
-    if 256 < k {
-        return 2;
-    }
-    if !long_enough(
-        source,
-        g,
-        k,
-        table.len(),
-        work,
-        palette,
-        counts,
-        remainders,
-        map,
-    ) {
-        return 5;
-    }
-    let SoundTotal::Total(total) = sound_total(table, g) else {
-        return 6;
-    };
-    if total == 0 {
-        return 8;
-    }
-    0
 }
 
 // Readies the work table for a source of sums: with the moments, or not at all.

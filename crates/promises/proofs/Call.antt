@@ -1,6 +1,6 @@
--- The cut that a C or Rust caller makes is the cut: it is done exactly where that is done and there is room for the
--- boxes, and then it tells and leaves behind what that does. So Tiling, Full and Order, which speak of `cutRecord` and
--- `cutLater`, speak of it too.
+-- The cut that a C or Rust caller makes, by either engine, is the cut: it is done exactly where that is done and there
+-- is room for the boxes, and then it tells and leaves behind what that does. So Tiling, Full and Order, which speak of
+-- `cutRecord` and `cutLater`, speak of it too.
 -- Assumes nothing.
 use mathlib.Core.Path.{_≡_, refl, sym, ap, subst, _∙_}
 use mathlib.Core.Logic.{_↔_}
@@ -105,7 +105,8 @@ module _ (source : Source) (b1 b2 b3 k : ℕ) (t : List ℕ) (l : Lent) where
   unfolding whenDone
   cut-number e = is-number ∙ in-stages source b1 b2 b3 k t l ∙ rw e refl
 
-  pub call-is-cut : (cutAnswer source b1 b2 b3 k t l .number ≡ 0) ↔ ((cutNumber source b1 b2 b3 k t (l .buffers) ≡ 0) × Room k l)
+  pub call-is-cut : (cutAnswer source b1 b2 b3 k t l .number ≡ 0)
+      ↔ ((cutNumber source b1 b2 b3 k t (l .buffers) ≡ 0) × Room k l)
   call-is-cut = (
     λ e.
         let enough = roomy b1 b2 b3 k (length (l .boxes)) (length (l .spreads)) (has-room e) in
@@ -121,7 +122,8 @@ module _ (source : Source) (b1 b2 b3 k : ℕ) (t : List ℕ) (l : Lent) where
 
   -- "A refusal writes nothing." And it has no boxes and no rounds
   pub refused-call : {n : ℕ} → cutAnswer source b1 b2 b3 k t l .number ≡ suc n
-      → (cutAnswer source b1 b2 b3 k t l ≡ record { number = suc n; boxes = 0; rounds = 0 }) × (callLater source b1 b2 b3 k t l ≡ l)
+      → (cutAnswer source b1 b2 b3 k t l ≡ record { number = suc n; boxes = 0; rounds = 0 })
+      × (callLater source b1 b2 b3 k t l ≡ l)
   refused-call e = call-kept source b1 b2 b3 k t l (sym is-number ∙ e)
 
   pub call-tells : cutAnswer source b1 b2 b3 k t l .number ≡ 0

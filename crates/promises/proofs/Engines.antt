@@ -26,10 +26,10 @@ use Rattle.cutter.specs.Cut.{refusedRecord, doneRecord, recordOn, cutRecord, la
 use Rattle.cutter.specs.Fronts.{filled}
 use Rattle.cutter.proofs.Refusals.{fit-moments}
 use Rattle.cutter.proofs.Laws.{bins-leave-work}
-use Rattle.seluvava.specs.Cut.{Lent, callNumber, callLater, itsBytes, spreadOf, told}
+use Rattle.seluvava.specs.Cut.{Lent, lent, allLong, callNumberOn, callNumber, callLater, itsBytes, spreadOf, told}
 use Rattle.seluvava.specs.Inner.{roomNumber}
 use Rattle.seluvava.proofs.Calls.{in-stages, call-kept, call-has, call-leaves-work}
-use Rattle.promises.specs.Engines.{without, beside, lentWith, SameEngines, SameCalls, Exact, FirstTwo}
+use Rattle.promises.specs.Engines.{withoutWork, withWork, SameEngines, SameCalls, ExactWork, FirstTwo}
 
 -- ---- 1 and 2 are found before any length is looked at
 -- where a chain answers 1 or 2 on an accepted grid, k is not within its bounds
@@ -49,11 +49,17 @@ unfolding cutNumberOn refuse
 numbers-two g k t one other e =
     rw (k-wrong (leb 1 k && leb k 256) one (sound limit g (viewOf t)) (eqb (total g (viewOf t)) 0) e) refl
 
+not-done : {n m : ℕ} → n ≡ m → FirstTwo n ⊎ FirstTwo m → m ≡ 0 → ⊥
+not-done e (inl (inl q)) z = omega (arith, e, q, z)
+not-done e (inl (inr q)) z = omega (arith, e, q, z)
+not-done e (inr (inl q)) z = omega (arith, q, z)
+not-done e (inr (inr q)) z = omega (arith, q, z)
+
 -- ---- the cut
 module _ (b1 b2 b3 k : ℕ) (t work : Table) (r : Results) where
   abbrev fit : Source → Grid → Bool
-  fit Moments g = lengthsRight Moments g k t (beside work r)
-  fit Bins g = lengthsRight Bins g k t (without r)
+  fit Moments g = lengthsRight Moments g k t (withWork work r)
+  fit Bins g = lengthsRight Bins g k t (withoutWork r)
 
   abbrev number-on : Source → Grid → ℕ
   number-on source g = cutNumberOn limit g k (fit source g) (viewOf t)
@@ -76,18 +82,19 @@ module _ (b1 b2 b3 k : ℕ) (t work : Table) (r : Results) where
       }
     where
       of : (n o : ℕ) → n ≡ o
-          → whenDone n (laterOn Bins g (viewOf t) k (without r)) (without r) .results
-          ≡ whenDone o (laterOn Moments g (viewOf t) k (beside work r)) (beside work r) .results
+          → whenDone n (laterOn Bins g (viewOf t) k (withoutWork r)) (withoutWork r) .results
+          ≡ whenDone o (laterOn Moments g (viewOf t) k (withWork work r)) (withWork work r) .results
       of n zero q = rw q refl
       of n (suc o) q = rw q refl
 
   -- a work table of its length fits, and so the lengths fit or not alike
-  same-fit : (g : Grid) → Exact g work → fit Bins g ≡ fit Moments g
+  same-fit : (g : Grid) → ExactWork g work → fit Bins g ≡ fit Moments g
   unfolding longEnough workFits
   same-fit g h = sym (rw (fit-moments g (length work) h) refl)
 
   -- "the same boxes, order, palette, counts and map on every sound table, and the same refusals"
-  pub engines-agree : {g : Grid} → gridOf b1 b2 b3 ≡ chosen.Accepted g → Exact g work → SameEngines b1 b2 b3 k t work r
+  pub engines-agree : {g : Grid} → gridOf b1 b2 b3 ≡ chosen.Accepted g → ExactWork g work
+      → SameEngines b1 b2 b3 k t work r
   engines-agree {g} e h = same-by-number e (ap (λ (b : Bool). cutNumberOn limit g k b (viewOf t)) (same-fit g h))
 
   -- 1 and 2, whatever is lent as a work table, by either engine's answer
@@ -99,8 +106,8 @@ module _ (b1 b2 b3 k : ℕ) (t work : Table) (r : Results) where
   first-two (chosen.Accepted g) e (inl f) = same-by-number e (numbers-two g k t (fit Bins g) (fit Moments g) f)
   first-two (chosen.Accepted g) e (inr f) = same-by-number e (sym (numbers-two g k t (fit Moments g) (fit Bins g) f))
 
-  pub first-refusals : FirstTwo (cutNumber Bins b1 b2 b3 k t (without r))
-      ⊎ FirstTwo (cutNumber Moments b1 b2 b3 k t (beside work r)) → SameEngines b1 b2 b3 k t work r
+  pub first-refusals : FirstTwo (cutNumber Bins b1 b2 b3 k t (withoutWork r))
+      ⊎ FirstTwo (cutNumber Moments b1 b2 b3 k t (withWork work r)) → SameEngines b1 b2 b3 k t work r
   unfolding cutNumber
   first-refusals = first-two (gridOf b1 b2 b3) refl
 
@@ -111,21 +118,22 @@ touches-nothing-else = bins-leave-work
 -- ---- the calls for C and Rust
 module _ (b1 b2 b3 k : ℕ) (t work : Table) (r : Results) (boxes : List ℕ) (spreads : List Float) where
   abbrev slow : Lent
-  slow = lentWith (without r) boxes spreads
+  slow = lent (withoutWork r) boxes spreads
 
   abbrev fast : Lent
-  fast = lentWith (beside work r) boxes spreads
+  fast = lent (withWork work r) boxes spreads
 
   abbrev Same : Type 0
   Same = SameCalls b1 b2 b3 k t work r boxes spreads
 
-  -- where both answer the same, and the cuts beneath agree
+  -- where both answer the same and, if that is 0, the cuts beneath agree
   calls-by-number : callNumber Bins b1 b2 b3 k t slow ≡ callNumber Moments b1 b2 b3 k t fast
-      → SameEngines b1 b2 b3 k t work r → Same
-  calls-by-number m s = go (callNumber Moments b1 b2 b3 k t fast) refl
+      → (callNumber Moments b1 b2 b3 k t fast ≡ 0 → SameEngines b1 b2 b3 k t work r) → Same
+  calls-by-number m agree = go (callNumber Moments b1 b2 b3 k t fast) refl
     where
       go : (n : ℕ) → callNumber Moments b1 b2 b3 k t fast ≡ n → Same
       go zero e =
+          let s = agree e in
           let one = call-has Bins b1 b2 b3 k t slow (m ∙ e) in
           let two = call-has Moments b1 b2 b3 k t fast e in
           record {
@@ -161,9 +169,29 @@ module _ (b1 b2 b3 k : ℕ) (t work : Table) (r : Results) (boxes : List ℕ) (s
       (roomNumber b1 b2 b3 k (length boxes) (length spreads))) (s .number)
       ∙ sym (in-stages Moments b1 b2 b3 k t fast)
 
-  -- so where the cuts agree the calls do: on a grid with a work table of its length, and by 1 and 2 with any
-  pub calls-agree : SameEngines b1 b2 b3 k t work r → SameCalls b1 b2 b3 k t work r boxes spreads
-  calls-agree s = calls-by-number (same-call-number s) s
+  -- the calls agree on a grid with a work table of its length
+  pub calls-agree : {g : Grid} → gridOf b1 b2 b3 ≡ chosen.Accepted g → ExactWork g work
+      → SameCalls b1 b2 b3 k t work r boxes spreads
+  calls-agree e h =
+      let s = engines-agree b1 b2 b3 k t work r e h in calls-by-number (same-call-number s) (λ z. s)
+
+  -- and by 1 and 2 whatever is lent as a work table
+  first-two-calls : (c : Chosen) → gridOf b1 b2 b3 ≡ c
+      → FirstTwo (numberOn c (λ g. callNumberOn Bins g k t slow))
+      ⊎ FirstTwo (numberOn c (λ g. callNumberOn Moments g k t fast))
+      → numberOn c (λ g. callNumberOn Bins g k t slow) ≡ numberOn c (λ g. callNumberOn Moments g k t fast)
+  unfolding numberOn onGrid callNumberOn
+  first-two-calls chosen.Refused e f = refl
+  first-two-calls (chosen.Accepted g) e (inl f) =
+      numbers-two g k t (allLong Bins g k (length t) slow) (allLong Moments g k (length t) fast) f
+  first-two-calls (chosen.Accepted g) e (inr f) =
+      sym (numbers-two g k t (allLong Moments g k (length t) fast) (allLong Bins g k (length t) slow) f)
+
+  pub first-call-refusals : FirstTwo (callNumber Bins b1 b2 b3 k t slow)
+      ⊎ FirstTwo (callNumber Moments b1 b2 b3 k t fast) → SameCalls b1 b2 b3 k t work r boxes spreads
+  unfolding callNumber
+  first-call-refusals f =
+      let m = first-two-calls (gridOf b1 b2 b3) refl f in calls-by-number m (λ z. absurd (not-done m f z))
 
 pub call-touches-nothing-else : (b1 b2 b3 k : ℕ) (t : Table) (l : Lent)
     → callLater Bins b1 b2 b3 k t l .buffers .work ≡ l .buffers .work

@@ -25,7 +25,8 @@ use Rattle.cutter.specs.Cut.{Buffers, cutNumber, doneRecord, cutRecord}
 use Rattle.cutter.proofs.Laws.{cut-says, cut-accepts}
 use Rattle.promises.specs.Full.{occupiedBins, Lends}
 
-module _ (source : Source) (b1 b2 b3 k : ℕ) (t : List ℕ) (b : Buffers) {g : Grid} (e : gridOf b1 b2 b3 ≡ chosen.Accepted g) where
+module _ (source : Source) (b1 b2 b3 k : ℕ) (t : List ℕ) (b : Buffers) {g : Grid}
+    (e : gridOf b1 b2 b3 ≡ chosen.Accepted g) where
   -- over the one property of the spreads: a box with two occupied bins has a computed spread above 0
   pub full-above : cutNumber source b1 b2 b3 k t b ≡ 0 → SpreadsAbove g (viewOf t)
       → cutRecord source b1 b2 b3 k t b .boxes ≡ min k (occupiedBins g t)
@@ -69,7 +70,8 @@ module _ (source : Source) (b1 b2 b3 k : ℕ) (t : List ℕ) (b : Buffers) {g : 
         }))
 
     -- "as many boxes as the smaller of k and the occupied bins"
-    pub full-loaded : Lends source g k b → 1 ≤ total g (viewOf t) → cutRecord source b1 b2 b3 k t b .boxes ≡ min k (occupiedBins g t)
+    pub full-loaded : Lends source g k b → 1 ≤ total g (viewOf t)
+        → cutRecord source b1 b2 b3 k t b .boxes ≡ min k (occupiedBins g t)
     full-loaded l some =
         let fits = filled-table b1 b2 b3 e p y ran in
         full-above (plan-cuts l some)

@@ -38,8 +38,8 @@ use Rattle.promises.specs.Tiling.{boxesIn, boxIn}
 use Rattle.promises.specs.Mapping.{cutBoxes, cutMap, cutFront, SameIndices}
 use Rattle.promises.proofs.Tiling.{tiling}
 
-module _ (source : Source) (b1 b2 b3 k : ℕ) (t : List ℕ) (b : Buffers) {g : Grid} (e : gridOf b1 b2 b3 ≡ chosen.Accepted g)
-    (n : cutNumber source b1 b2 b3 k t b ≡ 0) where
+module _ (source : Source) (b1 b2 b3 k : ℕ) (t : List ℕ) (b : Buffers) {g : Grid}
+    (e : gridOf b1 b2 b3 ≡ chosen.Accepted g) (n : cutNumber source b1 b2 b3 k t b ≡ 0) where
   -- "every bin of it gets index i in the map" and "A pixel's index is the map's byte at its bin", over the call: a
   -- pixel of a mapped band has index i exactly where box i holds its bin
   pub pixel-index : (paletteColours : ℕ) (frame indices : List ℕ) (first pixels : ℕ) → ((j : ℕ) → getD frame j 0 < 256)
@@ -87,9 +87,11 @@ module _ (source : Source) (b1 b2 b3 k : ℕ) (t : List ℕ) (b : Buffers) {g : 
   -- after a cut the map is never refused with 9: not by map, told the number of boxes, nor by paint, lent the filled
   -- front
   pub map-never-9 : (frame indices : List ℕ) (first pixels : ℕ)
-      → mapNumber b1 b2 b3 (cutMap source b1 b2 b3 k t b) (cutBoxes source b1 b2 b3 k t b) frame indices first pixels ≡ 9 → ⊥
+      → mapNumber b1 b2 b3 (cutMap source b1 b2 b3 k t b) (cutBoxes source b1 b2 b3 k t b) frame indices first pixels
+      ≡ 9 → ⊥
   map-never-9 frame indices first pixels =
-      map-not-9 b1 b2 b3 (cutMap source b1 b2 b3 k t b) (cutBoxes source b1 b2 b3 k t b) frame indices first pixels all-entries-below
+      map-not-9 b1 b2 b3 (cutMap source b1 b2 b3 k t b) (cutBoxes source b1 b2 b3 k t b) frame indices first pixels
+      all-entries-below
 
   pub paint-never-9 : (frame : List ℕ) (first pixels : ℕ)
       → paintNumber b1 b2 b3 (cutMap source b1 b2 b3 k t b) (cutFront source b1 b2 b3 k t b) frame first pixels ≡ 9 → ⊥
@@ -106,7 +108,8 @@ mapped-in-bands b1 b2 b3 map paletteColours frame bs indices inside all =
     bands-whole b1 b2 b3 map paletteColours frame bs indices inside all
 
 -- the same index for every pixel in any order of loading, over the call itself
-pub same-indices : {source : Source} {g : Grid} {b1 b2 b3 k : ℕ} {b : Buffers} {t s : List ℕ} → SameCut source g b1 b2 b3 k b t s
+pub same-indices : {source : Source} {g : Grid} {b1 b2 b3 k : ℕ} {b : Buffers} {t s : List ℕ}
+    → SameCut source g b1 b2 b3 k b t s
     → SameIndices b1 b2 b3 (cutMap source b1 b2 b3 k t b) (cutMap source b1 b2 b3 k s b)
 same-indices {b1 = b1} {b2} {b3} c =
     record {

@@ -181,12 +181,15 @@ module _ (b1 b2 b3 : ℕ) where
           rescue-tests b1 b2 b3 t l e ∙ both (isSized t (binsOf g)) (eqb (length l) (binsOf g)) 5 0 ∙ rw e refl
       go chosen.Refused e = sym (rescues.no-grid b1 b2 b3 t l e .0) ∙ rw e refl
 
-  pub cut-lowest : (source : Source) (k : ℕ) (t : List ℕ) (b : Buffers) → cutNumber source b1 b2 b3 k t b ≡ lowestOf (cutApplies source b1 b2 b3 k t b)
+  pub cut-lowest : (source : Source) (k : ℕ) (t : List ℕ) (b : Buffers)
+      → cutNumber source b1 b2 b3 k t b ≡ lowestOf (cutApplies source b1 b2 b3 k t b)
   unfolding cutNumber cutNumberOn cutApplies cutTests chain ascends noGrid onBins numberOn onGrid gridAnswer refuse
-  cut-lowest source k t b = go (gridOf b1 b2 b3) ∙ lowest (cutTests source (gridOf b1 b2 b3) k t b true) 1 (omega arith) refl
+  cut-lowest source k t b =
+      go (gridOf b1 b2 b3) ∙ lowest (cutTests source (gridOf b1 b2 b3) k t b true) 1 (omega arith) refl
     where
       go : (c : Chosen)
-          → numberOn c (λ g. cutNumberOn limit g k (lengthsRight source g k t b) (viewOf t)) ≡ chain (cutTests source c k t b true)
+          → numberOn c (λ g. cutNumberOn limit g k (lengthsRight source g k t b) (viewOf t))
+          ≡ chain (cutTests source c k t b true)
       go (chosen.Accepted g) = refl
       go chosen.Refused = refl
 
@@ -201,7 +204,8 @@ module _ (b1 b2 b3 : ℕ) where
       room : Bool
       room = hasRoom k (length (l .boxes)) (length (l .spreads))
 
-      go : (c : Chosen) → numberOn c (λ g. callNumberOn source g k t l) ≡ chain (cutTests source c k t (l .buffers) room)
+      go : (c : Chosen) → numberOn c (λ g. callNumberOn source g k t l)
+          ≡ chain (cutTests source c k t (l .buffers) room)
       go (chosen.Accepted g) =
           ap (refuse (not (leb 1 k && leb k 256)) 2)
           (both (longEnough source g k (length t) (lengthsOf (l .buffers))) room 5
@@ -349,7 +353,8 @@ module _ (b1 b2 b3 : ℕ) where
   unfolding cutNumber
   cut-exactly source k t b = (
     λ e.
-        let c = call-done {A = ℕ} (gridOf b1 b2 b3) (λ g. cutNumberOn limit g k (lengthsRight source g k t b) (viewOf t))
+        let c = call-done {A = ℕ} (gridOf b1 b2 b3)
+        (λ g. cutNumberOn limit g k (lengthsRight source g k t b) (viewOf t))
         (λ g. 0) 0 e in
         let d = cut-says source b1 b2 b3 k t b (c .is) e in record { g = c .g; chosen = c .is; can = (d .can, d .fit) },
     λ o. cut-accepts source b1 b2 b3 k t b (o .chosen) (o .can .0) (o .can .1),

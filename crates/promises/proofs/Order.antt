@@ -18,7 +18,8 @@ use Rattle.cutter.specs.Cut.{Buffers, cutRecord, cutLater}
 use Rattle.promises.specs.Order.{SameCut, CutAlike}
 
 -- a cut sees nothing of a table but its numbers
-pub same-cut : (source : Source) (g : Grid) (b1 b2 b3 k : ℕ) (b : Buffers) {t s : List ℕ} → t ≡ s → SameCut source g b1 b2 b3 k b t s
+pub same-cut : (source : Source) (g : Grid) (b1 b2 b3 k : ℕ) (b : Buffers) {t s : List ℕ} → t ≡ s
+    → SameCut source g b1 b2 b3 k b t s
 same-cut source g b1 b2 b3 k b e =
     record {
       boxes = λ i. cutRecord source b1 b2 b3 k (e i) b;

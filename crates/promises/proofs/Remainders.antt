@@ -77,8 +77,10 @@ module _ (source : Source) {g : Grid} {k : ℕ} (t : List ℕ) (b : Buffers) (a 
         all = λ d l. back-all d l;
       }
 
-pub remainders : (source : Source) (b1 b2 b3 k : ℕ) (t : List ℕ) (b : Buffers) {g : Grid} → gridOf b1 b2 b3 ≡ chosen.Accepted g
-    → cutNumber source b1 b2 b3 k t b ≡ 0 → Remainders g t (cutRecord source b1 b2 b3 k t b) (cutLater source b1 b2 b3 k t b)
+pub remainders : (source : Source) (b1 b2 b3 k : ℕ) (t : List ℕ) (b : Buffers) {g : Grid}
+    → gridOf b1 b2 b3 ≡ chosen.Accepted g
+    → cutNumber source b1 b2 b3 k t b ≡ 0
+    → Remainders g t (cutRecord source b1 b2 b3 k t b) (cutLater source b1 b2 b3 k t b)
 remainders source b1 b2 b3 k t b e n =
     let d = cut-says source b1 b2 b3 k t b e n in
     rw (d .hands, d .leaves) (done-remainders source t b (d .accepted) (d .can))

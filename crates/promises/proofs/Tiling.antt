@@ -143,12 +143,13 @@ tiling-loaded {g} a cs b {r} {later} t =
     }
 
 -- ---- the promises
-module _ (source : Source) (b1 b2 b3 k : ℕ) (t : List ℕ) (b : Buffers) {g : Grid} (e : gridOf b1 b2 b3 ≡ chosen.Accepted g)
-    (n : cutNumber source b1 b2 b3 k t b ≡ 0) where
+module _ (source : Source) (b1 b2 b3 k : ℕ) (t : List ℕ) (b : Buffers) {g : Grid}
+    (e : gridOf b1 b2 b3 ≡ chosen.Accepted g) (n : cutNumber source b1 b2 b3 k t b ≡ 0) where
   -- at any total, of every table that a cut is done with
   pub tiling : Tiling g t (cutRecord source b1 b2 b3 k t b) (cutLater source b1 b2 b3 k t b)
   tiling =
-      let d = cut-says source b1 b2 b3 k t b e n in rw (d .hands, d .leaves) (done-tiling t b (d .accepted) (d .can) (d .fit))
+      let d = cut-says source b1 b2 b3 k t b e n in
+      rw (d .hands, d .leaves) (done-tiling t b (d .accepted) (d .can) (d .fit))
 
   -- and of every table that loads and merges gave
   pub loaded-counts : (p : Plan) → BytesIn p → ends b1 b2 b3 p ≡ Filled t

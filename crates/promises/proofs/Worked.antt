@@ -64,8 +64,8 @@ unfolding loadsOf tableAfter positionIn lentTo outcome times empties plain weigh
     paletteLater countsLater remaindersLater lies holdsAt holds
     indexFrom
     mapOf
-    workFits longEnough cutNumberOn cutNumber refusedRecord doneRecord recordOn cutRecord listOf boxList laterOn resultsOn
-    cutLater
+    workFits longEnough cutNumberOn cutNumber refusedRecord doneRecord recordOn cutRecord listOf boxList laterOn
+    resultsOn cutLater
     lib.Ieee.ofInt lib.Ieee.mul lib.Ieee.add lib.Ieee.sub lib.Ieee.div lib.Ieee.neg lib.Ieee.lt lib.Ieee.le
     lib.Ieee.round lib.Ieee.size lib.Ieee.span lib.Ieee.climb lib.Ieee.units lib.Ieee.odd lib.Ieee.sum lib.Ieee.eq
     lib.Count.trailingZeros

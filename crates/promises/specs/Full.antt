@@ -7,7 +7,7 @@ use lib.ListN.{length}
 use Rattle.grid.specs.declared.place.Grid.{Grid}
 use Rattle.basics.specs.Range.{sumFrom}
 use Rattle.grid.specs.Grid.{binsOf}
-use Rattle.table.specs.Table.{tableLen, viewOf}
+use Rattle.table.specs.Table.{viewOf}
 use Rattle.bins.specs.Sum.{marks}
 use Rattle.sums.specs.declared.source.Source.{Source}
 use Rattle.cutter.specs.Cut.{Buffers, workFits}

@@ -16,7 +16,8 @@ pub record SameCut (source : Source) (g : Grid) (b1 b2 b3 k : ℕ) (b : Buffers)
   pub boxes : cutRecord source b1 b2 b3 k t b ≡ cutRecord source b1 b2 b3 k s b
   pub palette : cutLater source b1 b2 b3 k t b .results .palette ≡ cutLater source b1 b2 b3 k s b .results .palette
   pub counts : cutLater source b1 b2 b3 k t b .results .counts ≡ cutLater source b1 b2 b3 k s b .results .counts
-  pub remainders : cutLater source b1 b2 b3 k t b .results .remainders ≡ cutLater source b1 b2 b3 k s b .results .remainders
+  pub remainders : cutLater source b1 b2 b3 k t b .results .remainders
+      ≡ cutLater source b1 b2 b3 k s b .results .remainders
   pub map : cutLater source b1 b2 b3 k t b .results .map ≡ cutLater source b1 b2 b3 k s b .results .map
   pub work : cutLater source b1 b2 b3 k t b .work ≡ cutLater source b1 b2 b3 k s b .work
   pub pixel : (c : Rgb)

@@ -228,7 +228,8 @@ module _ (source : Source) (b1 b2 b3 k : ℕ) (t : List ℕ) (l : Lent) where
     call-done z q later p s =
         let ends = cut-ends z in (
           ap answer-of q ∙ ends .0,
-          (λ i. lent (later i) (p i) (s i)) ∙ ap (λ (r : CutRecord). written r (cutLater source b1 b2 b3 k t (l .buffers))) q
+          (λ i. lent (later i) (p i) (s i))
+              ∙ ap (λ (r : CutRecord). written r (cutLater source b1 b2 b3 k t (l .buffers))) q
               ∙ ends .1,
         )
 

@@ -1,14 +1,11 @@
 -- A box's sum from the moments, by inclusion and exclusion.
 -- Assumes nothing.
-use mathlib.Core.Path.{_≡_, refl, sym, ap, _∙_}
+use mathlib.Core.Path.{_≡_, sym, ap, _∙_}
 use Prim.Native.Nat.{ℕ, _+_, _-_, _^_, _≤_, _<_}
-use native.Mathlib.Nat.{zero-add}
 use native.Mathlib.Omega.{arith}
 use lib.Dec.{lit<}
 use Rattle.grid.specs.declared.place.Grid.{Grid}
-use Rattle.basics.specs.Range.{sumFrom}
 use Rattle.grid.specs.Grid.{Inside, placeOf}
-use Rattle.basics.proofs.Range.{sum-zero, sum-same}
 use Rattle.grid.proofs.Places.{place-lt}
 use Rattle.table.specs.declared.cell.Cell.{Cell}
 use Rattle.table.specs.Cell.{View, cellOf, numberOf, minusCell, AtLeast}
@@ -17,15 +14,11 @@ use Rattle.table.specs.Sound.{limit}
 use Rattle.table.proofs.Tables.{has-cell}
 use Rattle.table.proofs.Cells.{number-cell, cell-by, Fields, cell-fields, minus-least, minus-is, zeroCell, zeros-cell}
 use Rattle.table.proofs.Soundness.{Sound}
-use Rattle.boxes.specs.declared.sides.Bounds.{Bounds}
 use Rattle.sums.specs.declared.box_sums.Stats.{Stats}
-use Rattle.boxes.specs.Box.{Within}
-use Rattle.bins.specs.Sum.{sum3, binSum, boxSum}
+use Rattle.bins.specs.Sum.{binSum}
 use Rattle.sums.specs.Box.{statsFrom}
 use Rattle.sums.specs.Moments.{belowSum}
 use Rattle.sums.specs.Inner.{binCell, Corner}
-use Rattle.boxes.proofs.Within.{Sides, sides}
-use Rattle.bins.proofs.Boxes.{sum3-first, sum3-second, sum3-third}
 use Rattle.sums.proofs.Below.{moments-at, below-small}
 
 -- the cell of a run of bins, from those up to its end and up to its start
@@ -74,7 +67,8 @@ module _ {g : Grid} {t w : Table} {r gr b : ℕ} (c : Corner g t w r gr b) where
       ap (λ (n : ℕ). viewOf w n j) at
       ∙ c .can-sum .provided .has-moments .at (placeOf g (r - 1) (gr - 1) (b - 1)) j (place-lt corner-inside) m
       ∙ moments-at g (viewOf t) (r - 1) (gr - 1) (b - 1) j (corner-inside .two) (corner-inside .three)
-      ∙ (λ i. binSum g (viewOf t) 0 (before r (c .some-one) i) 0 (before gr (c .some-two) i) 0 (before b (c .some-three) i) j)
+      ∙ (λ i. binSum g (viewOf t) 0 (before r (c .some-one) i) 0 (before gr (c .some-two) i) 0
+      (before b (c .some-three) i) j)
 
   pub corner-is : {p : ℕ} → p ≡ placeOf g (r - 1) (gr - 1) (b - 1) → {x : Cell} → x ≡ cellOf (viewOf w p) → x
       ≡ binCell g (viewOf t) 0 r 0 gr 0 b

@@ -28,7 +28,7 @@ pub struct Stats {
     pub squares: f64,
 }
 
-// The sums of all bins below r, gr and b. The table is named by the contract alone, here and below.
+// The sums of all bins below r, gr and b. The table is named by the contract alone, here and in the three below.
 fn corner(table: &[u64], work: &[u64], g: Grid, r: usize, gr: usize, b: usize) -> Cell
     requires { ⌜ Corner g (now table) (now work) r gr b ⌝ }
     ensures { λ c. ⌜ c ≡ binCell g (viewOf (now (table .entry))) 0 r 0 gr 0 b ⌝ }

@@ -25,7 +25,9 @@ abbrev μ-loop : tie.MeasureT-loop
 
 -- the numbers of a row
 abbrev row : tie.Start Inv-loop μ-loop → ℕ → ℕ → ℕ
-row s gr j = rowSum (s .args .g) (viewOf (now (s .args .table))) (s .args .r) gr (s .args .x .b0) (s .args .x .b1 - s .args .x .b0) j
+row s gr j =
+    rowSum (s .args .g) (viewOf (now (s .args .table))) (s .args .r) gr (s .args .x .b0)
+    (s .args .x .b1 - s .args .x .b0) j
 
 cast-end : tie.Need-cast-end Inv-loop μ-loop
 cast-end c = search needs
@@ -79,8 +81,8 @@ returns c =
     let s = c .before .before .before .before .before in
     let l = c .before .loop in
     l .inv .2
-    ∙ ap (λ (e : ℕ). cellOf (planeSum (s .args .g) (viewOf (now (s .args .table))) (s .args .x) (s .args .r) (s .args .x .g0)
-    (e - s .args .x .g0)))
+    ∙ ap (λ (e : ℕ). cellOf (planeSum (s .args .g) (viewOf (now (s .args .table))) (s .args .x) (s .args .r)
+    (s .args .x .g0) (e - s .args .x .g0)))
     (omega (arith, l .inv .1, c .loop-test .left))
 
 pub add-plane-spec : {M : Type 1} → statement M

@@ -1,7 +1,6 @@
 -- `cutter::call::ready` meets its contract: the moments are written where sums come from them.
 -- Assumes nothing.
-use mathlib.Core.Path.{_≡_, sym, ap, _∙_}
-use mathlib.Core.Bool.{true}
+use mathlib.Core.Path.{sym, ap, _∙_}
 use borrow.Author.Needs.{needs}
 use denote.Ref.{now}
 use lib.ListN.{length}
@@ -23,7 +22,8 @@ moments-requires c κs =
       table = s .pre .0;
       is-sound = s .pre .1;
       work = sized-by (moments-fit (s .args .g) (length (now (s .args .work)))
-          (ap (λ (x : Source). workFits x (s .args .g) (length (now (s .args .work)))) (sym (c .before .enum-told .given .1))
+          (ap (λ (x : Source). workFits x (s .args .g) (length (now (s .args .work))))
+          (sym (c .before .enum-told .given .1))
           ∙ s .pre .2));
     }
 

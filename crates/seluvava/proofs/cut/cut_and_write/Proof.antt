@@ -40,9 +40,10 @@ put-boxes-requires c κs =
     (length (now (s .args .spreads)))
     (sym (c .before .before .before .before .before .before .before .before .before .before .before .before .before .before .before .before .before .before .before .room-number .ensures) ∙ c .before .before .before .before .before .before .before .before .before .before .before .before .before .before .before .before .before .before .if1 .left) in
     let e = c .before .before .before .before .before .before .before .before .before .before .before .before .cut-from .ensures .0 in
-    let n = few (s .args .source) (s .args .k) (r .least) (r .most) (now (s .args .table)) (s .args .b1) (s .args .b2) (s .args .b3)
-    (five s) e in (
-      all-places (s .args .source) (s .args .k) (now (s .args .table)) (s .args .b1) (s .args .b2) (s .args .b3) (five s) e,
+    let n = few (s .args .source) (s .args .k) (r .least) (r .most) (now (s .args .table)) (s .args .b1)
+    (s .args .b2) (s .args .b3) (five s) e in (
+      all-places (s .args .source) (s .args .k) (now (s .args .table)) (s .args .b1) (s .args .b2) (s .args .b3)
+          (five s) e,
       omega (arith, n, r .most),
       omega (arith, n, r .boxes-fit),
       omega (arith, n, r .spreads-fit),

@@ -1,14 +1,14 @@
 -- `spread::by_bins::best_by_bins` meets its contract: after each bin the best is that of the positions so far.
 -- Assumes nothing.
-use mathlib.Core.Path.{_≡_, ap, _∙_}
-use Prim.Native.Nat.{ℕ, _+_, _-_, _≤_, _<_}
+use mathlib.Core.Path.{_≡_}
+use Prim.Native.Nat.{_+_, _-_, _≤_, _<_}
 use native.Mathlib.Omega.{arith}
 use borrow.Author.Needs.{needs}
 use denote.Ref.{now}
 use Rattle.table.specs.Table.{viewOf}
 use Rattle.boxes.specs.Box.{minAt, maxAt}
-use Rattle.spread.specs.Cut.{bestRun, bestIn}
-use Rattle.spread.proofs.Choose.{end-high, run-none, run-next}
+use Rattle.spread.specs.Cut.{bestRun}
+use Rattle.spread.proofs.Choose.{end-high, run-none, run-next, run-whole}
 use Rattle.spread.proofs.by_bins.best_by_bins.Statement.{statement}
 use Rattle.spread.proofs.by_bins.best_by_bins.Tie as tie
 
@@ -43,7 +43,8 @@ loop-holds c =
       omega (arith, c .first-bin .ensures),
       omega (arith, c .first-bin .ensures, c .before .end-bin .ensures, some s),
       run-none (s .args .g) (viewOf (now (s .args .table))) (s .args .x) (s .args .dimension)
-          (minAt (s .args .x) (s .args .dimension) + 1) (c .first-bin .result + 1) (omega (arith, c .first-bin .ensures)),
+          (minAt (s .args .x) (s .args .dimension) + 1) (c .first-bin .result + 1)
+          (omega (arith, c .first-bin .ensures)),
     )
 
 position-by-bins-requires : tie.Need-position-by-bins-requires Inv-loop μ-loop
@@ -85,18 +86,11 @@ loop-again c =
     )
 
 returns : tie.Need-returns Inv-loop μ-loop
-unfolding bestIn
 returns c =
     let s = c .before .before .before .before .before in
     let l = c .before .loop in
-    let from : ℕ = minAt (s .args .x) (s .args .dimension) in
-    let all : l .bin ≡ maxAt (s .args .x) (s .args .dimension) =
-    omega (arith, l .inv .1, c .loop-test .left, c .before .before .before .end-bin .ensures) in
-    l .inv .2
-    ∙ ap
-    (λ (n : ℕ).
-    bestRun (s .args .g) (viewOf (now (s .args .table))) (s .args .x) (s .args .dimension) (from + 1) (n - (from + 1)))
-    all
+    run-whole (s .args .g) (viewOf (now (s .args .table))) (s .args .x) (s .args .dimension)
+    (omega (arith, l .inv .1, c .loop-test .left, c .before .before .before .end-bin .ensures)) (l .inv .2)
 
 pub best-by-bins-spec : {M : Type 1} → statement M
 best-by-bins-spec =

@@ -66,8 +66,10 @@ the-high k =
 
 position-between-requires : tie.Need-position-between-requires
 position-between-requires c κs =
-    let s = c .before .before .before .before .before in
-    (plain-stats (is-sound s) (low-in s) (the-low (c .before .before)), plain-stats (is-sound s) (high-in s) (the-high c))
+    let s = c .before .before .before .before .before in (
+      plain-stats (is-sound s) (low-in s) (the-low (c .before .before)),
+      plain-stats (is-sound s) (high-in s) (the-high c),
+    )
 
 returns : tie.Need-returns
 returns c =

@@ -12,7 +12,7 @@ use Rattle.boxes.specs.Box.{minAt, maxAt, slabTo}
 use Rattle.spread.specs.declared.position.Position.{Position}
 use Rattle.spread.specs.Cut.{positionAt, better, bestRun, bestIn}
 use Rattle.spread.specs.Inner.{CutsAt}
-use Rattle.spread.proofs.Choose.{later-is-better, earlier-is-better, end-high, run-none, run-next}
+use Rattle.spread.proofs.Choose.{later-is-better, earlier-is-better, end-high, run-none, run-next, run-whole}
 use Rattle.spread.proofs.by_moments.best_by_moments.Statement.{statement}
 use Rattle.spread.proofs.by_moments.best_by_moments.Tie as tie
 
@@ -207,18 +207,12 @@ loop-again c =
     none from bin e = omega arith
 
 returns-2 : tie.Need-returns-2 Inv-loop μ-loop
-unfolding bestIn
 returns-2 c =
     let s = c .before .before .before .before .before .before .before .before .before in
     let l = c .before .loop in
-    let from : ℕ = minAt (s .args .x) (s .args .dimension) in
-    let all : l .bin ≡ maxAt (s .args .x) (s .args .dimension) =
-    omega (arith, l .inv .1, c .loop-test .left, c .before .before .before .before .before .before .end-bin .ensures) in
-    l .inv .2
-    ∙ ap
-    (λ (n : ℕ).
-    bestRun (s .args .g) (viewOf (now (s .args .table))) (s .args .x) (s .args .dimension) (from + 1) (n - (from + 1)))
-    all
+    run-whole (s .args .g) (viewOf (now (s .args .table))) (s .args .x) (s .args .dimension)
+    (omega (arith, l .inv .1, c .loop-test .left, c .before .before .before .before .before .before .end-bin .ensures))
+    (l .inv .2)
 
 pub best-by-moments-spec : {M : Type 1} → statement M
 best-by-moments-spec =

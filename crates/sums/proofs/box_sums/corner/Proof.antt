@@ -1,6 +1,5 @@
 -- `sums::corner` meets its contract: the moments at the last bin before the corner.
 -- Assumes nothing.
-use native.Mathlib.Omega.{arith}
 use borrow.Author.Needs.{needs}
 use Rattle.sums.proofs.Corners.{corner-inside, corner-cell, corner-is}
 use Rattle.sums.proofs.box_sums.corner.Statement.{statement}

@@ -1,4 +1,4 @@
--- `cutter::call::number_on` meets its contract: the refusals in their order.
+-- `cutter::number::number_on` meets its contract: the refusals in their order.
 -- Assumes nothing.
 use mathlib.Core.Path.{_≡_, sym, _∙_}
 use mathlib.Core.Bool.{Bool, true}
@@ -16,8 +16,8 @@ use Rattle.table.proofs.Tables.{sized-by}
 use Rattle.table.proofs.Total.{unsound-says, total-says}
 use Rattle.cutter.specs.Cut.{Lengths, longEnough}
 use Rattle.cutter.proofs.Refusals.{k-low, k-high, too-short, not-sound, no-total, accepts, lengths-fit}
-use Rattle.cutter.proofs.call.number_on.Statement.{statement}
-use Rattle.cutter.proofs.call.number_on.Tie as tie
+use Rattle.cutter.proofs.number.number_on.Statement.{statement}
+use Rattle.cutter.proofs.number.number_on.Tie as tie
 
 abbrev lengths : tie.Start → Lengths
 lengths s =

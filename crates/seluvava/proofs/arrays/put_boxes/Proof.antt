@@ -1,4 +1,4 @@
--- `seluvava::cut::put_boxes` meets its contract: after each box, both arrays have the boxes so far in front.
+-- `seluvava::arrays::put_boxes` meets its contract: after each box, both arrays have the boxes so far in front.
 -- Assumes nothing.
 use mathlib.Core.Path.{_≡_, refl, sym, ap, _∙_}
 use mathlib.Core.List.{List}
@@ -11,8 +11,8 @@ use Rattle.cutter.specs.Fronts.{filled}
 use Rattle.cutter.proofs.Fronts.{filled-none}
 use Rattle.seluvava.specs.Cut.{itsBytes, spreadOf, told}
 use Rattle.seluvava.proofs.Boxes.{six, one, told-all, boxes-next, spreads-next, boxes-long, spreads-long}
-use Rattle.seluvava.proofs.cut.put_boxes.Statement.{statement}
-use Rattle.seluvava.proofs.cut.put_boxes.Tie as tie
+use Rattle.seluvava.proofs.arrays.put_boxes.Statement.{statement}
+use Rattle.seluvava.proofs.arrays.put_boxes.Tie as tie
 
 abbrev Inv-loop : tie.InvT-loop
 Inv-loop boxes₀ spreads₀ r n i₀ boxes spreads i =

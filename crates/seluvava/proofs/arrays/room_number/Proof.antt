@@ -1,4 +1,4 @@
--- `seluvava::cut::room_number` meets its contract: the refusals in their order.
+-- `seluvava::arrays::room_number` meets its contract: the refusals in their order.
 -- Assumes nothing.
 use mathlib.Core.Path.{_≡_, sym, _∙_}
 use native.Mathlib.Omega.{arith}
@@ -6,8 +6,8 @@ use Rattle.seluvava.specs.Inner.{roomOn, roomNumber}
 use Rattle.seluvava.proofs.Calls.{room-refused, room-on, room-k-low, room-k-high, room-boxes-short}
 use Rattle.seluvava.proofs.Calls.{room-spreads-short, room-enough}
 use borrow.Author.Needs.{needs}
-use Rattle.seluvava.proofs.cut.room_number.Statement.{statement}
-use Rattle.seluvava.proofs.cut.room_number.Tie as tie
+use Rattle.seluvava.proofs.arrays.room_number.Statement.{statement}
+use Rattle.seluvava.proofs.arrays.room_number.Tie as tie
 
 chosen : (k : tie.After-known-told)
     → roomNumber (k .before .before .before .before .args .b1) (k .before .before .before .before .args .b2)

@@ -1,12 +1,12 @@
--- `seluvava::cut::put_box` meets its contract: six bytes, written where they stand.
+-- `seluvava::arrays::put_box` meets its contract: six bytes, written where they stand.
 -- Assumes nothing.
 use mathlib.Core.Path.{sym}
 use native.Mathlib.Omega.{arith}
 use lib.ListN.{length-set}
 use Rattle.seluvava.proofs.Boxes.{six-bytes}
 use borrow.Author.Needs.{needs}
-use Rattle.seluvava.proofs.cut.put_box.Statement.{statement}
-use Rattle.seluvava.proofs.cut.put_box.Tie as tie
+use Rattle.seluvava.proofs.arrays.put_box.Statement.{statement}
+use Rattle.seluvava.proofs.arrays.put_box.Tie as tie
 
 mul-at : tie.Need-mul-at
 mul-at c = search needs

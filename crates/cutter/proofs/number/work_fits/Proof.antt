@@ -1,4 +1,4 @@
--- `cutter::call::work_fits` meets its contract: each source asks for its own.
+-- `cutter::number::work_fits` meets its contract: each source asks for its own.
 -- Assumes nothing.
 use mathlib.Core.Path.{sym, ap, _∙_}
 use Prim.Native.Nat.{ℕ}
@@ -6,8 +6,8 @@ use borrow.Author.Needs.{needs}
 use lib.Dec.{eqb}
 use Rattle.sums.specs.declared.source.Source.{Source}
 use Rattle.cutter.specs.Cut.{workFits}
-use Rattle.cutter.proofs.call.work_fits.Statement.{statement}
-use Rattle.cutter.proofs.call.work_fits.Tie as tie
+use Rattle.cutter.proofs.number.work_fits.Statement.{statement}
+use Rattle.cutter.proofs.number.work_fits.Tie as tie
 
 enum-told : tie.Need-enum-told
 enum-told c = search needs

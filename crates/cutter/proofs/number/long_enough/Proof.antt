@@ -1,4 +1,4 @@
--- `cutter::call::long_enough` meets its contract: length by length.
+-- `cutter::number::long_enough` meets its contract: length by length.
 -- Assumes nothing.
 use mathlib.Core.Path.{_≡_, sym, ap, _∙_}
 use mathlib.Core.Bool.{true}
@@ -11,8 +11,8 @@ use Rattle.table.specs.Table.{tableLen}
 use Rattle.cutter.specs.Cut.{Lengths, workFits}
 use Rattle.cutter.proofs.Refusals.{table-wrong, work-wrong, palette-short, counts-short, remainders-short}
 use Rattle.cutter.proofs.Refusals.{only-map}
-use Rattle.cutter.proofs.call.long_enough.Statement.{statement}
-use Rattle.cutter.proofs.call.long_enough.Tie as tie
+use Rattle.cutter.proofs.number.long_enough.Statement.{statement}
+use Rattle.cutter.proofs.number.long_enough.Tie as tie
 
 abbrev lengths : tie.Start → Lengths
 lengths s =
