@@ -187,8 +187,8 @@ module _ (b1 b2 b3 k : ℕ) (t work : Table) (r : Results) (boxes : List ℕ) (s
   first-two-calls (chosen.Accepted g) e (inr f) =
       sym (numbers-two g k t (allLong Moments g k (length t) fast) (allLong Bins g k (length t) slow) f)
 
-  pub first-call-refusals : FirstTwo (callNumber Bins b1 b2 b3 k t slow)
-      ⊎ FirstTwo (callNumber Moments b1 b2 b3 k t fast) → SameCalls b1 b2 b3 k t work r boxes spreads
+  pub first-call-refusals : FirstTwo (callNumber Bins b1 b2 b3 k t (lent (withoutWork r) boxes spreads))
+      ⊎ FirstTwo (callNumber Moments b1 b2 b3 k t (lent (withWork work r) boxes spreads)) → SameCalls b1 b2 b3 k t work r boxes spreads
   unfolding callNumber
   first-call-refusals f =
       let m = first-two-calls (gridOf b1 b2 b3) refl f in calls-by-number m (λ z. absurd (not-done m f z))
