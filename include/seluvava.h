@@ -10,9 +10,9 @@
  *
  * load counts colours into a table, and load_ppm those of a PPM file; merge adds a second table into a first, compare
  * tells where two tables differ, rescue clears what is damaged in a table, cut makes of a table a palette of at most
- * 256 colours and a map to it, and map and paint take the pixels of a frame to that palette. begin, reload and batch
- * record frames that were sampled at an interval, and replay does a whole list of such reloads and batches. nearest
- * gives each colour of a palette its number in a terminal.
+ * 256 colours and a map to it, cut_slowly does so without a work table, and map and paint take the pixels of a frame to
+ * that palette. begin, reload and batch record frames that were sampled at an interval, and replay does a whole list of
+ * such reloads and batches. nearest gives each colour of a palette its number in a terminal.
  * docs/CHOOSING.md has what to know first: which grid, what comes back inexactly, how to save a table.
  * docs/INTERVALS.md has a recording as an example, with every answer, and docs/RESCUE.md a night with one bad page of
  * memory.
@@ -35,8 +35,8 @@
  * never looked at, so its pointer may be NULL; 0 is a length like any other, accepted or refused as each call says.
  * Buffers that are const are only read: they may overlap each other, and any number of calls may read them at once.
  *
- * ROUNDING. A cut works in double, each operation rounded once to nearest, as every C program begins. A caller that
- * has changed the rounding mode (fesetround) sets it back to FE_TONEAREST before a cut: in another mode its boxes may
+ * ROUNDING. Both cuts work in double, each operation rounded once to nearest, as every C program begins. A caller that
+ * has changed the rounding mode (fesetround) sets it back to FE_TONEAREST before either: in another mode its boxes may
  * be others. Of the other calls none works in double. The flush modes of the processor, flush-to-zero and
  * denormals-are-zero, may be as they like: no spread and no score is so small.
  *
@@ -45,7 +45,7 @@
  * program without one brings these two.
  *
  * ANSWERS. What load, load_ppm, merge, rescue, batch, map, paint and nearest hand back, and ppm_header, compare, begin,
- * reload, replay and cut in `number`:
+ * reload, replay, cut and cut_slowly in `number`:
  *
  *   0  done
  *   1  a grid size not among the seven
@@ -79,9 +79,9 @@ extern "C" {
 #endif
 
 /* The version of the calls, the crate for Rust and the pages. */
-#define SELUVAVA_VERSION "0.6.0"
+#define SELUVAVA_VERSION "0.7.0"
 #define SELUVAVA_VERSION_MAJOR 0
-#define SELUVAVA_VERSION_MINOR 6
+#define SELUVAVA_VERSION_MINOR 7
 #define SELUVAVA_VERSION_PATCH 0
 
 /* The three sizes for RGB, as every call takes them: 8,192 bins. */
@@ -327,6 +327,30 @@ seluvava_cut(size_t b1, size_t b2, size_t b3, size_t k,
              uint8_t *map, size_t map_len,
              uint8_t *boxes, size_t boxes_len,
              double *spreads, size_t spreads_len);
+
+/*
+ * Cut slowly: what cut does, without a work table. The bins of a box are added up each time that its sums are needed.
+ * Answer and results are those of cut, to the bit, and so are the refusals, but for the one of the work table's length.
+ * It serves where there is no room for a second table, and to hold the other cut to.
+ *
+ *   table, palette, counts, remainders, map, boxes, spreads
+ *             as for cut.
+ *
+ * A round adds up all bins of its box less than b1 + b2 + b3 times. So the time grows with the bins times the three
+ * sizes together, and twice each size takes about 16 times as long: expect milliseconds at 16,32,16, some hundredths of
+ * a second at 32,32,32, and 5 to 15 seconds at 128,128,128. docs/SPEED.md has measured times.
+ *
+ * Answers 0, 1, 2, 5, 6, 8.
+ */
+struct seluvava_cut_answer
+seluvava_cut_slowly(size_t b1, size_t b2, size_t b3, size_t k,
+                    const uint64_t *table, size_t table_len,
+                    uint8_t *palette, size_t palette_len,
+                    uint32_t *counts, size_t counts_len,
+                    uint32_t *remainders, size_t remainders_len,
+                    uint8_t *map, size_t map_len,
+                    uint8_t *boxes, size_t boxes_len,
+                    double *spreads, size_t spreads_len);
 
 /*
  * Map: writes the index of each pixel of a band, which is the map's byte at the pixel's bin. The band is the

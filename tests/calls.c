@@ -2,7 +2,8 @@
  * Every call of seluvava.h, held to docs/RULES.md: the cases P1 to P10, every number of every call, alone and two
  * at a time, lengths one off, NULL with length 0, bands, batches and frames of every length up to 200, every
  * recorded list of up to three entries out of ten, PPM files cut at every byte and with every byte in the place of
- * each of their headers, and palettes of every length; and all of it once more with the processor's flush modes set.
+ * each of their headers, palettes of every length, and both cuts of the same tables, which have to leave the same; and
+ * all of it once more with the processor's flush modes set.
  * What a lent buffer must hold afterwards is said here once more, in C, by the same rules.
  */
 #define _DEFAULT_SOURCE
@@ -61,7 +62,9 @@ static const struct {
 };
 
 /* Which buffers a call is lent, and which of them it may change. */
-enum call { LOAD, LOAD_PPM, MERGE, COMPARE, RESCUE, BATCH, REPLAY, CUT, MAPPING, PAINT, HEADER, NEAREST, CALLS };
+enum call {
+    LOAD, LOAD_PPM, MERGE, COMPARE, RESCUE, BATCH, REPLAY, CUT, CUT_SLOWLY, MAPPING, PAINT, HEADER, NEAREST, CALLS
+};
 #define BIT(n) (1u << (n))
 #define RESULTS (BIT(PALETTE) | BIT(COUNTS) | BIT(REMAINDERS) | BIT(MAP) | BIT(BOXES) | BIT(SPREADS))
 
@@ -78,6 +81,7 @@ static const struct {
     [REPLAY] = {"replay", BIT(TABLE) | BIT(ENTRIES) | BIT(COLOURS) | BIT(WEIGHTS) | BIT(ANSWERS),
                 BIT(TABLE) | BIT(ANSWERS)},
     [CUT] = {"cut", BIT(TABLE) | BIT(WORK) | RESULTS, BIT(WORK) | RESULTS},
+    [CUT_SLOWLY] = {"cut_slowly", BIT(TABLE) | RESULTS, RESULTS},
     [MAPPING] = {"map", BIT(MAP) | BIT(FRAME) | BIT(INDICES), BIT(INDICES)},
     [PAINT] = {"paint", BIT(MAP) | BIT(PALETTE) | BIT(FRAME), BIT(FRAME)},
     [HEADER] = {"ppm_header", BIT(PPM), 0},
@@ -140,6 +144,15 @@ static struct answer answer_of(enum call call, const struct asked *q, void *cons
                          at[PALETTE], length[PALETTE], at[COUNTS], length[COUNTS],
                          at[REMAINDERS], length[REMAINDERS], at[MAP], length[MAP],
                          at[BOXES], length[BOXES], at[SPREADS], length[SPREADS]);
+        answer = (struct answer){.number = cut.number, .boxes = cut.boxes, .rounds = cut.rounds};
+        break;
+    }
+    case CUT_SLOWLY: {
+        const struct seluvava_cut_answer cut =
+            seluvava_cut_slowly(b1, b2, b3, q->k, at[TABLE], length[TABLE],
+                                at[PALETTE], length[PALETTE], at[COUNTS], length[COUNTS],
+                                at[REMAINDERS], length[REMAINDERS], at[MAP], length[MAP],
+                                at[BOXES], length[BOXES], at[SPREADS], length[SPREADS]);
         answer = (struct answer){.number = cut.number, .boxes = cut.boxes, .rounds = cut.rounds};
         break;
     }
@@ -392,7 +405,12 @@ static void cut(struct asked *q, struct answer answer, const uint8_t *bounds, co
     memset(q->map, 255, q->length[MAP]);
     for (size_t i = 0; i < boxes; i++) bins += box_cut(q, i);
     check(bins == q->length[MAP] && !memchr(q->map, 255, bins), "a bin lies in no box, or in two");
-    for (size_t p = 0; p < bins; p++) {
+}
+
+/* The moments of the table, in the work table. */
+static void moments(struct asked *q)
+{
+    for (size_t p = 0; p < q->length[MAP]; p++) {
         const uint8_t below[6] = {0, (uint8_t)(p / (q->b2 * q->b3) + 1), 0, (uint8_t)(p / q->b3 % q->b2 + 1),
                                   0, (uint8_t)(p % q->b3 + 1)};
         box_sum(q, below, q->work + 5 * p);
@@ -499,7 +517,8 @@ static struct answer ask(enum call call, struct asked *q, unsigned number, const
     else if (call == RESCUE) rescued(q);
     else if (call == BATCH) batched(q);
     else if (call == REPLAY) replayed(q, answer.interval);
-    else if (call == CUT) cut(q, answer, at[BOXES], at[SPREADS]);
+    else if (call == CUT) cut(q, answer, at[BOXES], at[SPREADS]), moments(q);
+    else if (call == CUT_SLOWLY) cut(q, answer, at[BOXES], at[SPREADS]);
     else if (call == MAPPING) mapped(q);
     else if (call == PAINT) painted(q);
     else numbered(q);
@@ -508,6 +527,20 @@ static struct answer ask(enum call call, struct asked *q, unsigned number, const
         if (!(calls[call].lent & BIT(b)) || !size) continue;
         check(memcmp(at[b], (unsigned char *)q + buffers[b].at, size) == 0, "%s holds other bytes", buffers[b].name);
         if (way == EXACT) free(at[b]);
+    }
+    return answer;
+}
+
+/* Asks both cuts, which have to tell and to leave the same; only a work table is left by the first alone. */
+static struct answer ask_cuts(struct asked *q, unsigned number, const char *what, const char *and)
+{
+    struct asked slow = *q;
+    const struct answer answer = ask(CUT, q, number, what, and), slowly = ask(CUT_SLOWLY, &slow, number, what, and);
+    check(slowly.boxes == answer.boxes, "%zu boxes and not %zu", slowly.boxes, answer.boxes);
+    check(slowly.rounds == answer.rounds, "%zu rounds and not %zu", slowly.rounds, answer.rounds);
+    for (size_t b = 0; b < BUFFERS; b++) {
+        const unsigned char *one = (unsigned char *)q + buffers[b].at, *two = (unsigned char *)&slow + buffers[b].at;
+        check(!(RESULTS & BIT(b)) || memcmp(one, two, buffers[b].room) == 0, "%s of the two differ", buffers[b].name);
     }
     return answer;
 }
@@ -596,10 +629,10 @@ static void ask_worked(const struct worked *w)
     }
     if (w->number == 0) {
         q.length[REMAINDERS] = 3 * w->k - 1;
-        ask(CUT, &q, 5, w->name, "remainders one short");
+        ask_cuts(&q, 5, w->name, "remainders one short");
         q.length[REMAINDERS] = 3 * (w->k + 1);
     }
-    const struct answer answer = ask(CUT, &q, w->number, w->name, "");
+    const struct answer answer = ask_cuts(&q, w->number, w->name, "");
     const size_t boxes = answer.boxes;
     check(boxes == w->boxes, "%zu boxes and not %zu", boxes, w->boxes);
     check(answer.rounds == w->rounds, "%zu rounds and not %zu", answer.rounds, w->rounds);
@@ -669,7 +702,8 @@ static struct asked good(void)
 #define PUT(member, value) AT(member), value
 #define TWO (BIT(MERGE) | BIT(COMPARE))
 #define LOADS (BIT(LOAD) | BIT(BATCH))
-#define TABLES (LOADS | BIT(LOAD_PPM) | TWO | BIT(RESCUE) | BIT(REPLAY) | BIT(CUT))
+#define CUTS (BIT(CUT) | BIT(CUT_SLOWLY))
+#define TABLES (LOADS | BIT(LOAD_PPM) | TWO | BIT(RESCUE) | BIT(REPLAY) | CUTS)
 #define FRAMES (BIT(MAPPING) | BIT(PAINT))
 #define GRIDS (TABLES | FRAMES)
 #define FILES (BIT(LOAD_PPM) | BIT(HEADER))
@@ -724,10 +758,10 @@ static const struct change {
     {GRIDS, 1, "second size 3", PUT(b2, 3)},
     {GRIDS, 1, "third size 256", PUT(b3, 256)},
     {GRIDS, 1, "third size the largest number", PUT(b3, SIZE_MAX)},
-    {BIT(CUT), 2, "k 0", PUT(k, 0)},
-    {BIT(CUT), 2, "k 257", PUT(k, 257)},
-    {BIT(CUT), 2, "k 3 and 2^32", PUT(k, MORE_THAN(3))},
-    {BIT(CUT), 2, "k the largest number", PUT(k, SIZE_MAX)},
+    {CUTS, 2, "k 0", PUT(k, 0)},
+    {CUTS, 2, "k 257", PUT(k, 257)},
+    {CUTS, 2, "k 3 and 2^32", PUT(k, MORE_THAN(3))},
+    {CUTS, 2, "k the largest number", PUT(k, SIZE_MAX)},
     {LOADS, 3, "colours one byte short", PUT(length[COLOURS], 14)},
     {LOADS, 3, "colours one byte long", PUT(length[COLOURS], 16)},
     {FRAMES, 3, "frame one byte short", PUT(length[FRAME], 14)},
@@ -776,19 +810,19 @@ static const struct change {
     {BIT(CUT), 5, "work table one short", PUT(length[WORK], 319)},
     {BIT(CUT), 5, "work table one long", PUT(length[WORK], 321)},
     {BIT(CUT), 5, "no work table", PUT(length[WORK], 0)},
-    {BIT(CUT), 5, "palette one byte short", PUT(length[PALETTE], 8)},
-    {BIT(CUT), 5, "counts one short", PUT(length[COUNTS], 2)},
-    {BIT(CUT), 5, "no counts", PUT(length[COUNTS], 0)},
-    {BIT(CUT), 5, "remainders one short", PUT(length[REMAINDERS], 8)},
-    {BIT(CUT), 5, "no remainders", PUT(length[REMAINDERS], 0)},
-    {BIT(CUT), 5, "boxes one byte short", PUT(length[BOXES], 17)},
-    {BIT(CUT), 5, "no boxes", PUT(length[BOXES], 0)},
-    {BIT(CUT), 5, "spreads one short", PUT(length[SPREADS], 2)},
-    {BIT(CUT), 5, "no spreads", PUT(length[SPREADS], 0)},
-    {BIT(CUT) | FRAMES, 5, "map one short", PUT(length[MAP], 63)},
-    {BIT(CUT) | FRAMES, 5, "map one long", PUT(length[MAP], 65)},
-    {BIT(CUT) | FRAMES, 5, "no map", PUT(length[MAP], 0)},
-    {BIT(CUT) | BIT(PAINT) | BIT(NEAREST), 5, "no palette", PUT(length[PALETTE], 0)},
+    {CUTS, 5, "palette one byte short", PUT(length[PALETTE], 8)},
+    {CUTS, 5, "counts one short", PUT(length[COUNTS], 2)},
+    {CUTS, 5, "no counts", PUT(length[COUNTS], 0)},
+    {CUTS, 5, "remainders one short", PUT(length[REMAINDERS], 8)},
+    {CUTS, 5, "no remainders", PUT(length[REMAINDERS], 0)},
+    {CUTS, 5, "boxes one byte short", PUT(length[BOXES], 17)},
+    {CUTS, 5, "no boxes", PUT(length[BOXES], 0)},
+    {CUTS, 5, "spreads one short", PUT(length[SPREADS], 2)},
+    {CUTS, 5, "no spreads", PUT(length[SPREADS], 0)},
+    {CUTS | FRAMES, 5, "map one short", PUT(length[MAP], 63)},
+    {CUTS | FRAMES, 5, "map one long", PUT(length[MAP], 65)},
+    {CUTS | FRAMES, 5, "no map", PUT(length[MAP], 0)},
+    {CUTS | BIT(PAINT) | BIT(NEAREST), 5, "no palette", PUT(length[PALETTE], 0)},
     {BIT(PAINT) | BIT(NEAREST), 5, "palette of two bytes", PUT(length[PALETTE], 2)},
     {BIT(PAINT) | BIT(NEAREST), 5, "palette no multiple of three", PUT(length[PALETTE], 10)},
     {BIT(PAINT) | BIT(NEAREST), 5, "palette of 257 colours", PUT(length[PALETTE], 771)},
@@ -835,7 +869,7 @@ static const struct change {
     {TABLES, 0, "sum at n * high", PUT(table[81], 254)},
     {TABLES, 0, "squares at n * the squared lows", PUT(table[84], 8192)},
     {TABLES, 0, "squares at n * the squared highs", PUT(table[84], 66438)},
-    {BIT(COMPARE) | BIT(RESCUE) | BIT(REPLAY) | BIT(CUT), 0, "full table", PUT(table[0], LIMIT - 10)},
+    {BIT(COMPARE) | BIT(RESCUE) | BIT(REPLAY) | CUTS, 0, "full table", PUT(table[0], LIMIT - 10)},
     {BIT(RESCUE), 0, "no room for a bin, and room for a lighter one after it", PUT(table[0], LIMIT - 1)},
     {BIT(RESCUE), 0, "no room for any other bin", PUT(table[0], LIMIT)},
     {BIT(RESCUE), 0, "a weight past the limit alone", PUT(table[0], LIMIT + 1)},
@@ -873,16 +907,16 @@ static const struct change {
     {BIT(REPLAY), 0, "room for the first batch alone", PUT(table[0], LIMIT - 25)},
     {BIT(REPLAY), 0, "no room for the first batch by one", PUT(table[0], LIMIT - 24)},
     {BIT(REPLAY), 0, "answers three bytes long", PUT(length[ANSWERS], 9)},
-    {BIT(CUT), 0, "k 1", PUT(k, 1)},
-    {BIT(CUT) | BIT(PAINT), 0, "palette of 256 colours", PUT(length[PALETTE], 768)},
+    {CUTS, 0, "k 1", PUT(k, 1)},
+    {CUTS | BIT(PAINT), 0, "palette of 256 colours", PUT(length[PALETTE], 768)},
     {BIT(NEAREST), 0, "palette of one entry", PUT(length[PALETTE], 3)},
     {BIT(NEAREST), 0, "palette of as many entries as answers", PUT(length[PALETTE], 18)},
     {BIT(NEAREST), 0, "answers as many as entries", PUT(length[ANSWERS], 3)},
-    {BIT(CUT), 0, "palette one byte long", PUT(length[PALETTE], 10)},
-    {BIT(CUT), 0, "counts one long", PUT(length[COUNTS], 4)},
-    {BIT(CUT), 0, "remainders one long", PUT(length[REMAINDERS], 10)},
-    {BIT(CUT), 0, "boxes one byte long", PUT(length[BOXES], 19)},
-    {BIT(CUT), 0, "spreads one long", PUT(length[SPREADS], 4)},
+    {CUTS, 0, "palette one byte long", PUT(length[PALETTE], 10)},
+    {CUTS, 0, "counts one long", PUT(length[COUNTS], 4)},
+    {CUTS, 0, "remainders one long", PUT(length[REMAINDERS], 10)},
+    {CUTS, 0, "boxes one byte long", PUT(length[BOXES], 19)},
+    {CUTS, 0, "spreads one long", PUT(length[SPREADS], 4)},
     {BIT(MAPPING), 0, "256 colours", PUT(told, 256)},
 };
 
@@ -930,11 +964,37 @@ static void ask_empty(void)
 {
     struct asked q = good();
     memset(q.table, 0, sizeof q.table);
-    ask(CUT, &q, 8, "empty table", "");
+    ask_cuts(&q, 8, "empty table", "");
     q.table[81] = 1;
-    ask(CUT, &q, 6, "empty table", "a sum in it");
+    ask_cuts(&q, 6, "empty table", "a sum in it");
     q.length[SPREADS] = 2;
-    ask(CUT, &q, 5, "empty table", "spreads one short");
+    ask_cuts(&q, 5, "empty table", "spreads one short");
+}
+
+/* Both cuts of tables of many colours, at grids that are long in each dimension, at every k up to some more than bins.
+ * The weights are the noise's, all equal, or so large that the total is near the limit. */
+static void ask_both(void)
+{
+    static const size_t grids[][3] = {{2, 2, 2}, {4, 4, 4}, {16, 2, 2}, {2, 16, 2}, {2, 2, 16}, {4, 2, 8}, {8, 4, 2}};
+    for (size_t i = 0; i < COUNT(grids); i++) {
+        const size_t bins = grids[i][0] * grids[i][1] * grids[i][2];
+        for (unsigned weights = 0; weights < 3; weights++) {
+            for (size_t k = 1; k <= bins + 2; k++) {
+                struct asked q = good();
+                char words[80];
+                q.b1 = grids[i][0], q.b2 = grids[i][1], q.b3 = grids[i][2], q.k = k;
+                q.length[TABLE] = q.length[WORK] = 5 * bins;
+                q.length[MAP] = bins;
+                q.length[PALETTE] = q.length[REMAINDERS] = 3 * k;
+                q.length[COUNTS] = q.length[SPREADS] = k;
+                q.length[BOXES] = 6 * k;
+                memset(q.table, 0, sizeof q.table);
+                added(&q, 0, PIXELS, weights != 1, weights == 2 ? LIMIT / (15 * PIXELS) : 1);
+                snprintf(words, sizeof words, "grid %zu,%zu,%zu, k %zu", q.b1, q.b2, q.b3, k);
+                ask_cuts(&q, 0, words, weights == 0 ? "" : weights == 1 ? "equal weights" : "a large total");
+            }
+        }
+    }
 }
 
 /* The squares at each bound of the smallest and the largest bin of each dimension, and one past it. */
@@ -966,7 +1026,7 @@ static void ask_squares(void)
         for (size_t i = 0; i < COUNT(tried); i++) {
             struct asked q;
             cell[4] = tried[i].squares;
-            for (enum call call = LOAD; call <= CUT; call++) {
+            for (enum call call = LOAD; call <= CUT_SLOWLY; call++) {
                 q = good();
                 memset(q.table, 0, sizeof q.table);
                 memcpy(q.table + 5 * at, cell, sizeof cell);
@@ -1370,9 +1430,9 @@ static void ask_length(size_t pixels)
     q.length[COUNTS] = q.length[SPREADS] = q.k;
     q.length[BOXES] = 6 * q.k;
     q.length[REMAINDERS] = 3 * q.k - 1;
-    ask(CUT, &q, 5, words, "remainders one short");
+    ask_cuts(&q, 5, words, "remainders one short");
     q.length[REMAINDERS] = 3 * q.k;
-    ask(CUT, &q, 0, words, "k one more");
+    ask_cuts(&q, 0, words, "k one more");
 }
 
 /* ---- The sizes that a caller has to lend */
@@ -1396,6 +1456,7 @@ static void ask_all(void)
     for (size_t i = 0; i < COUNT(worked); i++) ask_worked(&worked[i]);
     for (enum call call = LOAD; call < CALLS; call++) ask_changed(call);
     ask_empty();
+    ask_both();
     ask_squares();
     ask_compared();
     ask_headers();

@@ -1,6 +1,7 @@
 /*
  * The processor's modes of arithmetic: with flush-to-zero and denormals-are-zero set a cut answers and leaves what it
- * does without, and rounding upward changes some cuts, so that it is no idle word of the header to ask for nearest.
+ * does without, and so does the slow cut, which leaves the same; and rounding upward changes some cuts, so that it is
+ * no idle word of the header to ask for nearest.
  */
 #define _DEFAULT_SOURCE
 #include "seluvava.h"
@@ -24,7 +25,7 @@ struct left {
 };
 
 static uint64_t table[5 * BINS];
-static struct left nearest, flushed, upward;
+static struct left nearest, flushed, upward, slow;
 
 static uint64_t state = 1;
 
@@ -60,6 +61,19 @@ static void cut(size_t k, struct left *left)
     left->found = answer.boxes;
 }
 
+/* The same without a work table: what the other cut left there is taken for its own. */
+static void cut_slowly(size_t k, struct left *left)
+{
+    struct seluvava_cut_answer answer;
+    memset(left, 0xa5, sizeof *left);
+    memcpy(left->work, nearest.work, sizeof left->work);
+    answer = seluvava_cut_slowly(8, 8, 8, k, table, 5 * BINS, left->palette, sizeof left->palette, left->counts, 256,
+                                 left->remainders, 3 * 256, left->map, BINS, left->boxes, sizeof left->boxes,
+                                 left->spreads, 256);
+    left->number = answer.number;
+    left->found = answer.boxes;
+}
+
 int main(void)
 {
     size_t changed = 0;
@@ -71,11 +85,15 @@ int main(void)
         make_table();
         cut(k, &nearest);
         check(nearest.number == 0, "the cut is refused");
+        cut_slowly(k, &slow);
+        check(memcmp(&slow, &nearest, sizeof nearest) == 0, "another answer of the slow cut");
 
         flush(true);
         cut(k, &flushed);
+        cut_slowly(k, &slow);
         flush(false);
         check(memcmp(&flushed, &nearest, sizeof nearest) == 0, "another answer with the flush modes");
+        check(memcmp(&slow, &nearest, sizeof nearest) == 0, "another answer of the slow cut with the flush modes");
 
         need(fesetround(FE_UPWARD) == 0, "rounding upward");
         cut(k, &upward);
@@ -84,6 +102,7 @@ int main(void)
     }
     now("rounding upward");
     check(changed > 0, "no cut of %d has another answer, so the rounding mode is not seen here", TABLES);
-    printf("modes: %d cuts, the same with both flush modes, %zu others with rounding upward\n", TABLES, changed);
+    printf("modes: %d cuts, the same with both flush modes and slowly, %zu others with rounding upward\n", TABLES,
+           changed);
     return 0;
 }

@@ -127,6 +127,16 @@ static void cut(struct lent *l)
     l->found = answer.boxes;
 }
 
+static void cut_slowly(struct lent *l)
+{
+    const struct seluvava_cut_answer answer =
+        seluvava_cut_slowly(B1, B2, B3, K, l->table, COUNT(l->table), l->palette, COUNT(l->palette), l->counts,
+                            COUNT(l->counts), l->remainders, COUNT(l->remainders), l->map, COUNT(l->map), l->boxes,
+                            COUNT(l->boxes), l->spreads, COUNT(l->spreads));
+    l->answer = answer.number;
+    l->found = answer.boxes;
+}
+
 static void map(struct lent *l)
 {
     l->answer = seluvava_map(B1, B2, B3, l->map, COUNT(l->map), l->found, l->frame, COUNT(l->frame), l->indices,
@@ -163,6 +173,7 @@ static const struct call {
     {"batch", batch, 0},
     {"replay", replay, 0},
     {"cut", cut, 0},
+    {"cut_slowly", cut_slowly, 0},
     {"map", map, 0},
     {"paint", paint, 0},
     {"nearest", nearest, 0},

@@ -28,7 +28,16 @@ use report::{Cell, IN_PLACE, ON_A_COPY, Row};
 use side::{Lent, OPERATIONS, Operation, Side, Sizes};
 use std::{env, fs, process::ExitCode, time::Duration};
 
-const GRIDS: [Sizes; 4] = [[16, 32, 16], [32, 32, 32], [64, 64, 64], [128, 128, 128]];
+const GRIDS: [Sizes; 5] = [
+    [16, 32, 16],
+    [32, 32, 32],
+    [64, 64, 64],
+    [128, 128, 128],
+    SMALL,
+];
+
+/// A grid for small devices: slow cuts alone are timed there.
+const SMALL: Sizes = [8, 8, 8];
 
 const WHOLE: Effort = Effort {
     time: Duration::from_millis(1000),
@@ -40,6 +49,17 @@ const QUICK: Effort = Effort {
     fewest: 5,
     most: 101,
 };
+
+/// Whether an operation is timed at a grid.
+fn is_timed(sizes: Sizes, operation: Operation) -> bool {
+    match operation {
+        // in larger grids a run takes up to some seconds
+        Operation::CutSlowly(_) => [SMALL, [16, 32, 16], [32, 32, 32]].contains(&sizes),
+        // it has no grid, and stands in one table
+        Operation::Nearest => sizes == GRIDS[0],
+        _ => sizes != SMALL,
+    }
+}
 
 /// Our side at a grid, and the original where its text is at hand: its moments on a copy, and in place.
 fn sides(sizes: Sizes, lent: &Lent) -> Vec<Box<dyn Side>> {
@@ -125,8 +145,7 @@ fn main() -> ExitCode {
     let mut rows = Vec::new();
     for sizes in GRIDS {
         let wanted = |o: &Operation| match &asked.only {
-            // it has no grid, and stands in one table
-            _ if *o == Operation::Nearest && sizes != GRIDS[0] => false,
+            _ if !is_timed(sizes, *o) => false,
             None => true,
             Some(text) => format!("{} {o}", report::grid(sizes)).contains(text),
         };

@@ -7,8 +7,8 @@ use crate::{
     terminal::Terminal,
 };
 use seluvava_sys::{
-    seluvava_bins, seluvava_compare, seluvava_cut, seluvava_load, seluvava_map, seluvava_merge,
-    seluvava_paint, seluvava_table_len,
+    CutAnswer, seluvava_bins, seluvava_compare, seluvava_cut, seluvava_cut_slowly, seluvava_load,
+    seluvava_map, seluvava_merge, seluvava_paint, seluvava_table_len,
 };
 
 /// Adds a frame to a table, with weights where any are given.
@@ -73,7 +73,7 @@ fn compare(
 
 /// What a cut writes.
 #[derive(Default)]
-struct Cut {
+pub struct Cut {
     work: Vec<u64>,
     palette: Vec<u8>,
     counts: Vec<u32>,
@@ -82,10 +82,11 @@ struct Cut {
     boxes: Vec<u8>,
     spreads: Vec<f64>,
     found: usize,
+    rounds: usize,
 }
 
 impl Cut {
-    fn new([b1, b2, b3]: Sizes) -> Self {
+    pub fn new([b1, b2, b3]: Sizes) -> Self {
         let (numbers, bins) =
             unsafe { (seluvava_table_len(b1, b2, b3), seluvava_bins(b1, b2, b3)) };
         Self {
@@ -97,11 +98,12 @@ impl Cut {
             boxes: vec![0; 6 * MOST],
             spreads: vec![0.0; MOST],
             found: 0,
+            rounds: 0,
         }
     }
 
     /// Something wrong in every place.
-    fn reset(&mut self) {
+    pub fn reset(&mut self) {
         self.work.fill(u64::MAX);
         self.palette.fill(0xa5);
         self.counts.fill(u32::MAX);
@@ -109,10 +111,15 @@ impl Cut {
         self.map.fill(0xa5);
         self.boxes.fill(0xa5);
         self.spreads.fill(-1.0);
-        self.found = 0;
+        (self.found, self.rounds) = (0, 0);
     }
 
-    fn run(&mut self, [b1, b2, b3]: Sizes, k: usize, table: &[u64]) {
+    fn done(&mut self, answer: CutAnswer) {
+        assert_eq!(answer.number, 0, "cut");
+        (self.found, self.rounds) = (answer.boxes, answer.rounds);
+    }
+
+    pub fn run(&mut self, [b1, b2, b3]: Sizes, k: usize, table: &[u64]) {
         let answer = unsafe {
             seluvava_cut(
                 b1,
@@ -137,8 +144,47 @@ impl Cut {
                 self.spreads.len(),
             )
         };
-        assert_eq!(answer.number, 0, "cut");
-        self.found = answer.boxes;
+        self.done(answer);
+    }
+
+    fn run_slowly(&mut self, [b1, b2, b3]: Sizes, k: usize, table: &[u64]) {
+        let answer = unsafe {
+            seluvava_cut_slowly(
+                b1,
+                b2,
+                b3,
+                k,
+                table.as_ptr(),
+                table.len(),
+                self.palette.as_mut_ptr(),
+                self.palette.len(),
+                self.counts.as_mut_ptr(),
+                self.counts.len(),
+                self.remainders.as_mut_ptr(),
+                self.remainders.len(),
+                self.map.as_mut_ptr(),
+                self.map.len(),
+                self.boxes.as_mut_ptr(),
+                self.boxes.len(),
+                self.spreads.as_mut_ptr(),
+                self.spreads.len(),
+            )
+        };
+        self.done(answer);
+    }
+
+    /// Adds all that was told and written but for the work table, also past the boxes.
+    pub fn answer(&self, answer: &mut Answer) {
+        let words = [&self.counts, &self.remainders].into_iter().flatten();
+        answer
+            .numbers
+            .extend([self.found, self.rounds].map(|n| n as u64));
+        answer.numbers.extend(words.map(|&n| u64::from(n)));
+        answer
+            .numbers
+            .extend(self.spreads.iter().map(|s| s.to_bits()));
+        let bytes = [&self.palette, &self.boxes, &self.map];
+        answer.bytes.extend(bytes.into_iter().flatten());
     }
 
     fn map(&self, [b1, b2, b3]: Sizes, lent: &mut Lent) {
@@ -263,7 +309,7 @@ impl Side for Ours {
                 touch(&self.second);
             }
             Operation::Rescue { damaged } => self.rescue.prepare(damaged),
-            Operation::Moments | Operation::Cut(_) => {
+            Operation::Moments | Operation::Cut(_) | Operation::CutSlowly(_) => {
                 self.cut.reset();
                 touch(&self.loaded);
             }
@@ -293,6 +339,7 @@ impl Side for Ours {
             Operation::Replay => self.recording.replay(sizes, &mut self.table, lent),
             Operation::Moments => self.cut.run(sizes, 1, &self.loaded),
             Operation::Cut(k) => self.cut.run(sizes, k, &self.loaded),
+            Operation::CutSlowly(k) => self.cut.run_slowly(sizes, k, &self.loaded),
             Operation::Map => self.kept.map(sizes, lent),
             Operation::Paint => self.kept.paint(sizes, lent),
             Operation::Nearest => self.terminal.by_call(),
@@ -327,6 +374,7 @@ impl Side for Ours {
                 answer.bytes.extend(self.cut.colours());
                 answer.bytes.extend(&self.cut.map);
             }
+            Operation::CutSlowly(_) => self.cut.answer(answer),
             Operation::Nearest => self.terminal.answer(answer),
             Operation::Map | Operation::Paint => {}
         }

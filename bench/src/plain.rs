@@ -85,6 +85,11 @@ impl Plain {
         }
     }
 
+    /// The frame's table without weights.
+    pub fn first(&self) -> &[u64] {
+        &self.first
+    }
+
     pub fn prepare(&mut self) {
         self.differences.fill(i64::MIN);
         touch(&self.first);

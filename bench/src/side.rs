@@ -20,6 +20,8 @@ pub enum Operation {
     Replay,
     Moments,
     Cut(usize),
+    /// A cut without a work table; the other side is our own cut.
+    CutSlowly(usize),
     Map,
     Paint,
     /// The numbers of 256 colours in a terminal; the other side is a plain loop.
@@ -30,7 +32,7 @@ pub enum Operation {
     },
 }
 
-pub const OPERATIONS: [Operation; 16] = [
+pub const OPERATIONS: [Operation; 18] = [
     Operation::Load,
     Operation::LoadWeighted,
     Operation::LoadPpm,
@@ -42,6 +44,8 @@ pub const OPERATIONS: [Operation; 16] = [
     Operation::Moments,
     Operation::Cut(16),
     Operation::Cut(256),
+    Operation::CutSlowly(16),
+    Operation::CutSlowly(256),
     Operation::Map,
     Operation::Paint,
     Operation::Nearest,
@@ -65,6 +69,7 @@ impl fmt::Display for Operation {
             Operation::Replay => f.write_str("replay"),
             Operation::Moments => f.write_str("moments (ours: cut, k = 1)"),
             Operation::Cut(k) => write!(f, "cut, k = {k}"),
+            Operation::CutSlowly(k) => write!(f, "cut slowly, k = {k}"),
             Operation::Map => f.write_str("map"),
             Operation::Paint => f.write_str("paint"),
             Operation::Nearest => f.write_str("nearest"),
@@ -115,6 +120,7 @@ impl Lent {
             | Operation::Rescue { .. }
             | Operation::Moments
             | Operation::Cut(_)
+            | Operation::CutSlowly(_)
             | Operation::Nearest => {}
         }
     }

@@ -1,6 +1,7 @@
 //! The other side: the original's text, on histograms that stay from run to run.
 use crate::{
     one_load::OneLoad,
+    ours,
     plain::Plain,
     rescue::Rescue,
     side::{Answer, Lent, MOST, Operation, Side, Sizes, touch},
@@ -41,6 +42,8 @@ struct Theirs<const B1: usize, const B2: usize, const B3: usize> {
     one_load: OneLoad,
     triples: Triples,
     terminal: Terminal,
+    /// What a slow cut is held to: our own cut, with a work table.
+    ours: ours::Cut,
     cut: Option<Colours<B1, B2, B3>>,
     /// What maps and paints read.
     kept: WuU8x3ColorMap<[u8; 3], B1, B2, B3>,
@@ -97,6 +100,7 @@ impl<const B1: usize, const B2: usize, const B3: usize> Theirs<B1, B2, B3> {
             one_load: OneLoad::new([B1, B2, B3], &lent.weights),
             triples: Triples::new([B1, B2, B3], &lent.frame),
             terminal: Terminal::new(&lent.frame),
+            ours: ours::Cut::new([B1, B2, B3]),
             cut: None,
             kept,
         }
@@ -131,6 +135,10 @@ impl<const B1: usize, const B2: usize, const B3: usize> Side for Theirs<B1, B2, 
             }
             Operation::Compare => self.plain.prepare(),
             Operation::Rescue { .. } => self.rescue.prepare_held(),
+            Operation::CutSlowly(_) => {
+                self.ours.reset();
+                touch(self.plain.first());
+            }
             Operation::Replay => self.one_load.prepare(),
             Operation::LoadPpm => self.triples.prepare(),
             Operation::Moments | Operation::Cut(_) if self.moments == Moments::OnACopy => {
@@ -153,6 +161,7 @@ impl<const B1: usize, const B2: usize, const B3: usize> Side for Theirs<B1, B2, 
             Operation::Merge => self.run.narrow().merge(&self.second),
             Operation::Compare => self.plain.run(),
             Operation::Rescue { damaged } => self.rescue.run_held(damaged),
+            Operation::CutSlowly(k) => self.ours.run([B1, B2, B3], k, self.plain.first()),
             Operation::Replay => self.one_load.run(lent),
             Operation::LoadPpm => self.triples.run(),
             Operation::Moments => self.make_moments(),
@@ -179,6 +188,7 @@ impl<const B1: usize, const B2: usize, const B3: usize> Side for Theirs<B1, B2, 
             }
             Operation::Compare => self.plain.answer(answer),
             Operation::Rescue { damaged } => self.rescue.answer_held(damaged, answer),
+            Operation::CutSlowly(_) => self.ours.answer(answer),
             Operation::Replay => self.one_load.answer(answer),
             Operation::LoadPpm => self.triples.answer(answer),
             Operation::Cut(_) | Operation::Whole { .. } => {
@@ -201,6 +211,7 @@ fn both<const B1: usize, const B2: usize, const B3: usize>(lent: &Lent) -> [Box<
 /// The original at a grid: with its moments on a copy, and in place.
 pub fn at(sizes: Sizes, lent: &Lent) -> [Box<dyn Side>; 2] {
     match sizes {
+        [8, 8, 8] => both::<8, 8, 8>(lent),
         [16, 32, 16] => both::<16, 32, 16>(lent),
         [32, 32, 32] => both::<32, 32, 32>(lent),
         [64, 64, 64] => both::<64, 64, 64>(lent),

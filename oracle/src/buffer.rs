@@ -109,9 +109,14 @@ pub fn same<T: PartialEq + Debug>(name: &str, expected: T, answered: T) -> Resul
     ))
 }
 
-/// What a cut is lent.
+/// What differs, told of a slow cut.
+pub fn slowly(differs: Differs) -> Differs {
+    format!("slowly, {differs}")
+}
+
+/// What a cut is lent; where there is no work table, it is a slow one.
 pub struct Buffers {
-    pub work: Buffer<u64>,
+    pub work: Option<Buffer<u64>>,
     pub palette: Buffer<u8>,
     pub counts: Buffer<u32>,
     pub remainders: Buffer<u32>,
@@ -123,7 +128,7 @@ pub struct Buffers {
 impl Buffers {
     pub fn random(lengths: Lengths, r: &mut Random) -> Self {
         Self {
-            work: Buffer::random(lengths.work, r),
+            work: lengths.work.map(|n| Buffer::random(n, r)),
             palette: Buffer::random(lengths.palette, r),
             counts: Buffer::random(lengths.counts, r),
             remainders: Buffer::random(lengths.remainders, r),
@@ -135,7 +140,6 @@ impl Buffers {
 
     pub fn cut(&mut self, port: &dyn Port, grid: Grid, k: usize, table: &[u64]) -> CutAnswer {
         let lent = Lent {
-            work: self.work.lend(),
             palette: self.palette.lend(),
             counts: self.counts.lend(),
             remainders: self.remainders.lend(),
@@ -143,11 +147,16 @@ impl Buffers {
             boxes: self.boxes.lend(),
             spreads: self.spreads.lend(),
         };
-        port.cut(grid, k, table, lent)
+        match &mut self.work {
+            Some(work) => port.cut(grid, k, table, work.lend(), lent),
+            None => port.cut_slowly(grid, k, table, lent),
+        }
     }
 
     pub fn unchanged(&mut self) -> Result<(), Differs> {
-        self.work.unchanged("the work table of a refused cut")?;
+        if let Some(work) = &mut self.work {
+            work.unchanged("the work table of a refused cut")?;
+        }
         self.palette.unchanged("the palette of a refused cut")?;
         self.counts.unchanged("the counts of a refused cut")?;
         self.remainders
@@ -171,14 +180,17 @@ impl Buffers {
         self.remainders
             .expect("remainders", 0, answer.remainders.as_flattened())?;
         self.map.expect("map", 0, &answer.map)?;
-        self.work.expect("work table", 0, &answer.moments)
+        match &mut self.work {
+            Some(work) => work.expect("work table", 0, &answer.moments),
+            None => Ok(()),
+        }
     }
 }
 
 /// The lengths that fit a case, with the places too many that it says.
 pub fn fitting(case: &Case) -> Lengths {
     Lengths {
-        work: 5 * case.bins(),
+        work: Some(5 * case.bins()),
         palette: 3 * case.k + case.spare[0],
         counts: case.k + case.spare[1],
         remainders: 3 * case.k + case.spare[1],

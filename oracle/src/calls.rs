@@ -1,15 +1,15 @@
-//! The five calls one by one, good or damaged, against the answers of the rules (Rules, Answers).
+//! The six calls one by one, good or damaged, against the answers of the rules (Rules, Answers).
 use crate::{
     PaletteCounts, PaletteSize,
     answer::{Original, original},
-    buffer::{Buffer, Buffers, Differs, Place, fitting, same},
-    case::Case,
+    buffer::{Buffer, Buffers, Differs, Place, fitting, same, slowly},
+    case::{Case, LIGHT},
     damage::Damage,
     numbers::{self, Lengths},
     original::palette_counts::CreatePaletteCountsErrorReason as Reason,
     port::{Band, CutAnswer, Grid, Port},
     random::Random,
-    tally::{CALLS, Tally},
+    tally::Tally,
 };
 
 /// The table of colours and weights, by Rules, Load; totals may be any.
@@ -34,7 +34,7 @@ pub fn add_one(grid: Grid, table: &mut [u64], color: [u8; 3], w: u64) {
     }
 }
 
-/// The five calls of a case, with all that they are given.
+/// The six calls of a case, with all that they are given.
 struct Calls {
     grid: Grid,
     k: usize,
@@ -105,7 +105,7 @@ impl Calls {
             "k" => self.k = d.value as usize,
             "table" => resize(&mut self.table, d.value, r),
             "second" => resize(&mut self.second, d.value, r),
-            "work" => lengths.work = off(lengths.work, d.value),
+            "work" => lengths.work = lengths.work.map(|n| off(n, d.value)),
             "palette" => lengths.palette = off(lengths.palette, d.value),
             "counts" => lengths.counts = off(lengths.counts, d.value),
             "remainders" => lengths.remainders = off(lengths.remainders, d.value),
@@ -187,10 +187,10 @@ impl Calls {
         Ok(number)
     }
 
-    fn cut(&self, port: &dyn Port, r: &mut Random) -> Result<u8, Differs> {
-        let said = numbers::cut(self.grid, self.k, &self.table, self.lengths);
+    fn cut(&self, port: &dyn Port, lengths: Lengths, r: &mut Random) -> Result<u8, Differs> {
+        let said = numbers::cut(self.grid, self.k, &self.table, lengths);
         let mut table = Buffer::of(&self.table, r);
-        let mut lent = Buffers::random(self.lengths, r);
+        let mut lent = Buffers::random(lengths, r);
         let answered = lent.cut(port, self.grid, self.k, table.see());
         let CutAnswer { number, .. } = answered;
         table.unchanged("the table after a cut")?;
@@ -208,6 +208,15 @@ impl Calls {
             lent.expect(&answer)?;
         }
         Ok(number)
+    }
+
+    /// The same without a work table, where the table is that of a light grid.
+    fn cut_slowly(&self, port: &dyn Port, r: &mut Random) -> Result<Option<u8>, Differs> {
+        if self.table.len() > 5 * LIGHT {
+            return Ok(None);
+        }
+        let number = self.cut(port, self.lengths.slowly(), r);
+        number.map(Some).map_err(slowly)
     }
 
     /// The index of each pixel of the band.
@@ -277,14 +286,17 @@ pub fn calls(
     let sizes = port.sizes(calls.grid);
     same("bins and numbers", numbers::sizes(calls.grid), sizes)?;
     let answered = [
-        calls.load(port, r)?,
-        calls.merge(port, r)?,
-        calls.cut(port, r)?,
-        calls.map(port, r)?,
-        calls.paint(port, r)?,
+        ("load", Some(calls.load(port, r)?)),
+        ("merge", Some(calls.merge(port, r)?)),
+        ("cut", Some(calls.cut(port, calls.lengths, r)?)),
+        ("cut_slowly", calls.cut_slowly(port, r)?),
+        ("map", Some(calls.map(port, r)?)),
+        ("paint", Some(calls.paint(port, r)?)),
     ];
-    for (call, number) in CALLS.iter().zip(answered) {
-        tally.count(call, number);
+    for (call, number) in answered {
+        if let Some(number) = number {
+            tally.count(call, number);
+        }
     }
     Ok(())
 }

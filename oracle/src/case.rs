@@ -2,12 +2,15 @@
 use crate::{answer::Input, damage::Damage, numbers::bins, port::Band};
 use std::fmt;
 
+/// A grid of at most so many bins is light: it is taken more often, and its tables are also cut slowly.
+pub const LIGHT: usize = 4096;
+
 /// What is done with a case.
 #[derive(Clone, Debug, PartialEq)]
 pub enum Kind {
     /// The input as a whole, and where there are batches also shuffled, split and merged.
     Whole { by_pixels: bool, batches: usize },
-    /// The five calls one by one: the first `split` colours are in the table and the others are loaded or merged.
+    /// The six calls one by one: the first `split` colours are in the table and the others are loaded or merged.
     Calls { split: usize, damages: Vec<Damage> },
     /// Two tables compared: the first holds the first `split` colours, the second those from `from` on.
     Nights {

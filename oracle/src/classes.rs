@@ -6,7 +6,7 @@ mod recordings;
 
 use crate::{
     answer::{Input, grids},
-    case::{Case, Kind},
+    case::{Case, Kind, LIGHT},
     numbers::bins,
     port::{Band, Grid},
     random::Random,
@@ -102,7 +102,7 @@ impl Grids {
     fn of(all: Vec<Grid>) -> Self {
         let chosen = |f: fn(&Grid) -> bool| all.iter().copied().filter(f).collect();
         Self {
-            light: chosen(|g| bins(*g) <= 4096),
+            light: chosen(|g| bins(*g) <= LIGHT),
             small: chosen(|g| g.iter().all(|b| *b <= 8)),
             large: chosen(|g| (256..=8192).contains(&bins(*g))),
             all,
@@ -117,7 +117,7 @@ pub struct Maker<'a> {
 }
 
 impl Maker<'_> {
-    /// Mostly a grid of at most 4,096 bins, one time in 64 any.
+    /// Mostly a light grid, one time in 64 any.
     fn grid(&mut self) -> Grid {
         if self.r.once_in(64) {
             self.r.one_of(&self.grids.all)

@@ -1,4 +1,4 @@
-//! A port in plain Rust, from docs/RULES.md: a box's sum is the sum over its bins, the heap is a list.
+//! A port in plain Rust, from docs/RULES.md: a box's sum comes from the moments or from its bins, the heap is a list.
 //! It stands in the library's place where a mutant is to be caught, and shows whether a difference is the rules'.
 use crate::{
     numbers::{self, LARGEST_TOTAL, Lengths, added, bins, place},
@@ -30,33 +30,62 @@ fn share([n, c1, c2, c3, _]: Sums) -> f64 {
     (c1 * c1 + c2 * c2 + c3 * c3) / n as f64
 }
 
-/// One cut, over the moments.
+/// What sums are found in: the moments of a table, or the table itself.
+#[derive(Clone, Copy)]
+enum Source<'a> {
+    Moments(&'a [u64]),
+    Bins(&'a [u64]),
+}
+
+/// One cut.
 struct Cutting<'a> {
     grid: Grid,
-    moments: &'a [u64],
+    source: Source<'a>,
 }
 
 impl Cutting<'_> {
+    fn sum(&self, min: [usize; 3], max: [usize; 3]) -> Sums {
+        match self.source {
+            Source::Moments(moments) => self.sum_by_moments(moments, min, max),
+            Source::Bins(table) => self.sum_of_bins(table, min, max),
+        }
+    }
+
+    /// The bins of a box, one after the other.
+    fn sum_of_bins(&self, table: &[u64], min: [usize; 3], max: [usize; 3]) -> Sums {
+        let [_, b2, b3] = self.grid;
+        let mut sums = [0; 5];
+        for r in min[0]..max[0] {
+            for g in min[1]..max[1] {
+                for b in min[2]..max[2] {
+                    let at = 5 * ((r * b2 + g) * b3 + b);
+                    sums = add(sums, table[at..at + 5].try_into().expect("five"));
+                }
+            }
+        }
+        sums
+    }
+
     /// "an index below 0 counts as all zeros": the bounds are exclusive.
-    fn corner(&self, [r, g, b]: [usize; 3]) -> Sums {
+    fn corner(&self, moments: &[u64], [r, g, b]: [usize; 3]) -> Sums {
         if r == 0 || g == 0 || b == 0 {
             return [0; 5];
         }
         let [_, b2, b3] = self.grid;
         let at = 5 * (((r - 1) * b2 + g - 1) * b3 + b - 1);
-        self.moments[at..at + 5].try_into().expect("five")
+        moments[at..at + 5].try_into().expect("five")
     }
 
     /// "Its sum is found by inclusion and exclusion"
-    fn sum(&self, min: [usize; 3], max: [usize; 3]) -> Sums {
+    fn sum_by_moments(&self, moments: &[u64], min: [usize; 3], max: [usize; 3]) -> Sums {
         let [mut with, mut without] = [[0; 5]; 2];
         for corner in 0..8 {
             let low = [corner & 4, corner & 2, corner & 1].map(|bit| bit != 0);
             let at = std::array::from_fn(|d| if low[d] { min[d] } else { max[d] });
             if low.iter().filter(|l| **l).count() % 2 == 0 {
-                with = add(with, self.corner(at));
+                with = add(with, self.corner(moments, at));
             } else {
-                without = add(without, self.corner(at));
+                without = add(without, self.corner(moments, at));
             }
         }
         sub(with, without)
@@ -78,10 +107,11 @@ impl Cutting<'_> {
         let mut best = None;
         for d in 0..3 {
             for bin in item.min[d] + 1..item.max[d] {
-                let mut max = item.max;
+                let (mut max, mut min) = (item.max, item.min);
                 max[d] = bin;
+                min[d] = bin;
                 let low = self.sum(item.min, max);
-                let high = sub(self.sum(item.min, item.max), low);
+                let high = self.sum(min, item.max);
                 if low[0] == 0 || high[0] == 0 {
                     continue;
                 }
@@ -121,11 +151,53 @@ impl Cutting<'_> {
         }
         (heap, rounds)
     }
+
+    /// Cuts, and writes what was found.
+    fn cut(&self, k: usize, lent: Lent<'_>) -> CutAnswer {
+        let (boxes, rounds) = self.boxes(k);
+        let [_, b2, b3] = self.grid;
+        for (i, item) in boxes.iter().enumerate() {
+            let [n, sums @ .., _] = self.sum(item.min, item.max);
+            for (d, sum) in sums.into_iter().enumerate() {
+                lent.palette[3 * i + d] = (sum / n) as u8;
+                lent.remainders[3 * i + d] = (sum % n) as u32;
+                lent.boxes[6 * i + 2 * d] = item.min[d] as u8;
+                lent.boxes[6 * i + 2 * d + 1] = item.max[d] as u8;
+            }
+            lent.counts[i] = n as u32;
+            lent.spreads[i] = item.spread.to_bits();
+            for r in item.min[0]..item.max[0] {
+                for g in item.min[1]..item.max[1] {
+                    let row = (r * b2 + g) * b3;
+                    lent.map[row + item.min[2]..row + item.max[2]].fill(i as u8);
+                }
+            }
+        }
+        CutAnswer {
+            number: 0,
+            boxes: boxes.len(),
+            rounds,
+        }
+    }
 }
 
 /// The loop over the moments of a table: its boxes in order, and its rounds.
 pub fn boxes_and_rounds(grid: Grid, moments: &[u64], k: usize) -> (Vec<Item>, usize) {
-    Cutting { grid, moments }.boxes(k)
+    let source = Source::Moments(moments);
+    Cutting { grid, source }.boxes(k)
+}
+
+/// The lengths of what a cut is lent.
+fn lengths(work: Option<&[u64]>, lent: &Lent<'_>) -> Lengths {
+    Lengths {
+        work: work.map(<[u64]>::len),
+        palette: lent.palette.len(),
+        counts: lent.counts.len(),
+        remainders: lent.remainders.len(),
+        map: lent.map.len(),
+        boxes: lent.boxes.len(),
+        spreads: lent.spreads.len(),
+    }
 }
 
 /// "append, then climb while strictly greater than the parent"
@@ -298,49 +370,30 @@ impl Port for Model {
         number
     }
 
-    fn cut(&self, grid: Grid, k: usize, table: &[u64], lent: Lent<'_>) -> CutAnswer {
-        let lengths = Lengths {
-            work: lent.work.len(),
-            palette: lent.palette.len(),
-            counts: lent.counts.len(),
-            remainders: lent.remainders.len(),
-            map: lent.map.len(),
-            boxes: lent.boxes.len(),
-            spreads: lent.spreads.len(),
-        };
-        let number = numbers::cut(grid, k, table, lengths);
+    fn cut(
+        &self,
+        grid: Grid,
+        k: usize,
+        table: &[u64],
+        work: &mut [u64],
+        lent: Lent<'_>,
+    ) -> CutAnswer {
+        let number = numbers::cut(grid, k, table, lengths(Some(work), &lent));
         if number != 0 {
             return CutAnswer::refused(number);
         }
-        moments(grid, table, lent.work);
-        let cutting = Cutting {
-            grid,
-            moments: lent.work,
-        };
-        let (boxes, rounds) = cutting.boxes(k);
-        let [_, b2, b3] = grid;
-        for (i, item) in boxes.iter().enumerate() {
-            let [n, sums @ .., _] = cutting.sum(item.min, item.max);
-            for (d, sum) in sums.into_iter().enumerate() {
-                lent.palette[3 * i + d] = (sum / n) as u8;
-                lent.remainders[3 * i + d] = (sum % n) as u32;
-                lent.boxes[6 * i + 2 * d] = item.min[d] as u8;
-                lent.boxes[6 * i + 2 * d + 1] = item.max[d] as u8;
-            }
-            lent.counts[i] = n as u32;
-            lent.spreads[i] = item.spread.to_bits();
-            for r in item.min[0]..item.max[0] {
-                for g in item.min[1]..item.max[1] {
-                    let row = (r * b2 + g) * b3;
-                    lent.map[row + item.min[2]..row + item.max[2]].fill(i as u8);
-                }
-            }
+        moments(grid, table, work);
+        let source = Source::Moments(work);
+        Cutting { grid, source }.cut(k, lent)
+    }
+
+    fn cut_slowly(&self, grid: Grid, k: usize, table: &[u64], lent: Lent<'_>) -> CutAnswer {
+        let number = numbers::cut(grid, k, table, lengths(None, &lent));
+        if number != 0 {
+            return CutAnswer::refused(number);
         }
-        CutAnswer {
-            number,
-            boxes: boxes.len(),
-            rounds,
-        }
+        let source = Source::Bins(table);
+        Cutting { grid, source }.cut(k, lent)
     }
 
     fn map(

@@ -178,10 +178,10 @@ pub fn rescue(grid: Grid, table: usize, reasons: usize) -> u8 {
     ])
 }
 
-/// The lengths of what a cut is lent to write.
+/// The lengths of what a cut is lent to write. A slow cut has no work table.
 #[derive(Clone, Copy, Debug)]
 pub struct Lengths {
-    pub work: usize,
+    pub work: Option<usize>,
     pub palette: usize,
     pub counts: usize,
     pub remainders: usize,
@@ -190,12 +190,20 @@ pub struct Lengths {
     pub spreads: usize,
 }
 
+impl Lengths {
+    /// The same for a slow cut.
+    pub fn slowly(self) -> Self {
+        Self { work: None, ..self }
+    }
+}
+
+/// What a cut answers, and a slow one: its refusals are the same but for the length of the work table.
 pub fn cut(grid: Grid, k: usize, table: &[u64], lent: Lengths) -> u8 {
     lowest(&[
         (&|| !is_grid(grid), 1),
         (&|| !(1..=256).contains(&k), 2),
         (&|| table.len() != 5 * bins(grid), 5),
-        (&|| lent.work != 5 * bins(grid), 5),
+        (&|| lent.work.is_some_and(|n| n != 5 * bins(grid)), 5),
         (&|| lent.palette < 3 * k, 5),
         (&|| lent.counts < k, 5),
         (&|| lent.remainders < 3 * k, 5),

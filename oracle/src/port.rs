@@ -2,9 +2,8 @@
 
 pub type Grid = [usize; 3];
 
-/// What a cut is lent to write: six bytes a box, and each spread as the bits of a double.
+/// What a cut is lent to write beside a work table: six bytes a box, and each spread as the bits of a double.
 pub struct Lent<'a> {
-    pub work: &'a mut [u64],
     pub palette: &'a mut [u8],
     pub counts: &'a mut [u32],
     pub remainders: &'a mut [u32],
@@ -103,7 +102,17 @@ pub trait Port {
         answers: &mut [u8],
     ) -> (u8, u32);
 
-    fn cut(&self, grid: Grid, k: usize, table: &[u64], lent: Lent<'_>) -> CutAnswer;
+    fn cut(
+        &self,
+        grid: Grid,
+        k: usize,
+        table: &[u64],
+        work: &mut [u64],
+        lent: Lent<'_>,
+    ) -> CutAnswer;
+
+    /// A cut without a work table.
+    fn cut_slowly(&self, grid: Grid, k: usize, table: &[u64], lent: Lent<'_>) -> CutAnswer;
 
     fn map(
         &self,

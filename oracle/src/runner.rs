@@ -96,9 +96,10 @@ fn report(name: &str, ran: &Ran, seconds: f64) {
     );
     if t.boxes > 0 {
         println!(
-            "    {} boxes; {} also by pixels, {} by batches, {} with 64-bit sums, {} with a negative spread, {} with \
-             a box put back ({} of them falsely positive), {} of total 0, {} too heavy",
+            "    {} boxes; {} also slowly, {} by pixels, {} by batches, {} with 64-bit sums, {} with a negative \
+             spread, {} with a box put back ({} of them falsely positive), {} of total 0, {} too heavy",
             t.boxes,
+            t.slowly,
             t.by_pixels,
             t.by_batches,
             t.wide,

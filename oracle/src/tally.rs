@@ -5,6 +5,7 @@
 pub struct Tally {
     pub cases: usize,
     pub boxes: usize,
+    pub slowly: usize,
     pub of_total_0: usize,
     pub too_heavy: usize,
     pub by_pixels: usize,
@@ -19,10 +20,11 @@ pub struct Tally {
 }
 
 /// The calls whose numbers are counted.
-pub const CALLS: [&str; 16] = [
+pub const CALLS: [&str; 17] = [
     "load",
     "merge",
     "cut",
+    "cut_slowly",
     "map",
     "paint",
     "compare",

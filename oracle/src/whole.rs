@@ -3,8 +3,9 @@ use crate::{
     PaletteCounts, PaletteSize,
     answer::{BoxSpread, Told, original},
     batches::{Batch, merged, split},
-    buffer::{Buffer, Buffers, Differs, fitting, same},
-    case::Case,
+    buffer::{Buffer, Buffers, Differs, fitting, same, slowly},
+    case::{Case, LIGHT},
+    numbers::Lengths,
     port::{Band, CutAnswer, Grid, Port},
     random::Random,
     tally::Tally,
@@ -54,8 +55,13 @@ impl Whole<'_> {
     }
 
     /// The cut of the table, as the original says, or refused where there is nothing to cut.
-    fn cut(&mut self, table: &mut Buffer<u64>, told: Option<&Told>) -> Result<Buffers, Differs> {
-        let mut lent = Buffers::random(fitting(self.case), &mut self.r);
+    fn cut(
+        &mut self,
+        lengths: Lengths,
+        table: &mut Buffer<u64>,
+        told: Option<&Told>,
+    ) -> Result<Buffers, Differs> {
+        let mut lent = Buffers::random(lengths, &mut self.r);
         let (grid, k) = (self.case.grid, self.case.k);
         let answered = lent.cut(self.port, grid, k, table.see());
         table.unchanged("the table after a cut")?;
@@ -127,7 +133,13 @@ pub fn whole(
         tally.by_batches += 1;
         run.load_batches(batches, table.see())?;
     }
-    let lent = run.cut(&mut table, told.as_ref())?;
+    let lengths = fitting(case);
+    let lent = run.cut(lengths, &mut table, told.as_ref())?;
+    if case.bins() <= LIGHT {
+        tally.slowly += 1;
+        run.cut(lengths.slowly(), &mut table, told.as_ref())
+            .map_err(slowly)?;
+    }
     let Some(told) = told else {
         tally.of_total_0 += 1;
         return Ok(());

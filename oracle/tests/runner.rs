@@ -116,9 +116,15 @@ impl Port for Faulty {
         Model.replay(first, grid, table, recorded, answers)
     }
 
-    fn cut(&self, grid: Grid, k: usize, table: &[u64], lent: Lent<'_>) -> CutAnswer {
+    fn cut(
+        &self,
+        grid: Grid,
+        k: usize,
+        table: &[u64],
+        work: &mut [u64],
+        lent: Lent<'_>,
+    ) -> CutAnswer {
         let Lent {
-            work,
             palette,
             counts,
             remainders,
@@ -127,7 +133,6 @@ impl Port for Faulty {
             spreads,
         } = lent;
         let again = Lent {
-            work,
             palette,
             counts: &mut *counts,
             remainders,
@@ -135,11 +140,15 @@ impl Port for Faulty {
             boxes,
             spreads,
         };
-        let answer = Model.cut(grid, k, table, again);
+        let answer = Model.cut(grid, k, table, work, again);
         if k >= 3 && answer.boxes >= 2 {
             counts[1] += 1;
         }
         answer
+    }
+
+    fn cut_slowly(&self, grid: Grid, k: usize, table: &[u64], lent: Lent<'_>) -> CutAnswer {
+        Model.cut_slowly(grid, k, table, lent)
     }
 
     fn map(

@@ -208,6 +208,40 @@ impl Table {
     /// # Ok::<(), seluvava::Refused>(())
     /// ```
     pub fn cut_with(&self, work: &mut WorkTable, k: usize) -> Result<Cut, Refused> {
+        let (grid, work) = (self.grid(), work.for_grid(self.grid()));
+        self.cut_by(|lent| sys::cut(grid, k, self.numbers(), work, lent))
+    }
+
+    /// Cuts as [`cut`](Table::cut) does, without a work table: the bins of a box are added up each time that its sums
+    /// are needed. The cut is the same, and so are the refusals.
+    ///
+    /// It is for where there is no room for a second table, and to hold the other cut to. Its time grows with the
+    /// grid's bins times its three sizes together, so that twice each size takes about 16 times as long: some
+    /// milliseconds at 32,32,32, some seconds at 128,128,128.
+    ///
+    /// # Errors
+    ///
+    /// Those of [`cut`](Table::cut).
+    ///
+    /// ```
+    /// use seluvava::{Grid, Table};
+    ///
+    /// let mut table = Table::new(Grid::rgb());
+    /// table.load(&[[0, 0, 0], [255, 255, 255], [255, 255, 255]])?;
+    /// let cut = table.cut_slowly(16)?;
+    /// assert_eq!(cut.palette(), [[255, 255, 255], [0, 0, 0]]);
+    /// assert_eq!(cut, table.cut(16)?);
+    /// # Ok::<(), seluvava::Refused>(())
+    /// ```
+    pub fn cut_slowly(&self, k: usize) -> Result<Cut, Refused> {
+        self.cut_by(|lent| sys::cut_slowly(self.grid(), k, self.numbers(), lent))
+    }
+
+    /// Lends a call what it writes, and makes a cut of that.
+    fn cut_by(
+        &self,
+        call: impl FnOnce(sys::Lent<'_>) -> Result<sys::Done, Refused>,
+    ) -> Result<Cut, Refused> {
         let grid = self.grid();
         let mut palette = vec![[0; 3]; MOST_COLOURS];
         let mut counts = vec![0; MOST_COLOURS];
@@ -216,7 +250,6 @@ impl Table {
         let mut bounds = vec![[0; 6]; MOST_COLOURS];
         let mut spreads = vec![0.0; MOST_COLOURS];
         let lent = sys::Lent {
-            work: work.for_grid(grid),
             palette: &mut palette,
             counts: &mut counts,
             remainders: &mut remainders,
@@ -224,7 +257,7 @@ impl Table {
             boxes: &mut bounds,
             spreads: &mut spreads,
         };
-        let sys::Done { boxes, rounds } = sys::cut(grid, k, self.numbers(), lent)?;
+        let sys::Done { boxes, rounds } = call(lent)?;
         palette.truncate(boxes);
         counts.truncate(boxes);
         remainders.truncate(boxes);

@@ -1,10 +1,11 @@
 //! Wu's colour quantizer, proved.
 //!
 //! Colours are counted into a [`Table`] over a [`Grid`], batch by batch; tables of many workers are merged; and a
-//! table is cut down to at most 256 colours. The [`Cut`] has a palette, the count of each colour and a [`ColourMap`],
-//! which maps frames to indices or paints them. Two tables are [compared](Table::compare) bin by bin, and what is
-//! damaged in one is [cleared](Table::rescue). A cut depends on the colours and their weights only: in any order,
-//! any batches and any merge tree, as long as nothing is refused, they give the same palette in the same order.
+//! table is [cut](Table::cut) down to at most 256 colours, or [slowly](Table::cut_slowly), where there is no room for a
+//! work table. The [`Cut`] has a palette, the count of each colour and a [`ColourMap`], which maps frames to indices or
+//! paints them. Two tables are [compared](Table::compare) bin by bin, and what is damaged in one is
+//! [cleared](Table::rescue). A cut depends on the colours and their weights only: in any order, any batches and any
+//! merge tree, as long as nothing is refused, they give the same palette in the same order.
 //! A [`Recorder`] counts frames that were sampled at an interval, and refuses a batch that was sampled at another.
 //! Frames that are stored as [PPM files](ppm) are [loaded](Table::load_ppm) as they are.
 //! The module [`terminal`] has a palette in the fixed colours of a terminal.

@@ -9,10 +9,10 @@
 //! - Nobody else writes to a buffer, or reads one that is not const, before the call returns: so long lasts the borrow.
 use crate::{Grid, Refused, ppm};
 use seluvava_sys::{
-    Session, SessionAnswer, seluvava_batch, seluvava_begin, seluvava_bins, seluvava_compare,
-    seluvava_cut, seluvava_load, seluvava_load_ppm, seluvava_map, seluvava_merge, seluvava_nearest,
-    seluvava_paint, seluvava_ppm_header, seluvava_reload, seluvava_replay, seluvava_rescue,
-    seluvava_table_len,
+    CutAnswer, Session, SessionAnswer, seluvava_batch, seluvava_begin, seluvava_bins,
+    seluvava_compare, seluvava_cut, seluvava_cut_slowly, seluvava_load, seluvava_load_ppm,
+    seluvava_map, seluvava_merge, seluvava_nearest, seluvava_paint, seluvava_ppm_header,
+    seluvava_reload, seluvava_replay, seluvava_rescue, seluvava_table_len,
 };
 
 /// The bins of a grid, or 0 where it is refused.
@@ -240,9 +240,8 @@ pub fn replay(
     })
 }
 
-/// What a cut writes.
+/// What a cut writes, beside a work table.
 pub struct Lent<'a> {
-    pub work: &'a mut [u64],
     pub palette: &'a mut [[u8; 3]],
     pub counts: &'a mut [u32],
     pub remainders: &'a mut [[u32; 3]],
@@ -258,14 +257,29 @@ pub struct Done {
     pub rounds: usize,
 }
 
+/// The boxes and rounds of a cut that was not refused.
+fn done(answer: CutAnswer) -> Result<Done, Refused> {
+    Refused::unless_done(answer.number)?;
+    Ok(Done {
+        boxes: answer.boxes,
+        rounds: answer.rounds,
+    })
+}
+
 /// Cuts a table into at most k boxes.
-pub fn cut(grid: Grid, k: usize, table: &[u64], lent: Lent<'_>) -> Result<Done, Refused> {
+pub fn cut(
+    grid: Grid,
+    k: usize,
+    table: &[u64],
+    work: &mut [u64],
+    lent: Lent<'_>,
+) -> Result<Done, Refused> {
     let [b1, b2, b3] = grid.sizes();
     let palette = lent.palette.as_flattened_mut();
     let remainders = lent.remainders.as_flattened_mut();
     let boxes = lent.boxes.as_flattened_mut();
     // SAFETY: pointers and lengths are those of slices; `table` is not written, and each other one is borrowed mutably.
-    let answer = unsafe {
+    done(unsafe {
         seluvava_cut(
             b1,
             b2,
@@ -273,8 +287,8 @@ pub fn cut(grid: Grid, k: usize, table: &[u64], lent: Lent<'_>) -> Result<Done, 
             k,
             table.as_ptr(),
             table.len(),
-            lent.work.as_mut_ptr(),
-            lent.work.len(),
+            work.as_mut_ptr(),
+            work.len(),
             palette.as_mut_ptr(),
             palette.len(),
             lent.counts.as_mut_ptr(),
@@ -288,11 +302,37 @@ pub fn cut(grid: Grid, k: usize, table: &[u64], lent: Lent<'_>) -> Result<Done, 
             lent.spreads.as_mut_ptr(),
             lent.spreads.len(),
         )
-    };
-    Refused::unless_done(answer.number)?;
-    Ok(Done {
-        boxes: answer.boxes,
-        rounds: answer.rounds,
+    })
+}
+
+/// Cuts a table into at most k boxes, without a work table.
+pub fn cut_slowly(grid: Grid, k: usize, table: &[u64], lent: Lent<'_>) -> Result<Done, Refused> {
+    let [b1, b2, b3] = grid.sizes();
+    let palette = lent.palette.as_flattened_mut();
+    let remainders = lent.remainders.as_flattened_mut();
+    let boxes = lent.boxes.as_flattened_mut();
+    // SAFETY: pointers and lengths are those of slices; `table` is not written, and each other one is borrowed mutably.
+    done(unsafe {
+        seluvava_cut_slowly(
+            b1,
+            b2,
+            b3,
+            k,
+            table.as_ptr(),
+            table.len(),
+            palette.as_mut_ptr(),
+            palette.len(),
+            lent.counts.as_mut_ptr(),
+            lent.counts.len(),
+            remainders.as_mut_ptr(),
+            remainders.len(),
+            lent.map.as_mut_ptr(),
+            lent.map.len(),
+            boxes.as_mut_ptr(),
+            boxes.len(),
+            lent.spreads.as_mut_ptr(),
+            lent.spreads.len(),
+        )
     })
 }
 

@@ -39,6 +39,7 @@ fn check(grid: Grid, pixels: &[[u8; 3]], k: usize) -> Result<(), Refused> {
     let mut table = Table::new(grid);
     table.load(pixels)?;
     let cut = table.cut(k)?;
+    assert_eq!(table.cut_slowly(k)?, cut);
     let map = cut.colour_map();
 
     let occupied: BTreeSet<[u8; 3]> = pixels.iter().map(|&pixel| bins(pixel, grid)).collect();

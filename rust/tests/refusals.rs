@@ -162,14 +162,16 @@ fn compare() {
 #[test]
 fn cut() {
     let empty = Table::new(grid());
-    let cut = |table: &Table, k| table.cut(k).map(|_| ());
-    for k in [0, 257, usize::MAX] {
-        refuses(2, &table(), |t| cut(t, k));
-        refuses(2, &unsound(), |t| cut(t, k));
-        refuses(2, &empty, |t| cut(t, k));
+    for call in [Table::cut, Table::cut_slowly] {
+        let cut = |table: &Table, k| call(table, k).map(|_| ());
+        for k in [0, 257, usize::MAX] {
+            refuses(2, &table(), |t| cut(t, k));
+            refuses(2, &unsound(), |t| cut(t, k));
+            refuses(2, &empty, |t| cut(t, k));
+        }
+        refuses(6, &unsound(), |t| cut(t, 1));
+        refuses(8, &empty, |t| cut(t, 256));
     }
-    refuses(6, &unsound(), |t| cut(t, 1));
-    refuses(8, &empty, |t| cut(t, 256));
 }
 
 /// A colour map with an entry that is not below the palette's length.

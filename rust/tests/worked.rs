@@ -58,7 +58,9 @@ fn run(case: &Case) -> Result<Cut, Refused> {
         };
         assert_eq!(number_of(&done), load.number, "{}: a load", case.name);
     }
-    table.cut(case.k)
+    let cut = table.cut(case.k);
+    assert_eq!(table.cut_slowly(case.k), cut, "{}: slowly", case.name);
+    cut
 }
 
 fn plain(colours: &'static [[u8; 3]]) -> Load {

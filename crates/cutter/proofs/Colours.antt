@@ -15,8 +15,9 @@ use Rattle.table.specs.Sound.{limit}
 use Rattle.table.proofs.Soundness.{Sound}
 use Rattle.boxes.specs.declared.sides.Bounds.{Bounds}
 use Rattle.sums.specs.declared.box_sums.Stats.{Stats}
-use Rattle.sums.specs.Box.{boxSum, statsOf}
-use Rattle.sums.proofs.Laws.{box-sums-high, box-weight-high}
+use Rattle.bins.specs.Sum.{boxSum}
+use Rattle.sums.specs.Box.{statsOf}
+use Rattle.bins.proofs.Laws.{box-sums-high, box-weight-high}
 use Rattle.cutter.specs.Fronts.{filled, putFrom}
 use Rattle.cutter.specs.Palette.{meanOf, colourOf, countOf, remainderOf, bytesOf, itsColour, itsCount, itsRemainders}
 use Rattle.cutter.specs.Palette.{coloursOf, paletteLater, countsLater, remaindersLater, frontOf}

@@ -18,6 +18,8 @@ use Rattle.table.specs.Cell.{View}
 use Rattle.table.specs.Table.{viewOf}
 use Rattle.table.specs.Sound.{limit}
 use Rattle.rounds.specs.Loop.{boxesOf}
+use Rattle.sums.specs.declared.source.Source.{Source}
+use Rattle.sums.specs.declared.source.Source.the-variants.{Bins}
 use Rattle.cutter.specs.declared.call.CutRecord.{CutRecord}
 use Rattle.cutter.specs.Cut.{Buffers, lengthsOf, lengthsRight, cutNumberOn, cutNumber, CanCut, LengthsFit}
 use Rattle.cutter.specs.Cut.{refusedRecord, doneRecord, recordOn, cutRecord, laterOn, cutLater}
@@ -29,9 +31,9 @@ pub nothing-refuses : {limit : ℕ} {g : Grid} {k : ℕ} {fit : Bool} {v : View}
 nothing-refuses {limit} {g} {k} {fit} {v} c e =
     accepts limit g k fit v (c .least) (c .most) e (c .is-sound) (λ z. omega (arith, c .some))
 
-module _ (b1 b2 b3 k : ℕ) (t : List ℕ) (b : Buffers) where
+module _ (source : Source) (b1 b2 b3 k : ℕ) (t : List ℕ) (b : Buffers) where
   -- the answer of the record
-  pub record-number : cutRecord b1 b2 b3 k t b .number ≡ cutNumber b1 b2 b3 k t b
+  pub record-number : cutRecord source b1 b2 b3 k t b .number ≡ cutNumber source b1 b2 b3 k t b
   unfolding cutRecord cutNumber recordOn numberOn onGrid gridAnswer whenDone refusedRecord doneRecord
   record-number = go (gridOf b1 b2 b3)
     where
@@ -41,34 +43,38 @@ module _ (b1 b2 b3 k : ℕ) (t : List ℕ) (b : Buffers) where
 
       go : (c : Chosen)
           → onGrid c (refusedRecord (gridAnswer c .number))
-          (λ g. whenDone (cutNumberOn limit g k (lengthsRight g k t b) (viewOf t)) (doneRecord (boxesOf g (viewOf t) k))
-          (refusedRecord (cutNumberOn limit g k (lengthsRight g k t b) (viewOf t)))) .number
-          ≡ onGrid c (gridAnswer c .number) (λ g. cutNumberOn limit g k (lengthsRight g k t b) (viewOf t))
+          (λ g. whenDone (cutNumberOn limit g k (lengthsRight source g k t b) (viewOf t))
+          (doneRecord (boxesOf g (viewOf t) k))
+          (refusedRecord (cutNumberOn limit g k (lengthsRight source g k t b) (viewOf t)))) .number
+          ≡ onGrid c (gridAnswer c .number) (λ g. cutNumberOn limit g k (lengthsRight source g k t b) (viewOf t))
       go (chosen.Accepted g) =
-          of (cutNumberOn limit g k (lengthsRight g k t b) (viewOf t)) (doneRecord (boxesOf g (viewOf t) k)) refl
+          of (cutNumberOn limit g k (lengthsRight source g k t b) (viewOf t)) (doneRecord (boxesOf g (viewOf t) k)) refl
       go chosen.Refused = refl
 
   -- "A refusal writes nothing. A refused cut hands back its answer, zero boxes, zero rounds and box places all zero."
-  pub cut-refuses : {n : ℕ} → cutNumber b1 b2 b3 k t b ≡ suc n
-      → (cutRecord b1 b2 b3 k t b ≡ refusedRecord (suc n)) × (cutLater b1 b2 b3 k t b ≡ b)
+  pub cut-refuses : {n : ℕ} → cutNumber source b1 b2 b3 k t b ≡ suc n
+      → (cutRecord source b1 b2 b3 k t b ≡ refusedRecord (suc n)) × (cutLater source b1 b2 b3 k t b ≡ b)
   unfolding cutRecord cutLater cutNumber recordOn numberOn onGrid gridAnswer whenDone
   cut-refuses {n} = go (gridOf b1 b2 b3)
     where
       of : {A : Type 0} (m : ℕ) (x y : A) → m ≡ suc n → whenDone m x y ≡ y
       of m x y e = rw e refl
 
-      go : (c : Chosen) → onGrid c (gridAnswer c .number) (λ g. cutNumberOn limit g k (lengthsRight g k t b) (viewOf t))
+      go : (c : Chosen)
+          → onGrid c (gridAnswer c .number) (λ g. cutNumberOn limit g k (lengthsRight source g k t b) (viewOf t))
           ≡ suc n
           → (onGrid c (refusedRecord (gridAnswer c .number))
-          (λ g. whenDone (cutNumberOn limit g k (lengthsRight g k t b) (viewOf t)) (doneRecord (boxesOf g (viewOf t) k))
-          (refusedRecord (cutNumberOn limit g k (lengthsRight g k t b) (viewOf t)))) ≡ refusedRecord (suc n))
+          (λ g. whenDone (cutNumberOn limit g k (lengthsRight source g k t b) (viewOf t))
+          (doneRecord (boxesOf g (viewOf t) k))
+          (refusedRecord (cutNumberOn limit g k (lengthsRight source g k t b) (viewOf t)))) ≡ refusedRecord (suc n))
           × (onGrid c b
-          (λ g. whenDone (cutNumberOn limit g k (lengthsRight g k t b) (viewOf t)) (laterOn g (viewOf t) k b) b)
+          (λ g. whenDone (cutNumberOn limit g k (lengthsRight source g k t b) (viewOf t))
+          (laterOn source g (viewOf t) k b) b)
           ≡ b)
       go (chosen.Accepted g) e = (
-        of (cutNumberOn limit g k (lengthsRight g k t b) (viewOf t)) _ _ e
+        of (cutNumberOn limit g k (lengthsRight source g k t b) (viewOf t)) _ _ e
             ∙ ap refusedRecord e,
-        of (cutNumberOn limit g k (lengthsRight g k t b) (viewOf t)) _ _ e,
+        of (cutNumberOn limit g k (lengthsRight source g k t b) (viewOf t)) _ _ e,
       )
       go chosen.Refused e = (ap refusedRecord e, refl)
 
@@ -76,14 +82,14 @@ module _ (b1 b2 b3 k : ℕ) (t : List ℕ) (b : Buffers) where
   pub record CutDone (g : Grid) : Type 0 where
     pub accepted : Accepted g
     pub can : CanCut limit g k (viewOf t)
-    pub fit : LengthsFit g k (length t) (lengthsOf b)
-    pub hands : cutRecord b1 b2 b3 k t b ≡ doneRecord (boxesOf g (viewOf t) k)
-    pub leaves : cutLater b1 b2 b3 k t b ≡ laterOn g (viewOf t) k b
+    pub fit : LengthsFit source g k (length t) (lengthsOf b)
+    pub hands : cutRecord source b1 b2 b3 k t b ≡ doneRecord (boxesOf g (viewOf t) k)
+    pub leaves : cutLater source b1 b2 b3 k t b ≡ laterOn source g (viewOf t) k b
 
-  pub cut-says : {g : Grid} → gridOf b1 b2 b3 ≡ chosen.Accepted g → cutNumber b1 b2 b3 k t b ≡ 0 → CutDone g
+  pub cut-says : {g : Grid} → gridOf b1 b2 b3 ≡ chosen.Accepted g → cutNumber source b1 b2 b3 k t b ≡ 0 → CutDone g
   unfolding cutNumber cutRecord cutLater recordOn numberOn onGrid whenDone
   cut-says {g} e n =
-      let m : cutNumberOn limit g k (lengthsRight g k t b) (viewOf t) ≡ 0 = sym (rw e refl) ∙ n in
+      let m : cutNumberOn limit g k (lengthsRight source g k t b) (viewOf t) ≡ 0 = sym (rw e refl) ∙ n in
       record {
         accepted = chose b1 b2 b3 g e .accepted;
         can = can-cut m .0;
@@ -94,7 +100,23 @@ module _ (b1 b2 b3 k : ℕ) (t : List ℕ) (b : Buffers) where
 
   -- "where none applies, the answer is 0"
   pub cut-accepts : {g : Grid} → gridOf b1 b2 b3 ≡ chosen.Accepted g → CanCut limit g k (viewOf t)
-      → LengthsFit g k (length t) (lengthsOf b)
-      → cutNumber b1 b2 b3 k t b ≡ 0
+      → LengthsFit source g k (length t) (lengthsOf b)
+      → cutNumber source b1 b2 b3 k t b ≡ 0
   unfolding cutNumber numberOn onGrid
   cut-accepts e c f = rw e (nothing-refuses c (fit-lengths f))
+
+-- a cut that adds up bins leaves its work table alone
+pub bins-leave-work : (b1 b2 b3 k : ℕ) (t : List ℕ) (b : Buffers) → cutLater Bins b1 b2 b3 k t b .work ≡ b .work
+unfolding cutLater onGrid whenDone laterOn
+bins-leave-work b1 b2 b3 k t b = go (gridOf b1 b2 b3)
+  where
+    of : (g : Grid) (n : ℕ) → whenDone n (laterOn Bins g (viewOf t) k b) b .work ≡ b .work
+    of g zero = refl
+    of g (suc n) = refl
+
+    go : (c : Chosen)
+        → onGrid c b
+        (λ g. whenDone (cutNumberOn limit g k (lengthsRight Bins g k t b) (viewOf t)) (laterOn Bins g (viewOf t) k b) b)
+        .work ≡ b .work
+    go (chosen.Accepted g) = of g (cutNumberOn limit g k (lengthsRight Bins g k t b) (viewOf t))
+    go chosen.Refused = refl

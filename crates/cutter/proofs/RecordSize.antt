@@ -16,10 +16,11 @@ use Rattle.table.specs.Table.{viewOf}
 use Rattle.table.specs.Sound.{limit}
 use Rattle.rounds.specs.Loop.{boxesOf, placesOf}
 use Rattle.rounds.proofs.Filled.{heap-most}
+use Rattle.sums.specs.declared.source.Source.{Source}
 use Rattle.cutter.specs.declared.call.CutRecord.{CutRecord}
 use Rattle.cutter.specs.Cut.{Buffers, lengthsRight, cutNumberOn, refusedRecord, doneRecord, recordOn, cutRecord}
 
-module _ (k : ℕ) (least : 1 ≤ k) (most : k ≤ 256) (t : List ℕ) where
+module _ (source : Source) (k : ℕ) (least : 1 ≤ k) (most : k ≤ 256) (t : List ℕ) where
   few-on : (g : Grid) (fit : Bool) → recordOn limit g k fit (viewOf t) .boxes ≤ k
   unfolding recordOn whenDone doneRecord refusedRecord boxesOf
   few-on g fit = go (cutNumberOn limit g k fit (viewOf t))
@@ -28,20 +29,20 @@ module _ (k : ℕ) (least : 1 ≤ k) (most : k ≤ 256) (t : List ℕ) where
       go zero = heap-most g (viewOf t) k least most
       go (suc n) = omega arith
 
-  few-cut : (b1 b2 b3 : ℕ) (b : Buffers) → cutRecord b1 b2 b3 k t b .boxes ≤ k
+  few-cut : (b1 b2 b3 : ℕ) (b : Buffers) → cutRecord source b1 b2 b3 k t b .boxes ≤ k
   unfolding cutRecord onGrid refusedRecord
   few-cut b1 b2 b3 b = go (gridOf b1 b2 b3)
     where
       go : (c : Chosen)
           → onGrid c (refusedRecord (gridAnswer c .number))
-          (λ g. recordOn limit g k (lengthsRight g k t b) (viewOf t)) .boxes ≤ k
-      go (chosen.Accepted g) = few-on g (lengthsRight g k t b)
+          (λ g. recordOn limit g k (lengthsRight source g k t b) (viewOf t)) .boxes ≤ k
+      go (chosen.Accepted g) = few-on g (lengthsRight source g k t b)
       go chosen.Refused = omega arith
 
-  pub few : (b1 b2 b3 : ℕ) (b : Buffers) {r : CutRecord} → r ≡ cutRecord b1 b2 b3 k t b → r .boxes ≤ k
+  pub few : (b1 b2 b3 : ℕ) (b : Buffers) {r : CutRecord} → r ≡ cutRecord source b1 b2 b3 k t b → r .boxes ≤ k
   few b1 b2 b3 b e = rw e (few-cut b1 b2 b3 b)
 
-module _ (k : ℕ) (t : List ℕ) where
+module _ (source : Source) (k : ℕ) (t : List ℕ) where
   places-on : (g : Grid) (fit : Bool) → length (recordOn limit g k fit (viewOf t) .places) ≡ 256
   unfolding recordOn whenDone doneRecord refusedRecord boxesOf placesOf
   places-on g fit = go (cutNumberOn limit g k fit (viewOf t))
@@ -50,7 +51,7 @@ module _ (k : ℕ) (t : List ℕ) where
       go zero = length-list 0 256 _
       go (suc n) = refl
 
-  pub all-places : (b1 b2 b3 : ℕ) (b : Buffers) {r : CutRecord} → r ≡ cutRecord b1 b2 b3 k t b
+  pub all-places : (b1 b2 b3 : ℕ) (b : Buffers) {r : CutRecord} → r ≡ cutRecord source b1 b2 b3 k t b
       → length (r .places) ≡ 256
   unfolding cutRecord onGrid refusedRecord
   all-places b1 b2 b3 b e = rw e (go (gridOf b1 b2 b3))
@@ -58,7 +59,7 @@ module _ (k : ℕ) (t : List ℕ) where
       go : (c : Chosen)
           → length
           (onGrid c (refusedRecord (gridAnswer c .number))
-          (λ g. recordOn limit g k (lengthsRight g k t b) (viewOf t)) .places)
+          (λ g. recordOn limit g k (lengthsRight source g k t b) (viewOf t)) .places)
           ≡ 256
-      go (chosen.Accepted g) = places-on g (lengthsRight g k t b)
+      go (chosen.Accepted g) = places-on g (lengthsRight source g k t b)
       go chosen.Refused = refl

@@ -21,11 +21,11 @@ use Rattle.table.specs.Sound.{total}
 use Rattle.table.proofs.Soundness.{total-is}
 use Rattle.boxes.specs.declared.sides.Bounds.{Bounds}
 use Rattle.boxes.specs.Box.{Within}
-use Rattle.sums.specs.Box.{binSum, boxSum}
-use Rattle.sums.proofs.Boxes.{sum3-same, sum3-plus, sum3-zero}
+use Rattle.bins.specs.Sum.{binSum, boxSum}
+use Rattle.bins.proofs.Boxes.{sum3-same, sum3-plus, sum3-zero}
 use Rattle.boxes.proofs.Within.{sides}
-use Rattle.sums.proofs.Laws.{cut-sum}
-use Rattle.sums.proofs.Hits.{hit-box}
+use Rattle.bins.proofs.Laws.{cut-sum}
+use Rattle.bins.proofs.Hits.{hit-box}
 use Rattle.heap.specs.Heap.{item, sumItems}
 use Rattle.boxes.specs.Box.{noBox}
 use Rattle.rounds.specs.Loop.{noItem, heapOf}

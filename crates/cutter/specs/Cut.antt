@@ -2,7 +2,7 @@
 -- and the call on lent lists. Definitions only.
 use mathlib.Core.Path.{_≡_}
 use mathlib.Core.Bool.{Bool, true, not, _&&_}
-use mathlib.Core.List.{List, map}
+use mathlib.Core.List.{List, [], map}
 use Prim.Native.Nat.{ℕ, _*_, _≤_, _<_}
 use lib.Dec.{eqb, leb}
 use lib.ListN.{length, take, replicate}
@@ -14,6 +14,8 @@ use Rattle.table.specs.Table.{Table, tableLen, viewOf, written}
 use Rattle.table.specs.Sound.{limit, total, sound, unsoundNumber}
 use Rattle.boxes.specs.declared.sides.Bounds.{Bounds}
 use Rattle.boxes.specs.Box.{noBox}
+use Rattle.sums.specs.declared.source.Source.{Source}
+use Rattle.sums.specs.declared.source.Source.the-variants.{Moments, Bins}
 use Rattle.sums.specs.Moments.{momentsOf}
 use Rattle.rounds.specs.declared.gather.BoxSpread.{BoxSpread}
 use Rattle.rounds.specs.declared.gather.Boxes.{Boxes}
@@ -109,40 +111,55 @@ lengthsOf b =
           (r .map);
     }
 
+-- ---- what a source of sums asks of the work table's length, and leaves in it
+unfoldable pub workFits : Source → Grid → ℕ → Bool
+workFits Moments g numbers = eqb numbers (tableLen (binsOf g))
+workFits Bins g numbers = true
+
+-- "the work table holds the moments of the whole table"
+abbrev pub workLater : Source → Grid → View → Table → Table
+workLater Moments g v old = written (binsOf g) (momentsOf g v)
+workLater Bins g v old = old
+
+-- where no work table is lent
+abbrev pub noWork : Table
+noWork = []
+
 -- "table and work table exactly 5·bins; map exactly bins", "palette at least 3·k bytes, counts (u32) at least k,
 -- remainders (u32) at least 3·k"
-pub record LengthsFit (g : Grid) (k numbers : ℕ) (l : Lengths) : Type 0 where
+pub record LengthsFit (source : Source) (g : Grid) (k numbers : ℕ) (l : Lengths) : Type 0 where
   pub table : numbers ≡ tableLen (binsOf g)
-  pub work : l .work ≡ tableLen (binsOf g)
+  pub work : workFits source g (l .work) ≡ true
   pub palette : 3 * k ≤ l .palette
   pub counts : k ≤ l .counts
   pub remainders : 3 * k ≤ l .remainders
   pub map : l .map ≡ binsOf g
 
-unfoldable pub longEnough : Grid → ℕ → ℕ → Lengths → Bool
-longEnough g k table l =
+unfoldable pub longEnough : Source → Grid → ℕ → ℕ → Lengths → Bool
+longEnough source g k table l =
     eqb table (tableLen (binsOf g))
-    && (eqb (l .work) (tableLen (binsOf g)) &&
+    && (workFits source g (l .work) &&
     (leb (3 * k) (l .palette) && (leb k (l .counts) && (leb (3 * k) (l .remainders) && eqb (l .map) (binsOf g)))))
 
 -- whether what is lent has the right lengths
-abbrev pub lengthsRight : Grid → ℕ → Table → Buffers → Bool
-lengthsRight g k t b = longEnough g k (length t) (lengthsOf b)
+abbrev pub lengthsRight : Source → Grid → ℕ → Table → Buffers → Bool
+lengthsRight source g k t b = longEnough source g k (length t) (lengthsOf b)
 
-unfoldable pub cutNumber : ℕ → ℕ → ℕ → ℕ → Table → Buffers → ℕ
-cutNumber b1 b2 b3 k t b = numberOn (gridOf b1 b2 b3) (λ g. cutNumberOn limit g k (lengthsRight g k t b) (viewOf t))
+unfoldable pub cutNumber : Source → ℕ → ℕ → ℕ → ℕ → Table → Buffers → ℕ
+cutNumber source b1 b2 b3 k t b =
+    numberOn (gridOf b1 b2 b3) (λ g. cutNumberOn limit g k (lengthsRight source g k t b) (viewOf t))
 
-unfoldable pub cutRecord : ℕ → ℕ → ℕ → ℕ → Table → Buffers → CutRecord
-cutRecord b1 b2 b3 k t b =
+unfoldable pub cutRecord : Source → ℕ → ℕ → ℕ → ℕ → Table → Buffers → CutRecord
+cutRecord source b1 b2 b3 k t b =
     let c = gridOf b1 b2 b3 in
-    onGrid c (refusedRecord (gridAnswer c .number)) (λ g. recordOn limit g k (lengthsRight g k t b) (viewOf t))
+    onGrid c (refusedRecord (gridAnswer c .number)) (λ g. recordOn limit g k (lengthsRight source g k t b) (viewOf t))
 
--- "the work table holds the moments of the whole table", and the results are those of the boxes
-unfoldable pub laterOn : Grid → View → ℕ → Buffers → Buffers
-laterOn g v k b = record { work = written (binsOf g) (momentsOf g v); results = resultsOn g v k (b .results) }
+-- what stands in the work table then, and the results of the boxes
+unfoldable pub laterOn : Source → Grid → View → ℕ → Buffers → Buffers
+laterOn source g v k b = record { work = workLater source g v (b .work); results = resultsOn g v k (b .results) }
 
 -- "A refusal writes nothing."
-unfoldable pub cutLater : ℕ → ℕ → ℕ → ℕ → Table → Buffers → Buffers
-cutLater b1 b2 b3 k t b =
+unfoldable pub cutLater : Source → ℕ → ℕ → ℕ → ℕ → Table → Buffers → Buffers
+cutLater source b1 b2 b3 k t b =
     onGrid (gridOf b1 b2 b3) b
-    (λ g. whenDone (cutNumberOn limit g k (lengthsRight g k t b) (viewOf t)) (laterOn g (viewOf t) k b) b)
+    (λ g. whenDone (cutNumberOn limit g k (lengthsRight source g k t b) (viewOf t)) (laterOn source g (viewOf t) k b) b)

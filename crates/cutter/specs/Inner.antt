@@ -13,7 +13,7 @@ use Rattle.boxes.specs.declared.sides.Bounds.{Bounds}
 use Rattle.boxes.specs.Box.{noBox, Within}
 use Rattle.boxes.specs.Holds.{holdsAt}
 use Rattle.sums.specs.declared.box_sums.Stats.{Stats}
-use Rattle.sums.specs.Box.{boxSum}
+use Rattle.bins.specs.Sum.{boxSum}
 use Rattle.rounds.specs.declared.gather.Boxes.{Boxes}
 use Rattle.cutter.specs.Fronts.{putFrom}
 use Rattle.cutter.specs.Palette.{meanOf, bytesOf}

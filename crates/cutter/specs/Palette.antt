@@ -8,7 +8,7 @@ use Rattle.grid.specs.declared.place.Grid.{Grid}
 use Rattle.pixels.specs.declared.colour.Rgb.{Rgb}
 use Rattle.table.specs.Cell.{View}
 use Rattle.boxes.specs.declared.sides.Bounds.{Bounds}
-use Rattle.sums.specs.Box.{boxSum}
+use Rattle.bins.specs.Sum.{boxSum}
 use Rattle.cutter.specs.declared.palette.Divided.{Divided}
 use Rattle.cutter.specs.Fronts.{joinAll, filled}
 

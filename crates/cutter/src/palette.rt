@@ -4,6 +4,7 @@ use boxes::sides::Bounds;
 use grid::place::Grid;
 use sums::box_sums::Stats;
 use sums::box_sums::box_sum;
+use sums::source::Source;
 ghost use mathlib.Core.Path.{_≡_};
 ghost use Prim.Native.Nat.{_+_, _*_, _≤_, _<_};
 ghost use lib.ListN.{length, set};
@@ -72,6 +73,7 @@ fn put_count(counts: &mut [u32], i: usize, weight: u64)
 pub(crate) fn put_result(
     table: &[u64],
     work: &[u64],
+    source: Source,
     g: Grid,
     x: Bounds,
     i: usize,
@@ -79,7 +81,7 @@ pub(crate) fn put_result(
     counts: &mut [u32],
     remainders: &mut [u32],
 )
-    requires { ⌜ CanSum limit g (now table) (now work) × Occupied g (viewOf (now table)) x ⌝ }
+    requires { ⌜ CanSum limit source g (now table) (now work) × Occupied g (viewOf (now table)) x ⌝ }
     requires { ⌜ (3 * i + 2 < length (now palette)) × (i < length (now counts))
         × (3 * i + 2 < length (now remainders)) ⌝ }
     ensures palette { λ r. ⌜ now (palette .exit)
@@ -89,7 +91,7 @@ pub(crate) fn put_result(
     ensures remainders { λ r. ⌜ now (remainders .exit)
         ≡ withThreeAt (now (remainders .entry)) i (itsRemainders g (viewOf (now (table .entry))) x) ⌝ }
 {
-    let s = box_sum(table, work, g, x);
+    let s = box_sum(table, work, source, g, x);
     put_colour(palette, i, s);
     put_count(counts, i, s.weight);
     put_remainders(remainders, i, s);

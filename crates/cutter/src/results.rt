@@ -3,6 +3,7 @@ use crate::map::fill_box;
 use crate::palette::put_result;
 use grid::place::Grid;
 use rounds::gather::Boxes;
+use sums::source::Source;
 ghost use mathlib.Core.Path.{_≡_};
 ghost use Prim.Native.Nat.{_*_, _≤_};
 ghost use lib.ListN.{length};
@@ -18,13 +19,14 @@ ghost use Rattle.cutter.specs.Inner.{fillFrom, Placed, Found};
 pub(crate) fn put_results(
     table: &[u64],
     work: &[u64],
+    source: Source,
     g: Grid,
     b: Boxes,
     palette: &mut [u8],
     counts: &mut [u32],
     remainders: &mut [u32],
 )
-    requires { ⌜ CanSum limit g (now table) (now work) × Found g (viewOf (now table)) b ⌝ }
+    requires { ⌜ CanSum limit source g (now table) (now work) × Found g (viewOf (now table)) b ⌝ }
     requires { ⌜ (3 * b .boxes ≤ length (now palette)) × (b .boxes ≤ length (now counts))
         × (3 * b .boxes ≤ length (now remainders)) ⌝ }
     ensures palette { λ r. ⌜ now (palette .exit)
@@ -39,7 +41,17 @@ pub(crate) fn put_results(
     let mut i = 0;
     while i < n {
         let x = places[i];
-        put_result(table, work, g, x.bounds, i, palette, counts, remainders);
+        put_result(
+            table,
+            work,
+            source,
+            g,
+            x.bounds,
+            i,
+            palette,
+            counts,
+            remainders,
+        );
         i = i + 1;
     }
 }

@@ -8,6 +8,7 @@ use lib.ListN.{replicate}
 use Rattle.basics.specs.Answer.{whenDone}
 use Rattle.table.proofs.Tables.{wide-empty}
 use Rattle.cutter.specs.declared.call.CutRecord.{CutRecord}
+use Rattle.sums.specs.declared.source.Source.the-variants.{Moments}
 use Rattle.cutter.specs.Cut.{Buffers, buffers, cutRecord, cutLater}
 use Rattle.lines.specs.Text.{listingOf, refusedOf}
 use Rattle.lines.specs.Listing.{lowerOf, lentZeros, cutText, textOf}
@@ -64,12 +65,12 @@ lent-zeros =
     (sym (wide-empty (8 * 8 * 8)))
 
 -- where the cut was refused, and where it is done
-module _ (t : List ℕ) {r : CutRecord} (e : r ≡ cutRecord 8 8 8 16 t lentZeros) where
+module _ (t : List ℕ) {r : CutRecord} (e : r ≡ cutRecord Moments 8 8 8 16 t lentZeros) where
   pub cut-refused : (r .number ≡ 0 → ⊥) → cutText t ≡ refusedOf (r .number)
   unfolding cutText
   cut-refused h = rw (← e) (when-refused (r .number) _ _ h)
 
-  pub cut-listed : {later : Buffers} → later ≡ cutLater 8 8 8 16 t lentZeros → r .number ≡ 0
+  pub cut-listed : {later : Buffers} → later ≡ cutLater Moments 8 8 8 16 t lentZeros → r .number ≡ 0
       → cutText t ≡ listingOf (r .boxes) (r .rounds) (later .results .palette) (later .results .counts)
   unfolding cutText
   cut-listed l h = rw (← e, ← l) (when-done (r .number) _ _ h)

@@ -8,6 +8,7 @@ use lib.ListN.{length, take, replicate}
 use Rattle.basics.specs.Answer.{whenDone}
 use Rattle.table.specs.Table.{Table, emptyOf}
 use Rattle.loader.specs.Load.{loadNumber, loadLater}
+use Rattle.sums.specs.declared.source.Source.the-variants.{Moments}
 use Rattle.cutter.specs.Cut.{Buffers, buffers, cutRecord, cutLater}
 use Rattle.lines.specs.declared.batches.Loaded.{Loaded}
 use Rattle.lines.specs.Text.{listingOf, refusedOf}
@@ -46,8 +47,8 @@ lentZeros =
 
 unfoldable pub cutText : List ℕ → List ℕ
 cutText t =
-    let r = cutRecord 8 8 8 16 t lentZeros in
-    let later = cutLater 8 8 8 16 t lentZeros in
+    let r = cutRecord Moments 8 8 8 16 t lentZeros in
+    let later = cutLater Moments 8 8 8 16 t lentZeros in
     whenDone (r .number) (listingOf (r .boxes) (r .rounds) (later .results .palette) (later .results .counts))
     (refusedOf (r .number))
 

@@ -23,9 +23,9 @@ use Rattle.loader.proofs.Loading.{AllBytes, share-weight, loaded-at, adds-at, o
 use Rattle.boxes.specs.declared.sides.Bounds.{Bounds}
 use Rattle.boxes.specs.Box.{Within}
 use Rattle.boxes.specs.Holds.{holds, holdsAt}
-use Rattle.sums.specs.Box.{binSum, boxSum}
-use Rattle.sums.proofs.Boxes.{sum3-same, sum3-plus, sum3-zero}
-use Rattle.sums.proofs.Hits.{hit-box}
+use Rattle.bins.specs.Sum.{binSum, boxSum}
+use Rattle.bins.proofs.Boxes.{sum3-same, sum3-plus, sum3-zero}
+use Rattle.bins.proofs.Hits.{hit-box}
 
 -- the box holds the bin of a colour
 unfoldable pub holdsColour : Grid → Bounds → Rgb → Bool

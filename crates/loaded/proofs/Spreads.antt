@@ -27,11 +27,11 @@ use Rattle.loader.proofs.Loading.{AllBytes, share-weight, share-sum, share-squa
 use Rattle.loader.proofs.Order.{table-holds}
 use Rattle.table.proofs.Soundness.{zeros-total, zeros-sound}
 use Rattle.boxes.specs.declared.sides.Bounds.{Bounds}
-use Rattle.sums.specs.Box.{boxSum}
+use Rattle.bins.specs.Sum.{boxSum}
 use Rattle.boxes.specs.Box.{Within}
 use Rattle.boxes.proofs.Within.{InBox, bin-inside}
 use Rattle.boxes.proofs.Held.{holds-in, in-holds}
-use Rattle.sums.proofs.Laws.{bins-empty}
+use Rattle.bins.proofs.Laws.{bins-empty}
 use Rattle.loaded.proofs.Boxes.{holdsColour, loaded-box, occupied-colour}
 use Rattle.sums.proofs.Same.{stats-same}
 use Rattle.spread.specs.Spread.{exactQ, SpreadsAbove}

@@ -1,6 +1,6 @@
--- The cut that a C or Rust caller makes is the cut: it is done exactly where that is done and there is room for the
--- boxes, and then it tells and leaves behind what that does. So Tiling, Full and Order, which speak of `cutRecord` and
--- `cutLater`, speak of it too.
+-- The cut that a C or Rust caller makes, by either engine, is the cut: it is done exactly where that is done and there
+-- is room for the boxes, and then it tells and leaves behind what that does. So Tiling, Full and Order, which speak of
+-- `cutRecord` and `cutLater`, speak of it too.
 -- Assumes nothing.
 use mathlib.Core.Path.{_≡_, refl, sym, ap, subst, _∙_}
 use mathlib.Core.Logic.{_↔_}
@@ -15,6 +15,7 @@ use Rattle.basics.specs.Answer.{whenDone}
 use Rattle.rounds.specs.declared.gather.BoxSpread.{BoxSpread}
 use Rattle.boxes.specs.Box.{noBox}
 use Rattle.rounds.specs.Loop.{withZero}
+use Rattle.sums.specs.declared.source.Source.{Source}
 use Rattle.cutter.specs.declared.call.CutRecord.{CutRecord}
 use Rattle.cutter.specs.Fronts.{filled}
 use Rattle.cutter.specs.Cut.{listOf, cutNumber, cutRecord, cutLater}
@@ -74,18 +75,18 @@ stays w f each xs e old j past =
     (filled-past w f each xs old j past)
 
 -- ---- the call
-module _ (b1 b2 b3 k : ℕ) (t : List ℕ) (l : Lent) where
+module _ (source : Source) (b1 b2 b3 k : ℕ) (t : List ℕ) (l : Lent) where
   abbrev number : ℕ
-  number = cutAnswer b1 b2 b3 k t l .number
+  number = cutAnswer source b1 b2 b3 k t l .number
 
   abbrev r : CutRecord
-  r = cutRecord b1 b2 b3 k t (l .buffers)
+  r = cutRecord source b1 b2 b3 k t (l .buffers)
 
   abbrev room : ℕ
   room = roomNumber b1 b2 b3 k (length (l .boxes)) (length (l .spreads))
 
   -- the answer that is given
-  is-number : number ≡ callNumber b1 b2 b3 k t l
+  is-number : number ≡ callNumber source b1 b2 b3 k t l
   unfolding cutAnswer
   is-number = refl
 
@@ -98,19 +99,20 @@ module _ (b1 b2 b3 k : ℕ) (t : List ℕ) (l : Lent) where
 
       go : (n : ℕ) → room ≡ n → room ≡ 0
       go zero q = q
-      go (suc n) q = absurd (never n (sym (sym e ∙ is-number ∙ in-stages b1 b2 b3 k t l ∙ rw q refl)))
+      go (suc n) q = absurd (never n (sym (sym e ∙ is-number ∙ in-stages source b1 b2 b3 k t l ∙ rw q refl)))
 
-  cut-number : room ≡ 0 → number ≡ cutNumber b1 b2 b3 k t (l .buffers)
+  cut-number : room ≡ 0 → number ≡ cutNumber source b1 b2 b3 k t (l .buffers)
   unfolding whenDone
-  cut-number e = is-number ∙ in-stages b1 b2 b3 k t l ∙ rw e refl
+  cut-number e = is-number ∙ in-stages source b1 b2 b3 k t l ∙ rw e refl
 
-  pub call-is-cut : (cutAnswer b1 b2 b3 k t l .number ≡ 0) ↔ ((cutNumber b1 b2 b3 k t (l .buffers) ≡ 0) × Room k l)
+  pub call-is-cut : (cutAnswer source b1 b2 b3 k t l .number ≡ 0)
+      ↔ ((cutNumber source b1 b2 b3 k t (l .buffers) ≡ 0) × Room k l)
   call-is-cut = (
     λ e.
         let enough = roomy b1 b2 b3 k (length (l .boxes)) (length (l .spreads)) (has-room e) in
         (sym (cut-number (has-room e)) ∙ e, record { boxes = enough .boxes-fit; spreads = enough .spreads-fit }),
     λ d.
-        let o = cut-exactly b1 b2 b3 k t (l .buffers) .0 (d .0) in
+        let o = cut-exactly b1 b2 b3 source k t (l .buffers) .0 (d .0) in
         cut-number
         (room-on b1 b2 b3 k (length (l .boxes)) (length (l .spreads)) (o .chosen)
         ∙ room-enough k (length (l .boxes)) (length (l .spreads)) (o .can .0 .least) (o .can .0 .most) (d .1 .boxes)
@@ -119,22 +121,23 @@ module _ (b1 b2 b3 k : ℕ) (t : List ℕ) (l : Lent) where
   )
 
   -- "A refusal writes nothing." And it has no boxes and no rounds
-  pub refused-call : {n : ℕ} → cutAnswer b1 b2 b3 k t l .number ≡ suc n
-      → (cutAnswer b1 b2 b3 k t l ≡ record { number = suc n; boxes = 0; rounds = 0 }) × (callLater b1 b2 b3 k t l ≡ l)
-  refused-call e = call-kept b1 b2 b3 k t l (sym is-number ∙ e)
+  pub refused-call : {n : ℕ} → cutAnswer source b1 b2 b3 k t l .number ≡ suc n
+      → (cutAnswer source b1 b2 b3 k t l ≡ record { number = suc n; boxes = 0; rounds = 0 })
+      × (callLater source b1 b2 b3 k t l ≡ l)
+  refused-call e = call-kept source b1 b2 b3 k t l (sym is-number ∙ e)
 
-  pub call-tells : cutAnswer b1 b2 b3 k t l .number ≡ 0
-      → TellsCut (cutRecord b1 b2 b3 k t (l .buffers)) (cutLater b1 b2 b3 k t (l .buffers)) l (cutAnswer b1 b2 b3 k t l)
-      (callLater b1 b2 b3 k t l)
+  pub call-tells : cutAnswer source b1 b2 b3 k t l .number ≡ 0
+      → TellsCut (cutRecord source b1 b2 b3 k t (l .buffers)) (cutLater source b1 b2 b3 k t (l .buffers)) l
+      (cutAnswer source b1 b2 b3 k t l) (callLater source b1 b2 b3 k t l)
   call-tells e =
       let enough = roomy b1 b2 b3 k (length (l .boxes)) (length (l .spreads)) (has-room e) in
-      let has = call-has b1 b2 b3 k t l (sym is-number ∙ e) in
-      let most : r .boxes ≤ k = few k (enough .least) (enough .most) t b1 b2 b3 (l .buffers) refl in
-      let many = told-length r (all-places k t b1 b2 b3 (l .buffers) refl) (omega (arith, most, enough .most)) in
+      let has = call-has source b1 b2 b3 k t l (sym is-number ∙ e) in
+      let most : r .boxes ≤ k = few source k (enough .least) (enough .most) t b1 b2 b3 (l .buffers) refl in
+      let many = told-length r (all-places source k t b1 b2 b3 (l .buffers) refl) (omega (arith, most, enough .most)) in
       record {
         answer = has .0
             ∙ ap (λ (n : ℕ). record { number = n; boxes = r .boxes; rounds = r .rounds })
-            (sym (record-number b1 b2 b3 k t (l .buffers) ∙ sym (cut-number (has-room e)) ∙ e));
+            (sym (record-number source b1 b2 b3 k t (l .buffers) ∙ sym (cut-number (has-room e)) ∙ e));
         buffers = ap (λ (x : Lent). x .buffers) (has .1);
         box = λ i h. ap (λ (x : Lent). boxRead (x .boxes) i) (has .1) ∙ read-box r many i h (l .boxes);
         spread = λ i h. ap (λ (x : Lent). getD (x .spreads) i nan) (has .1) ∙ read-spread r many i h (l .spreads);

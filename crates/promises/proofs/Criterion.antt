@@ -10,9 +10,9 @@ use native.Mathlib.Omega.{arith}
 use Rattle.grid.specs.declared.place.Grid.{Grid}
 use Rattle.table.specs.Cell.{View}
 use Rattle.boxes.specs.declared.sides.Bounds.{Bounds}
-use Rattle.sums.specs.Box.{boxSum}
+use Rattle.bins.specs.Sum.{boxSum}
 use Rattle.boxes.specs.Box.{lowSide, highSide}
-use Rattle.sums.proofs.Laws.{cut-sum}
+use Rattle.bins.proofs.Laws.{cut-sum}
 use Rattle.promises.specs.Criterion.{together, negative, Same, AtMost, exactQuotient, exactSpread, exactSquares}
 use Rattle.promises.specs.Criterion.{Cuts, exactScore, sidesSpread, Smallest}
 

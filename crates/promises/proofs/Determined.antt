@@ -10,7 +10,7 @@ use lib.Ieee.{Float}
 use denote.Ref.{now}
 use Rattle.basics.proofs.Determined.{determined}
 use Rattle.cutter.specs.declared.call.CutRecord.{CutRecord}
-use Rattle.cutter.specs.Cut.{Buffers, buffers}
+use Rattle.cutter.specs.Cut.{Buffers, buffers, noWork}
 use Rattle.grid.proofs.dimension.shift_of as shift-of
 use Rattle.grid.proofs.place.grid_of as grid-of
 use Rattle.grid.proofs.place.Grid.rgb as rgb
@@ -45,9 +45,11 @@ use Rattle.ppm.proofs.load.load_ppm as load-ppm
 use Rattle.compare.specs.declared.call.Compared.{Compared}
 use Rattle.compare.proofs.call.compare as compare
 use Rattle.rescue.proofs.call.rescue as rescue
+use Rattle.bins.proofs.add_up.add_up as add-up
 use Rattle.sums.proofs.moments.moments as moments
 use Rattle.sums.proofs.box_sums.in_float as in-float
 use Rattle.sums.proofs.box_sums.stats_of as stats-of
+use Rattle.sums.proofs.box_sums.sum_of_bins as sum-of-bins
 use Rattle.sums.proofs.box_sums.box_sum as box-sum
 use Rattle.spread.proofs.spread.spread as spread
 use Rattle.spread.proofs.spread.score as score
@@ -85,7 +87,9 @@ use Rattle.lines.proofs.listing.box_line as box-line
 use Rattle.lines.proofs.listing.refused as refused
 use Rattle.lines.proofs.text.text as text
 use Rattle.swatches.proofs.text.swatch_text as swatch-text
+use Rattle.cutter.proofs.call.cut_from as cut-from
 use Rattle.cutter.proofs.call.cut as cut
+use Rattle.cutter.proofs.call.cut_slowly as cut-slowly
 use Rattle.seluvava.specs.declared.cut.CutAnswer.{CutAnswer}
 use Rattle.seluvava.specs.Cut.{Lent, lent}
 use Rattle.seluvava.proofs.sizes.seluvava_bins as exported-bins
@@ -101,6 +105,7 @@ use Rattle.seluvava.proofs.recordings.seluvava_reload as exported-reload
 use Rattle.seluvava.proofs.recordings.seluvava_batch as exported-batch
 use Rattle.seluvava.proofs.recordings.seluvava_replay as exported-replay
 use Rattle.seluvava.proofs.cut.seluvava_cut as exported-cut
+use Rattle.seluvava.proofs.cut.seluvava_cut_slowly as exported-cut-slowly
 use Rattle.seluvava.proofs.frames.seluvava_map as exported-map
 use Rattle.seluvava.proofs.frames.seluvava_paint as exported-paint
 use Rattle.seluvava.proofs.terminals.seluvava_nearest as exported-nearest
@@ -251,6 +256,10 @@ pub rescue-determined : Determines {A = ℕ × (List ℕ × List ℕ)} 2 rescue.
 rescue-determined κs a r s x y p q =
     both (determined (p .0) (q .0)) (both (determined (p .1 .0) (q .1 .0)) (determined (p .1 .1) (q .1 .1)))
 
+-- ---- bins
+pub add-up-determined : Determines 1 add-up.Kinds.ps add-up.Kinds.r add-up.Reads.Learnt (λ κs r e. r)
+add-up-determined κs a r s x y p q = determined p q
+
 -- ---- sums
 pub moments-determined : Determines 2 moments.Kinds.ps moments.Kinds.r moments.Reads.Learnt (λ κs r e. now (e .1 .1 .0))
 moments-determined κs a r s x y p q = determined p q
@@ -260,6 +269,10 @@ in-float-determined κs a r s x y p q = determined p q
 
 pub stats-of-determined : Determines 0 stats-of.Kinds.ps stats-of.Kinds.r stats-of.Reads.Learnt (λ κs r e. r)
 stats-of-determined κs a r s x y p q = determined p q
+
+pub sum-of-bins-determined : Determines 1 sum-of-bins.Kinds.ps sum-of-bins.Kinds.r sum-of-bins.Reads.Learnt
+    (λ κs r e. r)
+sum-of-bins-determined κs a r s x y p q = determined p q
 
 pub box-sum-determined : Determines 2 box-sum.Kinds.ps box-sum.Kinds.r box-sum.Reads.Learnt (λ κs r e. r)
 box-sum-determined κs a r s x y p q = determined p q
@@ -298,6 +311,15 @@ cut-boxes-determined κs a r s x y p q = determined p q
 pub front-determined : Determines 1 front.Kinds.ps front.Kinds.r front.Reads.Learnt (λ κs r e. now r)
 front-determined κs a r s x y p q = determined p q
 
+pub cut-from-determined : Determines {A = CutRecord × Buffers} 6 cut-from.Kinds.ps cut-from.Kinds.r
+    cut-from.Reads.Learnt
+    (λ κs r e. (
+      r,
+      buffers (now (e .1 .1 .1 .1 .1 .1 .0)) (now (e .1 .1 .1 .1 .1 .1 .1 .0)) (now (e .1 .1 .1 .1 .1 .1 .1 .1 .0))
+          (now (e .1 .1 .1 .1 .1 .1 .1 .1 .1 .0)) (now (e .1 .1 .1 .1 .1 .1 .1 .1 .1 .1 .0)),
+    ))
+cut-from-determined κs a r s x y p q = both (determined (p .0) (q .0)) (determined (p .1) (q .1))
+
 pub cut-determined : Determines {A = CutRecord × Buffers} 6 cut.Kinds.ps cut.Kinds.r cut.Reads.Learnt
     (λ κs r e. (
       r,
@@ -305,6 +327,15 @@ pub cut-determined : Determines {A = CutRecord × Buffers} 6 cut.Kinds.ps cut.Ki
           (now (e .1 .1 .1 .1 .1 .1 .1 .1 .0)) (now (e .1 .1 .1 .1 .1 .1 .1 .1 .1 .0)),
     ))
 cut-determined κs a r s x y p q = both (determined (p .0) (q .0)) (determined (p .1) (q .1))
+
+pub cut-slowly-determined : Determines {A = CutRecord × Buffers} 5 cut-slowly.Kinds.ps cut-slowly.Kinds.r
+    cut-slowly.Reads.Learnt
+    (λ κs r e. (
+      r,
+      buffers noWork (now (e .1 .1 .1 .1 .1 .0)) (now (e .1 .1 .1 .1 .1 .1 .0)) (now (e .1 .1 .1 .1 .1 .1 .1 .0))
+          (now (e .1 .1 .1 .1 .1 .1 .1 .1 .0)),
+    ))
+cut-slowly-determined κs a r s x y p q = both (determined (p .0) (q .0)) (determined (p .1) (q .1))
 
 -- ---- band
 pub band-number-determined : Determines 1 band-number.Kinds.ps band-number.Kinds.r band-number.Reads.Learnt
@@ -446,6 +477,17 @@ pub exported-cut-determined : Determines {A = CutAnswer × Lent} 8 exported-cut.
           (now (e .1 .1 .1 .1 .1 .1 .1 .1 .1 .1 .0)) (now (e .1 .1 .1 .1 .1 .1 .1 .1 .1 .1 .1 .0)),
     ))
 exported-cut-determined κs a r s x y p q = both (determined (p .0) (q .0)) (determined (p .1) (q .1))
+
+pub exported-cut-slowly-determined : Determines {A = CutAnswer × Lent} 7 exported-cut-slowly.Kinds.ps
+    exported-cut-slowly.Kinds.r exported-cut-slowly.Reads.Learnt
+    (λ κs r e. (
+      r,
+      lent
+          (buffers noWork (now (e .1 .1 .1 .1 .1 .0)) (now (e .1 .1 .1 .1 .1 .1 .0)) (now (e .1 .1 .1 .1 .1 .1 .1 .0))
+          (now (e .1 .1 .1 .1 .1 .1 .1 .1 .0)))
+          (now (e .1 .1 .1 .1 .1 .1 .1 .1 .1 .0)) (now (e .1 .1 .1 .1 .1 .1 .1 .1 .1 .1 .0)),
+    ))
+exported-cut-slowly-determined κs a r s x y p q = both (determined (p .0) (q .0)) (determined (p .1) (q .1))
 
 pub exported-map-determined : Determines {A = ℕ × List ℕ} 3 exported-map.Kinds.ps exported-map.Kinds.r
     exported-map.Reads.Learnt (λ κs r e. (r, now (e .1 .1 .1 .1 .1 .1 .0)))

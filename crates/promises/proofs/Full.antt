@@ -20,17 +20,19 @@ use Rattle.spread.specs.Spread.{SpreadsAbove}
 use Rattle.loaded.proofs.Spreads.{table-above}
 use Rattle.rounds.specs.Loop.{boxesOf}
 use Rattle.rounds.proofs.Full.{full, occupied-whole}
+use Rattle.sums.specs.declared.source.Source.{Source}
 use Rattle.cutter.specs.Cut.{Buffers, cutNumber, doneRecord, cutRecord}
 use Rattle.cutter.proofs.Laws.{cut-says, cut-accepts}
 use Rattle.promises.specs.Full.{occupiedBins, Lends}
 
-module _ (b1 b2 b3 k : ℕ) (t : List ℕ) (b : Buffers) {g : Grid} (e : gridOf b1 b2 b3 ≡ chosen.Accepted g) where
+module _ (source : Source) (b1 b2 b3 k : ℕ) (t : List ℕ) (b : Buffers) {g : Grid}
+    (e : gridOf b1 b2 b3 ≡ chosen.Accepted g) where
   -- over the one property of the spreads: a box with two occupied bins has a computed spread above 0
-  pub full-above : cutNumber b1 b2 b3 k t b ≡ 0 → SpreadsAbove g (viewOf t)
-      → cutRecord b1 b2 b3 k t b .boxes ≡ min k (occupiedBins g t)
+  pub full-above : cutNumber source b1 b2 b3 k t b ≡ 0 → SpreadsAbove g (viewOf t)
+      → cutRecord source b1 b2 b3 k t b .boxes ≡ min k (occupiedBins g t)
   unfolding doneRecord boxesOf occupiedBins
   full-above n spreads =
-      let d = cut-says b1 b2 b3 k t b e n in
+      let d = cut-says source b1 b2 b3 k t b e n in
       rw (d .hands)
       (full (record { holds = d .can .is-sound }) (d .accepted) (d .can .some) spreads k (d .can .least) (d .can .most)
       ∙ ap (min k) (occupied-whole g (viewOf t)))
@@ -44,12 +46,12 @@ module _ (b1 b2 b3 k : ℕ) (t : List ℕ) (b : Buffers) {g : Grid} (e : gridOf 
         rw (fits .1) (all, rw all (fits .0))
 
     -- a cut of what was loaded is done, if anything was
-    pub plan-cuts : Lends g k b → 1 ≤ total g (viewOf t) → cutNumber b1 b2 b3 k t b ≡ 0
+    pub plan-cuts : Lends source g k b → 1 ≤ total g (viewOf t) → cutNumber source b1 b2 b3 k t b ≡ 0
     plan-cuts l some =
         let a = chose b1 b2 b3 g e .accepted in
         let fits = filled-table b1 b2 b3 e p y ran in
         let bytes = leaves-bytes p y in
-        cut-accepts b1 b2 b3 k t b e
+        cut-accepts source b1 b2 b3 k t b e
         (rw (fits .1)
         (record {
           least = l .least;
@@ -68,7 +70,8 @@ module _ (b1 b2 b3 k : ℕ) (t : List ℕ) (b : Buffers) {g : Grid} (e : gridOf 
         }))
 
     -- "as many boxes as the smaller of k and the occupied bins"
-    pub full-loaded : Lends g k b → 1 ≤ total g (viewOf t) → cutRecord b1 b2 b3 k t b .boxes ≡ min k (occupiedBins g t)
+    pub full-loaded : Lends source g k b → 1 ≤ total g (viewOf t)
+        → cutRecord source b1 b2 b3 k t b .boxes ≡ min k (occupiedBins g t)
     full-loaded l some =
         let fits = filled-table b1 b2 b3 e p y ran in
         full-above (plan-cuts l some)

@@ -17,7 +17,7 @@ use Rattle.table.specs.Cell.{View}
 use Rattle.boxes.specs.declared.sides.Bounds.{Bounds}
 use Rattle.boxes.specs.Box.{Within, oneBin, wholeOf}
 use Rattle.boxes.proofs.Whole.{whole-within}
-use Rattle.sums.specs.Box.{boxSum}
+use Rattle.bins.specs.Sum.{boxSum}
 use Rattle.spread.proofs.Bound.{Closely, Close, box-close}
 use Rattle.promises.specs.Criterion.{sumsSquared}
 use Rattle.promises.specs.Half.{HasSpread, computedSpread, signed, Times, apart, WithinHalf, grid2, fineTable}

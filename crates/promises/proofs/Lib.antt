@@ -22,6 +22,7 @@ pub mod Determined
 pub mod Finite
 pub mod Rounds
 pub mod Remainders
+pub mod Engines
 pub mod RecorderColours
 pub mod RecorderSteps
 pub mod RecorderStands

@@ -31,7 +31,8 @@ use Rattle.loader.proofs.Parts.{batch-weight, all-bytes-of}
 use Rattle.loader.proofs.Order.{bytes-append, weight-append, table-holds, table-total, table-sound, empty-table}
 use Rattle.loader.proofs.Batches.{batch-none, batch-append, load-stray, load-fits, load-passes}
 use Rattle.boxes.specs.Box.{minAt, maxAt, lowSide, highSide}
-use Rattle.sums.specs.Box.{sum3, binSum, boxSum, statsOf}
+use Rattle.bins.specs.Sum.{sum3, binSum, boxSum}
+use Rattle.sums.specs.Box.{statsOf}
 use Rattle.spread.specs.Spread.{zeroOf, quotientOf, spreadOf, scoreOf}
 use Rattle.boxes.specs.Box.{oneBin}
 use Rattle.spread.specs.Cut.{positionOf, positionAt, laterWins, better, bestRun, bestIn, bestCut}
@@ -42,11 +43,12 @@ use Rattle.rounds.specs.Loop.{withSpread, startRoom, start, roomAfter, boxesAft
 use Rattle.rounds.specs.Loop.{round}
 use Rattle.rounds.specs.Loop.{rounds, heapOf, placesOf, boxesOf}
 use Rattle.boxes.specs.Box.{wholeOf}
+use Rattle.sums.specs.declared.source.Source.the-variants.{Moments}
 use Rattle.cutter.specs.Fronts.{joinAll, filled}
 use Rattle.cutter.specs.Palette.{meanOf, colourOf, countOf, bytesOf, itsColour, itsCount, paletteLater, countsLater}
 use Rattle.cutter.specs.Cut.{longEnough, resultsOn, lengthsOf, cutNumber, cutRecord, doneRecord, listOf, boxList}
 use Rattle.cutter.specs.Cut.{laterOn}
-use Rattle.cutter.proofs.Refusals.{only-map, no-total}
+use Rattle.cutter.proofs.Refusals.{fit-moments, only-map, no-total}
 use Rattle.cutter.proofs.Laws.{record-number, cut-says, cut-accepts}
 use Rattle.lines.specs.Text.{digitsWithin, decimalOf, boxesWord, totalWord, roundsWord, refusedWord}
 use Rattle.lines.specs.Text.{newline, namedOf, headOf, fieldOf, lineOf, linesOf, totalOf, listingOf, refusedOf}
@@ -120,10 +122,10 @@ module _ (bytes : List ℕ) (whole : length bytes % 3 ≡ 0) (few : length bytes
         (omega (arith, pixels bytes))
 
     -- it is cut where there are any pixels, and refused with 8 where there are none
-    cuts : 0 < length bytes / 3 → cutNumber 8 8 8 16 left lentZeros ≡ 0
+    cuts : 0 < length bytes / 3 → cutNumber Moments 8 8 8 16 left lentZeros ≡ 0
     unfolding lentZeros binsOf
     cuts some =
-        cut-accepts 8 8 8 16 left lentZeros is-grid8
+        cut-accepts Moments 8 8 8 16 left lentZeros is-grid8
         (record {
           least = lit≤ tt;
           most = lit≤ tt;
@@ -132,21 +134,21 @@ module _ (bytes : List ℕ) (whole : length bytes % 3 ≡ 0) (few : length bytes
         })
         (record {
           table = table-holds grid8 (batchOf bytes false []) .lent .numbers;
-          work = empty-holds (8 * 8 * 8) .lent .numbers;
+          work = fit-moments grid8 _ (empty-holds (8 * 8 * 8) .lent .numbers);
           palette = lit≤ tt;
           counts = lit≤ tt;
           remainders = lit≤ tt;
           map = refl;
         })
 
-    none-cut : length bytes / 3 ≡ 0 → cutNumber 8 8 8 16 left lentZeros ≡ 8
+    none-cut : length bytes / 3 ≡ 0 → cutNumber Moments 8 8 8 16 left lentZeros ≡ 8
     unfolding lentZeros binsOf cutNumber numberOn onGrid
     none-cut nothing =
         let l = lengthsOf lentZeros in
         rw is-grid8
-        (no-total limit grid8 16 (longEnough grid8 16 (length left) l) (viewOf left) (lit≤ tt) (lit≤ tt)
-        (only-map grid8 16 (length left) l (table-holds grid8 (batchOf bytes false []) .lent .numbers)
-        (empty-holds (8 * 8 * 8) .lent .numbers) (lit≤ tt) (lit≤ tt) (lit≤ tt))
+        (no-total limit grid8 16 (longEnough Moments grid8 16 (length left) l) (viewOf left) (lit≤ tt) (lit≤ tt)
+        (only-map Moments grid8 16 (length left) l (table-holds grid8 (batchOf bytes false []) .lent .numbers)
+        (fit-moments grid8 (l .work) (empty-holds (8 * 8 * 8) .lent .numbers)) (lit≤ tt) (lit≤ tt) (lit≤ tt))
         its-sound
         (its-total ∙ nothing))
 
@@ -238,9 +240,9 @@ byte-at (x ∷ xs) e (suc k) = byte-at xs (and-right (ltb x 256) (areBytes xs) e
 four-cut : cutText fourTable ≡ listed (viewOf fourTable) (boxesOf grid8 (viewOf fourTable) 16)
 unfolding fourPixels cutText whenDone lentZeros doneRecord laterOn resultsOn boxList
 four-cut =
-    let number = ap (λ (t : List ℕ). cutNumber 8 8 8 16 t lentZeros) (sym four-added)
+    let number = ap (λ (t : List ℕ). cutNumber Moments 8 8 8 16 t lentZeros) (sym four-added)
     ∙ cuts fourPixels refl (lit≤ tt) (byte-at fourPixels refl) (lit< tt) in
-    let d = cut-says 8 8 8 16 fourTable lentZeros is-grid8 number in
+    let d = cut-says Moments 8 8 8 16 fourTable lentZeros is-grid8 number in
     rw (d .hands, d .leaves) refl
 
 -- "For four pixels, one black and then three white, it writes exactly" its three lines
@@ -275,8 +277,8 @@ no-input =
     nothing : List ℕ
     nothing = left [] refl (lit≤ tt)
 
-    is-8 : cutRecord 8 8 8 16 nothing lentZeros .number ≡ 8
-    is-8 = record-number 8 8 8 16 nothing lentZeros ∙ none-cut [] refl (lit≤ tt) (λ k. lit< tt) refl
+    is-8 : cutRecord Moments 8 8 8 16 nothing lentZeros .number ≡ 8
+    is-8 = record-number Moments 8 8 8 16 nothing lentZeros ∙ none-cut [] refl (lit≤ tt) (λ k. lit< tt) refl
 
 -- ---- "from standard input in batches"
 -- where some bytes were read: the answer and, where it is 0, the table are those of one load of them all, and the table

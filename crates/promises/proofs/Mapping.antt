@@ -16,6 +16,7 @@ use Rattle.pixels.specs.Colour.{colourAt}
 use Rattle.grid.proofs.Places.{chose, colour-place-lt}
 use Rattle.table.specs.Table.{viewOf}
 use Rattle.loader.proofs.Parts.{colour-bytes}
+use Rattle.sums.specs.declared.source.Source.{Source}
 use Rattle.cutter.specs.Palette.{itsColour, coloursOf}
 use Rattle.boxes.specs.Holds.{holdsAt}
 use Rattle.cutter.specs.Cut.{resultsOn, Buffers, cutNumber, cutRecord, boxList, laterOn}
@@ -37,47 +38,47 @@ use Rattle.promises.specs.Tiling.{boxesIn, boxIn}
 use Rattle.promises.specs.Mapping.{cutBoxes, cutMap, cutFront, SameIndices}
 use Rattle.promises.proofs.Tiling.{tiling}
 
-module _ (b1 b2 b3 k : ℕ) (t : List ℕ) (b : Buffers) {g : Grid} (e : gridOf b1 b2 b3 ≡ chosen.Accepted g)
-    (n : cutNumber b1 b2 b3 k t b ≡ 0) where
+module _ (source : Source) (b1 b2 b3 k : ℕ) (t : List ℕ) (b : Buffers) {g : Grid}
+    (e : gridOf b1 b2 b3 ≡ chosen.Accepted g) (n : cutNumber source b1 b2 b3 k t b ≡ 0) where
   -- "every bin of it gets index i in the map" and "A pixel's index is the map's byte at its bin", over the call: a
   -- pixel of a mapped band has index i exactly where box i holds its bin
   pub pixel-index : (paletteColours : ℕ) (frame indices : List ℕ) (first pixels : ℕ) → ((j : ℕ) → getD frame j 0 < 256)
-      → mapNumber b1 b2 b3 (cutMap b1 b2 b3 k t b) paletteColours frame indices first pixels ≡ 0
-      → (i p : ℕ) → i < cutRecord b1 b2 b3 k t b .boxes → first ≤ p → p < first + pixels
-      → holdsAt g (boxIn (cutRecord b1 b2 b3 k t b) i) (colourPlace g (colourAt frame p))
-      ≡ eqb (getD (mapLater b1 b2 b3 (cutMap b1 b2 b3 k t b) paletteColours frame indices first pixels) p 0) i
+      → mapNumber b1 b2 b3 (cutMap source b1 b2 b3 k t b) paletteColours frame indices first pixels ≡ 0
+      → (i p : ℕ) → i < cutRecord source b1 b2 b3 k t b .boxes → first ≤ p → p < first + pixels
+      → holdsAt g (boxIn (cutRecord source b1 b2 b3 k t b) i) (colourPlace g (colourAt frame p))
+      ≡ eqb (getD (mapLater b1 b2 b3 (cutMap source b1 b2 b3 k t b) paletteColours frame indices first pixels) p 0) i
   unfolding mapNumber numberOn onGrid indexAt
   pixel-index paletteColours frame indices first pixels bytes done i p h from until =
-      let map = cutMap b1 b2 b3 k t b in
+      let map = cutMap source b1 b2 b3 k t b in
       let d = map-says b1 b2 b3 map paletteColours frame indices first pixels done in
-      let on : mapNumberOn g (cutMap b1 b2 b3 k t b) paletteColours frame indices first pixels ≡ 0 =
+      let on : mapNumberOn g (cutMap source b1 b2 b3 k t b) paletteColours frame indices first pixels ≡ 0 =
       sym (rw e refl) ∙ done in
       let there = colour-place-lt (chose b1 b2 b3 g e .accepted) (colour-bytes frame bytes p) in
-      tiling b1 b2 b3 k t b e n .index i (colourPlace g (colourAt frame p)) h there
+      tiling source b1 b2 b3 k t b e n .index i (colourPlace g (colourAt frame p)) h there
       ∙ ap (λ (x : ℕ). eqb x i)
       (sym
       (ap (λ (l : List ℕ). getD l p 0) (map-done b1 b2 b3 map paletteColours frame indices first pixels e on .1)
       ∙ band-within first pixels (indexAt g map frame) indices p
       (omega (arith, d .can .one-each, d .can .inside)) from until))
 
-  full-map : length (cutMap b1 b2 b3 k t b) ≡ binsOf g
+  full-map : length (cutMap source b1 b2 b3 k t b) ≡ binsOf g
   unfolding laterOn resultsOn
   full-map =
-      ap (λ (l : Buffers). length (l .results .map)) (cut-says b1 b2 b3 k t b e n .leaves)
+      ap (λ (l : Buffers). length (l .results .map)) (cut-says source b1 b2 b3 k t b e n .leaves)
       ∙ map-length g (boxList g (viewOf t) k)
 
-  all-entries-below : allBelow (cutBoxes b1 b2 b3 k t b) (cutMap b1 b2 b3 k t b) ≡ true
+  all-entries-below : allBelow (cutBoxes source b1 b2 b3 k t b) (cutMap source b1 b2 b3 k t b) ≡ true
   all-entries-below =
-      all-below (cutBoxes b1 b2 b3 k t b) (cutMap b1 b2 b3 k t b)
-      (λ p h. tiling b1 b2 b3 k t b e n .below p (omega (arith, full-map)))
+      all-below (cutBoxes source b1 b2 b3 k t b) (cutMap source b1 b2 b3 k t b)
+      (λ p h. tiling source b1 b2 b3 k t b e n .below p (omega (arith, full-map)))
 
   -- the filled front has as many colours as there are boxes
-  front-colours : length (cutFront b1 b2 b3 k t b) / 3 ≡ cutBoxes b1 b2 b3 k t b
+  front-colours : length (cutFront source b1 b2 b3 k t b) / 3 ≡ cutBoxes source b1 b2 b3 k t b
   unfolding coloursOf
   front-colours =
-      let all = tiling b1 b2 b3 k t b e n in
+      let all = tiling source b1 b2 b3 k t b e n in
       thirds (ap length (all .front)
-      ∙ length-joined 3 (itsColour g (viewOf t)) (three g (viewOf t)) (boxesIn (cutRecord b1 b2 b3 k t b))
+      ∙ length-joined 3 (itsColour g (viewOf t)) (three g (viewOf t)) (boxesIn (cutRecord source b1 b2 b3 k t b))
       ∙ ap (λ (m : ℕ). 3 * m) (all .listed))
     where
       thirds : {l m : ℕ} → l ≡ 3 * m → l / 3 ≡ m
@@ -86,14 +87,16 @@ module _ (b1 b2 b3 k : ℕ) (t : List ℕ) (b : Buffers) {g : Grid} (e : gridOf 
   -- after a cut the map is never refused with 9: not by map, told the number of boxes, nor by paint, lent the filled
   -- front
   pub map-never-9 : (frame indices : List ℕ) (first pixels : ℕ)
-      → mapNumber b1 b2 b3 (cutMap b1 b2 b3 k t b) (cutBoxes b1 b2 b3 k t b) frame indices first pixels ≡ 9 → ⊥
+      → mapNumber b1 b2 b3 (cutMap source b1 b2 b3 k t b) (cutBoxes source b1 b2 b3 k t b) frame indices first pixels
+      ≡ 9 → ⊥
   map-never-9 frame indices first pixels =
-      map-not-9 b1 b2 b3 (cutMap b1 b2 b3 k t b) (cutBoxes b1 b2 b3 k t b) frame indices first pixels all-entries-below
+      map-not-9 b1 b2 b3 (cutMap source b1 b2 b3 k t b) (cutBoxes source b1 b2 b3 k t b) frame indices first pixels
+      all-entries-below
 
   pub paint-never-9 : (frame : List ℕ) (first pixels : ℕ)
-      → paintNumber b1 b2 b3 (cutMap b1 b2 b3 k t b) (cutFront b1 b2 b3 k t b) frame first pixels ≡ 9 → ⊥
+      → paintNumber b1 b2 b3 (cutMap source b1 b2 b3 k t b) (cutFront source b1 b2 b3 k t b) frame first pixels ≡ 9 → ⊥
   paint-never-9 frame first pixels =
-      paint-not-9 b1 b2 b3 (cutMap b1 b2 b3 k t b) (cutFront b1 b2 b3 k t b) frame first pixels
+      paint-not-9 b1 b2 b3 (cutMap source b1 b2 b3 k t b) (cutFront source b1 b2 b3 k t b) frame first pixels
       (rw front-colours all-entries-below)
 
 -- bands that cover a frame, in any order, map it whole
@@ -105,8 +108,9 @@ mapped-in-bands b1 b2 b3 map paletteColours frame bs indices inside all =
     bands-whole b1 b2 b3 map paletteColours frame bs indices inside all
 
 -- the same index for every pixel in any order of loading, over the call itself
-pub same-indices : {g : Grid} {b1 b2 b3 k : ℕ} {b : Buffers} {t s : List ℕ} → SameCut g b1 b2 b3 k b t s
-    → SameIndices b1 b2 b3 (cutMap b1 b2 b3 k t b) (cutMap b1 b2 b3 k s b)
+pub same-indices : {source : Source} {g : Grid} {b1 b2 b3 k : ℕ} {b : Buffers} {t s : List ℕ}
+    → SameCut source g b1 b2 b3 k b t s
+    → SameIndices b1 b2 b3 (cutMap source b1 b2 b3 k t b) (cutMap source b1 b2 b3 k s b)
 same-indices {b1 = b1} {b2} {b3} c =
     record {
       number = λ paletteColours frame indices first pixels i.

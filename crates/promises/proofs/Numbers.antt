@@ -33,6 +33,7 @@ use Rattle.compare.proofs.Laws.{compare-answer, compare-refused, compare-tests,
 use Rattle.rescue.specs.Rescue.{rescueNumber, rescueTable, rescueReasons}
 use Rattle.rescue.proofs.Calls as rescues
 use Rattle.rescue.proofs.Laws.{rescue-refused, rescue-tests, rescue-says, rescue-grid, rescue-accepts}
+use Rattle.sums.specs.declared.source.Source.{Source}
 use Rattle.cutter.specs.Cut.{LengthsFit, lengthsRight, Buffers, lengthsOf, longEnough, cutNumberOn, cutNumber}
 use Rattle.cutter.specs.Cut.{refusedRecord, cutRecord, cutLater}
 use Rattle.cutter.specs.Cut.{CanCut}
@@ -180,30 +181,34 @@ module _ (b1 b2 b3 : ℕ) where
           rescue-tests b1 b2 b3 t l e ∙ both (isSized t (binsOf g)) (eqb (length l) (binsOf g)) 5 0 ∙ rw e refl
       go chosen.Refused e = sym (rescues.no-grid b1 b2 b3 t l e .0) ∙ rw e refl
 
-  pub cut-lowest : (k : ℕ) (t : List ℕ) (b : Buffers) → cutNumber b1 b2 b3 k t b ≡ lowestOf (cutApplies b1 b2 b3 k t b)
+  pub cut-lowest : (source : Source) (k : ℕ) (t : List ℕ) (b : Buffers)
+      → cutNumber source b1 b2 b3 k t b ≡ lowestOf (cutApplies source b1 b2 b3 k t b)
   unfolding cutNumber cutNumberOn cutApplies cutTests chain ascends noGrid onBins numberOn onGrid gridAnswer refuse
-  cut-lowest k t b = go (gridOf b1 b2 b3) ∙ lowest (cutTests (gridOf b1 b2 b3) k t b true) 1 (omega arith) refl
+  cut-lowest source k t b =
+      go (gridOf b1 b2 b3) ∙ lowest (cutTests source (gridOf b1 b2 b3) k t b true) 1 (omega arith) refl
     where
       go : (c : Chosen)
-          → numberOn c (λ g. cutNumberOn limit g k (lengthsRight g k t b) (viewOf t)) ≡ chain (cutTests c k t b true)
+          → numberOn c (λ g. cutNumberOn limit g k (lengthsRight source g k t b) (viewOf t))
+          ≡ chain (cutTests source c k t b true)
       go (chosen.Accepted g) = refl
       go chosen.Refused = refl
 
-  pub call-lowest : (k : ℕ) (t : List ℕ) (l : Lent)
-      → cutAnswer b1 b2 b3 k t l .number ≡ lowestOf (callApplies b1 b2 b3 k t l)
+  pub call-lowest : (source : Source) (k : ℕ) (t : List ℕ) (l : Lent)
+      → cutAnswer source b1 b2 b3 k t l .number ≡ lowestOf (callApplies source b1 b2 b3 k t l)
   unfolding cutAnswer callNumber callNumberOn cutNumberOn allLong callApplies cutTests chain ascends noGrid onBins
       numberOn onGrid
       gridAnswer refuse
-  call-lowest k t l = go (gridOf b1 b2 b3)
-      ∙ lowest (cutTests (gridOf b1 b2 b3) k t (l .buffers) room) 1 (omega arith) refl
+  call-lowest source k t l = go (gridOf b1 b2 b3)
+      ∙ lowest (cutTests source (gridOf b1 b2 b3) k t (l .buffers) room) 1 (omega arith) refl
     where
       room : Bool
       room = hasRoom k (length (l .boxes)) (length (l .spreads))
 
-      go : (c : Chosen) → numberOn c (λ g. callNumberOn g k t l) ≡ chain (cutTests c k t (l .buffers) room)
+      go : (c : Chosen) → numberOn c (λ g. callNumberOn source g k t l)
+          ≡ chain (cutTests source c k t (l .buffers) room)
       go (chosen.Accepted g) =
           ap (refuse (not (leb 1 k && leb k 256)) 2)
-          (both (longEnough g k (length t) (lengthsOf (l .buffers))) room 5
+          (both (longEnough source g k (length t) (lengthsOf (l .buffers))) room 5
           (refuse (not (sound limit g (viewOf t))) unsoundNumber (refuse (eqb (total g (viewOf t)) 0) 8 0)))
       go chosen.Refused = refl
 
@@ -342,16 +347,17 @@ module _ (b1 b2 b3 : ℕ) where
     λ o. rescue-accepts b1 b2 b3 t l (o .chosen) (o .can .lent) (o .can .list),
   )
 
-  pub cut-exactly : (k : ℕ) (t : List ℕ) (b : Buffers)
-      → (cutNumber b1 b2 b3 k t b ≡ 0) ↔ OnGrid b1 b2 b3
-      (λ g. CanCut limit g k (viewOf t) × LengthsFit g k (length t) (lengthsOf b))
+  pub cut-exactly : (source : Source) (k : ℕ) (t : List ℕ) (b : Buffers)
+      → (cutNumber source b1 b2 b3 k t b ≡ 0) ↔ OnGrid b1 b2 b3
+      (λ g. CanCut limit g k (viewOf t) × LengthsFit source g k (length t) (lengthsOf b))
   unfolding cutNumber
-  cut-exactly k t b = (
+  cut-exactly source k t b = (
     λ e.
-        let c = call-done {A = ℕ} (gridOf b1 b2 b3) (λ g. cutNumberOn limit g k (lengthsRight g k t b) (viewOf t))
+        let c = call-done {A = ℕ} (gridOf b1 b2 b3)
+        (λ g. cutNumberOn limit g k (lengthsRight source g k t b) (viewOf t))
         (λ g. 0) 0 e in
-        let d = cut-says b1 b2 b3 k t b (c .is) e in record { g = c .g; chosen = c .is; can = (d .can, d .fit) },
-    λ o. cut-accepts b1 b2 b3 k t b (o .chosen) (o .can .0) (o .can .1),
+        let d = cut-says source b1 b2 b3 k t b (c .is) e in record { g = c .g; chosen = c .is; can = (d .can, d .fit) },
+    λ o. cut-accepts source b1 b2 b3 k t b (o .chosen) (o .can .0) (o .can .1),
   )
 
   pub map-exactly : (map : List ℕ) (paletteColours : ℕ) (frame indices : List ℕ) (first pixels : ℕ)
@@ -392,9 +398,9 @@ module _ (b1 b2 b3 : ℕ) where
         → (rescueTable b1 b2 b3 t l ≡ t) × (rescueReasons b1 b2 b3 t l ≡ l)
     refused-rescue t l e = rescue-refused b1 b2 b3 t l e
 
-    pub refused-cut : (k : ℕ) (t : List ℕ) (b : Buffers) → cutNumber b1 b2 b3 k t b ≡ suc n
-        → (cutRecord b1 b2 b3 k t b ≡ refusedRecord (suc n)) × (cutLater b1 b2 b3 k t b ≡ b)
-    refused-cut k t b e = cut-refuses b1 b2 b3 k t b e
+    pub refused-cut : (source : Source) (k : ℕ) (t : List ℕ) (b : Buffers) → cutNumber source b1 b2 b3 k t b ≡ suc n
+        → (cutRecord source b1 b2 b3 k t b ≡ refusedRecord (suc n)) × (cutLater source b1 b2 b3 k t b ≡ b)
+    refused-cut source k t b e = cut-refuses source b1 b2 b3 k t b e
 
     pub refused-map : (map : List ℕ) (paletteColours : ℕ) (frame indices : List ℕ) (first pixels : ℕ)
         → mapNumber b1 b2 b3 map paletteColours frame indices first pixels ≡ suc n

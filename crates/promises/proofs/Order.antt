@@ -13,20 +13,22 @@ use Rattle.loader.specs.Load.{weightOf, tableOf}
 use Rattle.loader.specs.Plan.{Plan, Filled, Stopped, endedOf, ends, leaves, firstMalformed, BytesIn}
 use Rattle.loader.proofs.Order.{table-perm, ends-is, any-order, malformed-refused}
 use Rattle.loader.proofs.Plans.{filled-table}
+use Rattle.sums.specs.declared.source.Source.{Source}
 use Rattle.cutter.specs.Cut.{Buffers, cutRecord, cutLater}
 use Rattle.promises.specs.Order.{SameCut, CutAlike}
 
 -- a cut sees nothing of a table but its numbers
-pub same-cut : (g : Grid) (b1 b2 b3 k : ℕ) (b : Buffers) {t s : List ℕ} → t ≡ s → SameCut g b1 b2 b3 k b t s
-same-cut g b1 b2 b3 k b e =
+pub same-cut : (source : Source) (g : Grid) (b1 b2 b3 k : ℕ) (b : Buffers) {t s : List ℕ} → t ≡ s
+    → SameCut source g b1 b2 b3 k b t s
+same-cut source g b1 b2 b3 k b e =
     record {
-      boxes = λ i. cutRecord b1 b2 b3 k (e i) b;
-      palette = λ i. cutLater b1 b2 b3 k (e i) b .results .palette;
-      counts = λ i. cutLater b1 b2 b3 k (e i) b .results .counts;
-      remainders = λ i. cutLater b1 b2 b3 k (e i) b .results .remainders;
-      map = λ i. cutLater b1 b2 b3 k (e i) b .results .map;
-      work = λ i. cutLater b1 b2 b3 k (e i) b .work;
-      pixel = λ c i. getD (cutLater b1 b2 b3 k (e i) b .results .map) (colourPlace g c) 0;
+      boxes = λ i. cutRecord source b1 b2 b3 k (e i) b;
+      palette = λ i. cutLater source b1 b2 b3 k (e i) b .results .palette;
+      counts = λ i. cutLater source b1 b2 b3 k (e i) b .results .counts;
+      remainders = λ i. cutLater source b1 b2 b3 k (e i) b .results .remainders;
+      map = λ i. cutLater source b1 b2 b3 k (e i) b .results .map;
+      work = λ i. cutLater source b1 b2 b3 k (e i) b .work;
+      pixel = λ c i. getD (cutLater source b1 b2 b3 k (e i) b .results .map) (colourPlace g c) 0;
     }
 
 module _ (b1 b2 b3 : ℕ) {g : Grid} (e : gridOf b1 b2 b3 ≡ chosen.Accepted g) (p q : Plan) (y : BytesIn p)
@@ -35,9 +37,9 @@ module _ (b1 b2 b3 : ℕ) {g : Grid} (e : gridOf b1 b2 b3 ≡ chosen.Accepted g)
   pub ran-same : {t s : List ℕ} → ends b1 b2 b3 p ≡ Filled t → ends b1 b2 b3 q ≡ Filled s → t ≡ s
   ran-same r u = filled-table b1 b2 b3 e p y r .1 ∙ table-perm g π ∙ sym (filled-table b1 b2 b3 e q z u .1)
 
-  pub ran-alike : {t s : List ℕ} → ends b1 b2 b3 p ≡ Filled t → ends b1 b2 b3 q ≡ Filled s → (k : ℕ) (b : Buffers)
-      → SameCut g b1 b2 b3 k b t s
-  ran-alike r u k b = same-cut g b1 b2 b3 k b (ran-same r u)
+  pub ran-alike : {t s : List ℕ} → ends b1 b2 b3 p ≡ Filled t → ends b1 b2 b3 q ≡ Filled s → (source : Source) (k : ℕ)
+      (b : Buffers) → SameCut source g b1 b2 b3 k b t s
+  ran-alike r u source k b = same-cut source g b1 b2 b3 k b (ran-same r u)
 
   -- and with no malformed batch and a total that fits, both do
   pub any-order-cuts : firstMalformed p ≡ 0 → firstMalformed q ≡ 0 → weightOf (leaves p) ≤ limit

@@ -15,6 +15,7 @@ use Rattle.loader.specs.Load.{Weighted, weightOf, loaded, tableOf}
 use Rattle.loader.specs.Plan.{Plan, Filled, ends, leaves, firstMalformed, BytesIn}
 use Rattle.loader.proofs.Order.{load-table, table-perm, table-total, leaves-bytes, any-order}
 use Rattle.loader.proofs.Plans.{filled-table}
+use Rattle.sums.specs.declared.source.Source.{Source}
 use Rattle.cutter.specs.Cut.{Buffers}
 use Rattle.recorder.specs.Replay.{Recorded, replayNumber, replayTable}
 use Rattle.promises.specs.Order.{SameCut}
@@ -51,7 +52,7 @@ module _ (first b1 b2 b3 : ℕ) (t : Table) (r : Recorded) (bytes : ColourBytes 
         second = tableOf g (leaves q);
         ran = any-order b1 b2 b3 e q q z z whole whole (Perm·refl (leaves q)) fits .0;
         same = same;
-        alike = λ k b. same-cut g b1 b2 b3 k b same;
+        alike = λ source k b. same-cut source g b1 b2 b3 k b same;
       }
 
   -- two replays that took the same colours in another order leave the same table
@@ -63,6 +64,6 @@ module _ (first b1 b2 b3 : ℕ) (t : Table) (r : Recorded) (bytes : ColourBytes 
 
   pub replays-alike : (second : ℕ) (s : Recorded) → ColourBytes s → replayNumber second b1 b2 b3 t s ≡ 0
       → Perm (taken first b1 b2 b3 t r) (taken second b1 b2 b3 t s)
-      → (k : ℕ) (b : Buffers)
-      → SameCut g b1 b2 b3 k b (replayTable first b1 b2 b3 t r) (replayTable second b1 b2 b3 t s)
-  replays-alike second s its also π k b = same-cut g b1 b2 b3 k b (replays-same second s its also π)
+      → (source : Source) (k : ℕ) (b : Buffers)
+      → SameCut source g b1 b2 b3 k b (replayTable first b1 b2 b3 t r) (replayTable second b1 b2 b3 t s)
+  replays-alike second s its also π source k b = same-cut source g b1 b2 b3 k b (replays-same second s its also π)

@@ -16,8 +16,9 @@ use Rattle.table.specs.Table.{viewOf}
 use Rattle.table.specs.Sound.{limit}
 use Rattle.boxes.specs.declared.sides.Bounds.{Bounds}
 use Rattle.boxes.specs.Box.{noBox}
-use Rattle.sums.specs.Box.{boxSum}
+use Rattle.bins.specs.Sum.{boxSum}
 use Rattle.rounds.specs.Loop.{boxesOf}
+use Rattle.sums.specs.declared.source.Source.{Source}
 use Rattle.cutter.specs.Palette.{itsColour, itsRemainders, countOf}
 use Rattle.cutter.specs.Cut.{Buffers, CanCut, cutNumber, doneRecord, cutRecord, listOf, boxList, resultsOn, laterOn}
 use Rattle.cutter.specs.Cut.{cutLater}
@@ -30,7 +31,8 @@ use Rattle.promises.specs.Tiling.{boxesIn, boxIn}
 use Rattle.promises.specs.Remainders.{givenBack, Remainders}
 
 -- ---- a cut that nothing refuses
-module _ {g : Grid} {k : ℕ} (t : List ℕ) (b : Buffers) (a : Accepted g) (c : CanCut limit g k (viewOf t)) where
+module _ (source : Source) {g : Grid} {k : ℕ} (t : List ℕ) (b : Buffers) (a : Accepted g)
+    (c : CanCut limit g k (viewOf t)) where
   abbrev found : Boxes
   found = boxesOf g (viewOf t) k
 
@@ -41,7 +43,7 @@ module _ {g : Grid} {k : ℕ} (t : List ℕ) (b : Buffers) (a : Accepted g) (c :
   in-list h = omega (arith, list-length (all-found g (viewOf t) k (c .most) a (c .some) .placed))
 
   back : (i d : ℕ) → i < found .boxes → d < 3
-      → givenBack (laterOn g (viewOf t) k b) i d ≡ boxSum g (viewOf t) (getD boxes i noBox) (suc d)
+      → givenBack (laterOn source g (viewOf t) k b) i d ≡ boxSum g (viewOf t) (getD boxes i noBox) (suc d)
   unfolding givenBack laterOn resultsOn boxList
   back i d h l =
       (λ j.
@@ -51,7 +53,8 @@ module _ {g : Grid} {k : ℕ} (t : List ℕ) (b : Buffers) (a : Accepted g) (c :
       ∙ component-whole g (viewOf t) (getD boxes i noBox) d l
 
   back-all : (d : ℕ) → d < 3
-      → sumFrom 0 (found .boxes) (λ i. givenBack (laterOn g (viewOf t) k b) i d) ≡ sumFrom 0 (binsOf g) (λ p. viewOf t p (suc d))
+      → sumFrom 0 (found .boxes) (λ i. givenBack (laterOn source g (viewOf t) k b) i d)
+      ≡ sumFrom 0 (binsOf g) (λ p. viewOf t p (suc d))
   unfolding boxesOf boxList
   back-all d l =
       sum-same 0 (found .boxes) _ _ (λ i m h. back i d (omega arith) l)
@@ -59,7 +62,7 @@ module _ {g : Grid} {k : ℕ} (t : List ℕ) (b : Buffers) (a : Accepted g) (c :
       (list-found g (viewOf t) k (c .most))
       ∙ sums-total g (viewOf t) k (c .most) (suc d)
 
-  done-remainders : Remainders g t (doneRecord found) (laterOn g (viewOf t) k b)
+  done-remainders : Remainders g t (doneRecord found) (laterOn source g (viewOf t) k b)
   unfolding boxesIn boxIn doneRecord laterOn resultsOn boxList
   done-remainders =
       let all = all-found g (viewOf t) k (c .most) a (c .some) in
@@ -74,8 +77,10 @@ module _ {g : Grid} {k : ℕ} (t : List ℕ) (b : Buffers) (a : Accepted g) (c :
         all = λ d l. back-all d l;
       }
 
-pub remainders : (b1 b2 b3 k : ℕ) (t : List ℕ) (b : Buffers) {g : Grid} → gridOf b1 b2 b3 ≡ chosen.Accepted g
-    → cutNumber b1 b2 b3 k t b ≡ 0 → Remainders g t (cutRecord b1 b2 b3 k t b) (cutLater b1 b2 b3 k t b)
-remainders b1 b2 b3 k t b e n =
-    let d = cut-says b1 b2 b3 k t b e n in
-    rw (d .hands, d .leaves) (done-remainders t b (d .accepted) (d .can))
+pub remainders : (source : Source) (b1 b2 b3 k : ℕ) (t : List ℕ) (b : Buffers) {g : Grid}
+    → gridOf b1 b2 b3 ≡ chosen.Accepted g
+    → cutNumber source b1 b2 b3 k t b ≡ 0
+    → Remainders g t (cutRecord source b1 b2 b3 k t b) (cutLater source b1 b2 b3 k t b)
+remainders source b1 b2 b3 k t b e n =
+    let d = cut-says source b1 b2 b3 k t b e n in
+    rw (d .hands, d .leaves) (done-remainders source t b (d .accepted) (d .can))

@@ -8,7 +8,8 @@ use Rattle.grid.specs.declared.place.Grid.{Grid}
 use Rattle.table.specs.Cell.{View}
 use Rattle.table.specs.Sound.{limit, sound}
 use Rattle.boxes.specs.declared.sides.Bounds.{Bounds}
-use Rattle.sums.specs.Box.{boxSum, statsOf}
+use Rattle.bins.specs.Sum.{boxSum}
+use Rattle.sums.specs.Box.{statsOf}
 use Rattle.boxes.specs.Box.{Within}
 use Rattle.spread.specs.Spread.{exactQ, spreadOf, Signed}
 use Rattle.boxes.specs.Box.{oneBin}

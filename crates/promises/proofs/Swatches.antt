@@ -11,6 +11,7 @@ use Rattle.grid.specs.Size.{choices, shiftIn, shiftOf}
 use Rattle.grid.specs.Grid.{gridWith, gridOf}
 use Rattle.pixels.specs.Colour.{colourAt}
 use Rattle.table.specs.Table.{viewOf}
+use Rattle.sums.specs.declared.source.Source.the-variants.{Moments}
 use Rattle.cutter.specs.Palette.{itsColour, paletteLater}
 use Rattle.cutter.specs.Cut.{cutNumber, cutRecord, doneRecord, boxList, resultsOn, laterOn, Buffers}
 use Rattle.cutter.proofs.Fronts.{length-filled}
@@ -36,7 +37,7 @@ not-both z y = omega arith
 pub only-refusal : (t : List ℕ) (n : ℕ) → swatchText (suc n) t ≡ refusedOf (suc n)
 only-refusal t n = text-refused (suc n) t (λ z. not-both z refl)
 
-pub only-cut-refusal : (t : List ℕ) {n : ℕ} → cutRecord 8 8 8 16 t lentZeros .number ≡ suc n
+pub only-cut-refusal : (t : List ℕ) {n : ℕ} → cutRecord Moments 8 8 8 16 t lentZeros .number ≡ suc n
     → swatchText 0 t ≡ refusedOf (suc n)
 only-cut-refusal t e =
     text-cut 0 t refl ∙ cut-refused t refl (λ z. not-both z e) ∙ ap refusedOf e
@@ -46,12 +47,12 @@ is-grid8 : gridOf 8 8 8 ≡ chosen.Accepted grid8
 unfolding choices shiftIn shiftOf gridWith gridOf
 is-grid8 = refl
 
-module _ (t : List ℕ) (done : cutNumber 8 8 8 16 t lentZeros ≡ 0) where
+module _ (t : List ℕ) (done : cutNumber Moments 8 8 8 16 t lentZeros ≡ 0) where
   long : length (listedPalette t) ≡ 48
   unfolding laterOn resultsOn boxList lentZeros paletteLater doneRecord
   long =
-      let d = cut-says 8 8 8 16 t lentZeros is-grid8 done in
-      let most = few 16 (lit≤ tt) (lit≤ tt) t 8 8 8 lentZeros (sym (d .hands)) in
+      let d = cut-says Moments 8 8 8 16 t lentZeros is-grid8 done in
+      let most = few Moments 16 (lit≤ tt) (lit≤ tt) t 8 8 8 lentZeros (sym (d .hands)) in
       let size = list-length (all-found grid8 (viewOf t) 16 (d .can .most) (d .accepted) (d .can .some) .placed) in
       ap (λ (b : Buffers). length (b .results .palette)) (d .leaves)
       ∙ length-filled 3 (itsColour grid8 (viewOf t)) (three grid8 (viewOf t)) (boxList grid8 (viewOf t) 16)
@@ -68,9 +69,9 @@ module _ (t : List ℕ) (done : cutNumber 8 8 8 16 t lentZeros ≡ 0) where
       })
 
   -- "N the number that nearest gives the colour": each box's swatch is of the nearest colour
-  pub swatch-nearest : (i : ℕ) → i < cutRecord 8 8 8 16 t lentZeros .boxes
+  pub swatch-nearest : (i : ℕ) → i < cutRecord Moments 8 8 8 16 t lentZeros .boxes
       → IsNearest (colourAt (listedPalette t) i) (getD (numbersOf (listedPalette t)) i 0)
   unfolding numbersOf
   swatch-nearest i h =
-      let most = few 16 (lit≤ tt) (lit≤ tt) t 8 8 8 lentZeros refl in
+      let most = few Moments 16 (lit≤ tt) (lit≤ tt) t 8 8 8 lentZeros refl in
       each-nearest (listedPalette t) (replicate 16 0) accepted i (rw long (omega (arith, h, most)))

@@ -25,11 +25,12 @@ use Rattle.loader.proofs.Plans.{filled-table}
 use Rattle.boxes.specs.declared.sides.Bounds.{Bounds}
 use Rattle.boxes.specs.Box.{Within}
 use Rattle.loaded.proofs.Boxes.{colour-held, loaded-box}
-use Rattle.sums.proofs.Same.{box-same}
+use Rattle.bins.proofs.Same.{box-same}
 use Rattle.rounds.specs.declared.gather.Boxes.{Boxes}
 use Rattle.boxes.specs.Box.{noBox}
 use Rattle.rounds.specs.Loop.{boxesOf}
 use Rattle.rounds.proofs.Filled.{heap-most}
+use Rattle.sums.specs.declared.source.Source.{Source}
 use Rattle.cutter.specs.declared.call.CutRecord.{CutRecord}
 use Rattle.cutter.specs.Palette.{countOf, paletteLater, countsLater, frontOf}
 use Rattle.boxes.specs.Holds.{holdsAt}
@@ -45,8 +46,8 @@ use Rattle.cutter.proofs.Laws.{cut-says}
 use Rattle.promises.specs.Tiling.{boxesIn, boxIn, Tiling, LoadedCounts}
 
 -- ---- a cut that nothing refuses
-module _ {g : Grid} {k : ℕ} (t : List ℕ) (b : Buffers) (a : Accepted g)
-    (c : CanCut limit g k (viewOf t)) (l : LengthsFit g k (length t) (lengthsOf b)) where
+module _ {source : Source} {g : Grid} {k : ℕ} (t : List ℕ) (b : Buffers) (a : Accepted g)
+    (c : CanCut limit g k (viewOf t)) (l : LengthsFit source g k (length t) (lengthsOf b)) where
   abbrev found : Boxes
   found = boxesOf g (viewOf t) k
 
@@ -77,7 +78,7 @@ module _ {g : Grid} {k : ℕ} (t : List ℕ) (b : Buffers) (a : Accepted g)
         l .palette,
       )
 
-  done-tiling : Tiling g t (doneRecord found) (laterOn g (viewOf t) k b)
+  done-tiling : Tiling g t (doneRecord found) (laterOn source g (viewOf t) k b)
   unfolding boxesIn boxIn doneRecord laterOn resultsOn boxList countOf
   done-tiling =
       let tiles = list-tiles g (viewOf t) k (c .most) a in
@@ -142,18 +143,19 @@ tiling-loaded {g} a cs b {r} {later} t =
     }
 
 -- ---- the promises
-module _ (b1 b2 b3 k : ℕ) (t : List ℕ) (b : Buffers) {g : Grid} (e : gridOf b1 b2 b3 ≡ chosen.Accepted g)
-    (n : cutNumber b1 b2 b3 k t b ≡ 0) where
+module _ (source : Source) (b1 b2 b3 k : ℕ) (t : List ℕ) (b : Buffers) {g : Grid}
+    (e : gridOf b1 b2 b3 ≡ chosen.Accepted g) (n : cutNumber source b1 b2 b3 k t b ≡ 0) where
   -- at any total, of every table that a cut is done with
-  pub tiling : Tiling g t (cutRecord b1 b2 b3 k t b) (cutLater b1 b2 b3 k t b)
+  pub tiling : Tiling g t (cutRecord source b1 b2 b3 k t b) (cutLater source b1 b2 b3 k t b)
   tiling =
-      let d = cut-says b1 b2 b3 k t b e n in rw (d .hands, d .leaves) (done-tiling t b (d .accepted) (d .can) (d .fit))
+      let d = cut-says source b1 b2 b3 k t b e n in
+      rw (d .hands, d .leaves) (done-tiling t b (d .accepted) (d .can) (d .fit))
 
   -- and of every table that loads and merges gave
   pub loaded-counts : (p : Plan) → BytesIn p → ends b1 b2 b3 p ≡ Filled t
-      → LoadedCounts g (leaves p) (cutRecord b1 b2 b3 k t b) (cutLater b1 b2 b3 k t b)
+      → LoadedCounts g (leaves p) (cutRecord source b1 b2 b3 k t b) (cutLater source b1 b2 b3 k t b)
   loaded-counts p y ran =
-      let d = cut-says b1 b2 b3 k t b e n in
+      let d = cut-says source b1 b2 b3 k t b e n in
       let is = filled-table b1 b2 b3 e p y ran .1 in
       tiling-loaded (d .accepted) (leaves p) (leaves-bytes p y)
-      (subst (λ (s : List ℕ). Tiling g s (cutRecord b1 b2 b3 k t b) (cutLater b1 b2 b3 k t b)) is tiling)
+      (subst (λ (s : List ℕ). Tiling g s (cutRecord source b1 b2 b3 k t b) (cutLater source b1 b2 b3 k t b)) is tiling)

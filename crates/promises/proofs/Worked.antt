@@ -20,7 +20,8 @@ use Rattle.table.specs.Sound.{total, sound}
 use Rattle.loader.specs.Load.{share, adds, sumOver, weightOf, loaded, tableOf, weightedAt, batchOf, loadNumberOn}
 use Rattle.loader.specs.Load.{loadNumber, loadLater}
 use Rattle.boxes.specs.Box.{minAt, maxAt, lowSide, highSide}
-use Rattle.sums.specs.Box.{sum3, binSum, boxSum, statsOf}
+use Rattle.bins.specs.Sum.{sum3, binSum, boxSum}
+use Rattle.sums.specs.Box.{statsOf}
 use Rattle.sums.specs.Moments.{belowSum, momentsOf}
 use Rattle.spread.specs.Spread.{quotientOf, spreadOf, scoreOf}
 use Rattle.boxes.specs.Box.{oneBin}
@@ -36,7 +37,7 @@ use Rattle.cutter.specs.Palette.{paletteLater, countsLater, remaindersLater}
 use Rattle.boxes.specs.Holds.{lies, holds, holdsAt}
 use Rattle.cutter.specs.Map.{indexFrom, mapOf}
 use Rattle.cutter.specs.Cut.{resultsOn, longEnough, cutNumberOn, cutNumber, refusedRecord, doneRecord, recordOn}
-use Rattle.cutter.specs.Cut.{cutRecord}
+use Rattle.cutter.specs.Cut.{workFits, cutRecord}
 use Rattle.cutter.specs.Cut.{listOf, boxList, laterOn, cutLater}
 use Rattle.promises.specs.Cases.{Case, loadsOf, tableAfter, positionIn, lentTo, outcome, times, empties, plain}
 use Rattle.promises.specs.Cases.{weighted, loadGives, at, nowhere, box, recordWith, done, refusedWith, blackWhite}
@@ -63,8 +64,8 @@ unfolding loadsOf tableAfter positionIn lentTo outcome times empties plain weigh
     paletteLater countsLater remaindersLater lies holdsAt holds
     indexFrom
     mapOf
-    longEnough cutNumberOn cutNumber refusedRecord doneRecord recordOn cutRecord listOf boxList laterOn resultsOn
-    cutLater
+    workFits longEnough cutNumberOn cutNumber refusedRecord doneRecord recordOn cutRecord listOf boxList laterOn
+    resultsOn cutLater
     lib.Ieee.ofInt lib.Ieee.mul lib.Ieee.add lib.Ieee.sub lib.Ieee.div lib.Ieee.neg lib.Ieee.lt lib.Ieee.le
     lib.Ieee.round lib.Ieee.size lib.Ieee.span lib.Ieee.climb lib.Ieee.units lib.Ieee.odd lib.Ieee.sum lib.Ieee.eq
     lib.Count.trailingZeros

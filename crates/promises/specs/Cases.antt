@@ -13,6 +13,7 @@ use Rattle.spread.specs.Spread.{zeroOf}
 use Rattle.spread.specs.Cut.{ScoredAnswer, positionAnswer, bestCut}
 use Rattle.rounds.specs.declared.gather.BoxSpread.{BoxSpread}
 use Rattle.boxes.specs.Box.{wholeOf}
+use Rattle.sums.specs.declared.source.Source.the-variants.{Moments}
 use Rattle.cutter.specs.declared.call.CutRecord.{CutRecord}
 use Rattle.cutter.specs.Cut.{Buffers, buffers, cutRecord, cutLater}
 
@@ -72,8 +73,8 @@ outcome c =
     record {
       loads = loadsOf b1 b2 b3 (c .table) (c .batches);
       position = positionIn b1 b2 b3 t;
-      cut = cutRecord b1 b2 b3 (c .k) t lent;
-      later = cutLater b1 b2 b3 (c .k) t lent;
+      cut = cutRecord Moments b1 b2 b3 (c .k) t lent;
+      later = cutLater Moments b1 b2 b3 (c .k) t lent;
     }
 
 -- ---- words for what is to come out

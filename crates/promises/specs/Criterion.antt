@@ -5,7 +5,7 @@ use Prim.Native.Nat.{ℕ, _+_, _*_, _≤_, _<_}
 use Rattle.grid.specs.declared.place.Grid.{Grid}
 use Rattle.table.specs.Cell.{View}
 use Rattle.boxes.specs.declared.sides.Bounds.{Bounds}
-use Rattle.sums.specs.Box.{boxSum}
+use Rattle.bins.specs.Sum.{boxSum}
 use Rattle.boxes.specs.Box.{minAt, maxAt, lowSide, highSide}
 use Rattle.spread.specs.Spread.{exactQ}
 use Rattle.spread.specs.Best.{Split}

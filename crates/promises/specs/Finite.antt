@@ -10,7 +10,8 @@ use Rattle.grid.specs.declared.place.Grid.{Grid}
 use Rattle.table.specs.Cell.{View}
 use Rattle.boxes.specs.declared.sides.Bounds.{Bounds}
 use Rattle.boxes.specs.Box.{minAt, maxAt, lowSide, highSide, wholeOf}
-use Rattle.sums.specs.Box.{boxSum, statsOf}
+use Rattle.bins.specs.Sum.{boxSum}
+use Rattle.sums.specs.Box.{statsOf}
 use Rattle.spread.specs.Spread.{scoreOf}
 use Rattle.heap.specs.Heap.{item}
 use Rattle.rounds.specs.declared.gather.BoxSpread.{BoxSpread}

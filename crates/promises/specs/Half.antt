@@ -13,7 +13,8 @@ use Rattle.table.specs.Cell.{View}
 use Rattle.table.specs.Sound.{limit, sound}
 use Rattle.boxes.specs.declared.sides.Bounds.{Bounds}
 use Rattle.boxes.specs.Box.{Within, oneBin}
-use Rattle.sums.specs.Box.{boxSum, statsOf}
+use Rattle.bins.specs.Sum.{boxSum}
+use Rattle.sums.specs.Box.{statsOf}
 use Rattle.spread.specs.Spread.{spreadOf}
 
 -- a box with a computed spread: not empty, of more than one bin, of a sound table. "The starting infinity is not such

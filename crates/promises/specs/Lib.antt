@@ -15,6 +15,7 @@ pub mod Listing
 pub mod Finite
 pub mod Rounds
 pub mod Remainders
+pub mod Engines
 pub mod Recorder
 pub mod RecorderNumbers
 pub mod Grammar

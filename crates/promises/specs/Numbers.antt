@@ -14,6 +14,7 @@ use Rattle.grid.specs.Grid.{gridOf, gridAnswer, onGrid, binsOf}
 use Rattle.table.specs.Table.{tableLen, Sized, isSized, viewOf}
 use Rattle.table.specs.Sound.{limit, total, sound}
 use Rattle.loader.specs.Load.{weightOf, batchOf}
+use Rattle.sums.specs.declared.source.Source.{Source}
 use Rattle.cutter.specs.Cut.{Buffers, lengthsOf, longEnough}
 use Rattle.band.specs.Band.{allBelow}
 use Rattle.seluvava.specs.Cut.{Lent, hasRoom}
@@ -114,22 +115,22 @@ unfoldable pub rescueApplies : ℕ → ℕ → ℕ → List ℕ → List ℕ →
 rescueApplies b1 b2 b3 t l = applies (rescueTests (gridOf b1 b2 b3) t l)
 
 -- "cut 1, 2, 5, 6, 8"; `room` is what only the call for C and Rust is lent besides
-unfoldable pub cutTests : Chosen → ℕ → List ℕ → Buffers → Bool → Tests
-cutTests c k t b room =
+unfoldable pub cutTests : Source → Chosen → ℕ → List ℕ → Buffers → Bool → Tests
+cutTests source c k t b room =
     (1, noGrid c)
     ∷ (2, not (leb 1 k && leb k 256))
-    ∷ (5, onBins c (λ g. not (longEnough g k (length t) (lengthsOf b))))
+    ∷ (5, onBins c (λ g. not (longEnough source g k (length t) (lengthsOf b))))
     ∷ (5, not room)
     ∷ (6, onBins c (λ g. not (sound limit g (viewOf t))))
     ∷ (8, onBins c (λ g. eqb (total g (viewOf t)) 0))
     ∷ []
 
-unfoldable pub cutApplies : ℕ → ℕ → ℕ → ℕ → List ℕ → Buffers → ℕ → Bool
-cutApplies b1 b2 b3 k t b = applies (cutTests (gridOf b1 b2 b3) k t b true)
+unfoldable pub cutApplies : Source → ℕ → ℕ → ℕ → ℕ → List ℕ → Buffers → ℕ → Bool
+cutApplies source b1 b2 b3 k t b = applies (cutTests source (gridOf b1 b2 b3) k t b true)
 
-unfoldable pub callApplies : ℕ → ℕ → ℕ → ℕ → List ℕ → Lent → ℕ → Bool
-callApplies b1 b2 b3 k t l =
-    applies (cutTests (gridOf b1 b2 b3) k t (l .buffers) (hasRoom k (length (l .boxes)) (length (l .spreads))))
+unfoldable pub callApplies : Source → ℕ → ℕ → ℕ → ℕ → List ℕ → Lent → ℕ → Bool
+callApplies source b1 b2 b3 k t l =
+    applies (cutTests source (gridOf b1 b2 b3) k t (l .buffers) (hasRoom k (length (l .boxes)) (length (l .spreads))))
 
 -- "map and paint 1, 3, 5, 9"; `lengths` are those that only one of them is lent
 unfoldable pub bandTests : Chosen → List ℕ → ℕ → Bool → List ℕ → ℕ → ℕ → Tests

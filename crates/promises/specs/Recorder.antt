@@ -15,6 +15,7 @@ use Rattle.table.specs.Sound.{limit, total}
 use Rattle.loader.specs.Load.{Weighted, weightOf}
 use Rattle.loader.specs.Add.{scaledBatch}
 use Rattle.loader.specs.Plan.{Plan, Filled, ends}
+use Rattle.sums.specs.declared.source.Source.{Source}
 use Rattle.cutter.specs.Cut.{Buffers}
 use Rattle.recorder.specs.Session.{isInterval, reloaded}
 use Rattle.recorder.specs.Batch.{batchNumber, batchLater}
@@ -87,7 +88,7 @@ pub record PlanAlike (g : Grid) (b1 b2 b3 : ℕ) (t : Table) (q : Plan) : Type 0
   pub second : Table
   pub ran : ends b1 b2 b3 q ≡ Filled second
   pub same : t ≡ second
-  pub alike : (k : ℕ) (b : Buffers) → SameCut g b1 b2 b3 k b t second
+  pub alike : (source : Source) (k : ℕ) (b : Buffers) → SameCut source g b1 b2 b3 k b t second
 
 -- ---- one call an entry
 -- an answer, and how the recording stands then

@@ -6,6 +6,7 @@ use Prim.Native.Nat.{ℕ, _%_, _≤_, _<_}
 use lib.Dec.{eqb, leb, ltb}
 use lib.ListN.{length}
 use Rattle.pixels.specs.declared.colour.Rgb.{Rgb}
+use Rattle.sums.specs.declared.source.Source.the-variants.{Moments}
 use Rattle.cutter.specs.Cut.{cutLater}
 use Rattle.terminal.specs.Nearest.{distanceOf, entriesIn}
 use Rattle.lines.specs.Listing.{lentZeros}
@@ -31,4 +32,4 @@ nearestApplies palette answers = applies (nearestTests palette answers)
 
 -- the palette that the listing program lists
 abbrev pub listedPalette : List ℕ → List ℕ
-listedPalette t = cutLater 8 8 8 16 t lentZeros .results .palette
+listedPalette t = cutLater Moments 8 8 8 16 t lentZeros .results .palette

@@ -17,7 +17,8 @@ use Rattle.table.specs.Cell.{View}
 use Rattle.table.specs.Sound.{limit, total}
 use Rattle.table.proofs.Soundness.{Sound}
 use Rattle.boxes.specs.declared.sides.Bounds.{Bounds}
-use Rattle.sums.specs.Box.{boxSum, statsOf}
+use Rattle.bins.specs.Sum.{boxSum}
+use Rattle.sums.specs.Box.{statsOf}
 use Rattle.boxes.specs.Box.{lowSide, highSide, Within}
 use Rattle.spread.specs.Spread.{zeroOf, spreadOf}
 use Rattle.spread.proofs.Finite.{spread-finite}

@@ -12,7 +12,7 @@ use Rattle.grid.specs.Grid.{Accepted}
 use Rattle.table.specs.Cell.{View}
 use Rattle.table.specs.Sound.{total}
 use Rattle.table.proofs.Soundness.{total-is}
-use Rattle.sums.specs.Box.{boxSum}
+use Rattle.bins.specs.Sum.{boxSum}
 use Rattle.boxes.specs.Box.{lowSide, highSide, Within}
 use Rattle.spread.specs.declared.position.Position.the-variants.{At, Nowhere}
 use Rattle.spread.specs.Cut.{bestCut}

@@ -16,10 +16,10 @@ use Rattle.table.specs.Sound.{limit, total}
 use Rattle.table.proofs.Soundness.{Sound}
 use Rattle.boxes.proofs.Held.{in-holds}
 use Rattle.boxes.specs.declared.sides.Bounds.{Bounds}
-use Rattle.sums.specs.Box.{marks, occupiedIn}
+use Rattle.bins.specs.Sum.{marks, occupiedIn}
 use Rattle.boxes.specs.Box.{lowSide, highSide}
-use Rattle.sums.proofs.Laws.{cut-sum}
-use Rattle.sums.proofs.Occupied.{Two, some-occupied, one-at-most}
+use Rattle.bins.proofs.Laws.{cut-sum}
+use Rattle.bins.proofs.Occupied.{Two, some-occupied, one-at-most}
 use Rattle.spread.specs.declared.position.Position.the-variants.{Nowhere}
 use Rattle.spread.specs.Spread.{SpreadsAbove}
 use Rattle.spread.specs.Cut.{bestCut}

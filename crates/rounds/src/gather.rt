@@ -5,6 +5,7 @@ use boxes::bytes::unpacked;
 use boxes::sides::Bounds;
 use boxes::sides::whole;
 use grid::place::Grid;
+use sums::source::Source;
 ghost use mathlib.Core.Path.{_≡_};
 ghost use Prim.Native.Nat.{_≤_};
 ghost use Rattle.table.specs.Table.{viewOf};
@@ -51,15 +52,15 @@ fn gathered(spreads: &[f64; 256], boxes: &[u64; 256], len: usize) -> [BoxSpread;
 }
 
 // The boxes that a table is cut into, at most k, or one where k is 0 (`cubes_heap`).
-pub fn cut_boxes(table: &[u64], work: &[u64], g: Grid, k: usize) -> Boxes
-    requires { ⌜ CanSum limit g (now table) (now work) × (k ≤ 256) ⌝ }
+pub fn cut_boxes(table: &[u64], work: &[u64], source: Source, g: Grid, k: usize) -> Boxes
+    requires { ⌜ CanSum limit source g (now table) (now work) × (k ≤ 256) ⌝ }
     ensures { λ r. ⌜ r ≡ boxesOf g (viewOf (now (table .entry))) k ⌝ }
 {
     let mut spreads = [0.0; 256];
     let mut boxes = [0u64; 256];
     spreads[0] = 1.0 / 0.0;
     boxes[0] = packed(whole(g));
-    let end = all_rounds(table, work, g, k, &mut spreads, &mut boxes);
+    let end = all_rounds(table, work, source, g, k, &mut spreads, &mut boxes);
     let n = end.boxes;
     let places = gathered(&spreads, &boxes, n);
     Boxes {

@@ -6,6 +6,7 @@ use heap::arrays::put_in;
 use heap::arrays::take_out;
 use spread::spread::spread;
 use sums::box_sums::box_sum;
+use sums::source::Source;
 ghost use mathlib.Core.Path.{_≡_};
 ghost use Prim.Native.Nat.{_<_, _≤_};
 ghost use Rattle.table.specs.Table.{viewOf};
@@ -39,20 +40,21 @@ pub(crate) fn put_box(
 pub(crate) fn put_with_spread(
     table: &[u64],
     work: &[u64],
+    source: Source,
     g: Grid,
     spreads: &mut [f64; 256],
     boxes: &mut [u64; 256],
     len: usize,
     x: Bounds,
 )
-    requires { ⌜ CanSum limit g (now table) (now work) × Within g x ⌝ }
+    requires { ⌜ CanSum limit source g (now table) (now work) × Within g x ⌝ }
     requires { ⌜ TwoArrays (now spreads) (now boxes) × (len < 256) ⌝ }
     ensures room { λ r. ⌜ roomIn (now (spreads .exit)) (now (boxes .exit))
         ≡ putIn bySpread noItem (roomIn (now (spreads .entry)) (now (boxes .entry))) len
         (withSpread g (viewOf (now (table .entry))) x) ⌝ }
     ensures arrays { λ r. ⌜ TwoArrays (now (spreads .exit)) (now (boxes .exit)) ⌝ }
 {
-    let s = spread(x, box_sum(table, work, g, x));
+    let s = spread(x, box_sum(table, work, source, g, x));
     put_box(spreads, boxes, len, s, x);
 }
 

@@ -9,6 +9,7 @@ use boxes::sides::low_side;
 use grid::place::Grid;
 use spread::position::Position;
 use spread::search::best_cut;
+use sums::source::Source;
 ghost use mathlib.Core.Path.{_≡_};
 ghost use Prim.Native.Nat.{_+_, _<_, _≤_};
 ghost use Rattle.table.specs.Table.{viewOf};
@@ -25,13 +26,14 @@ ghost use Rattle.rounds.specs.Inner.{roomIn};
 fn cut_top(
     table: &[u64],
     work: &[u64],
+    source: Source,
     g: Grid,
     spreads: &mut [f64; 256],
     boxes: &mut [u64; 256],
     left: usize,
     x: Bounds,
 ) -> usize
-    requires { ⌜ CanSum limit g (now table) (now work) × Within g x ⌝ }
+    requires { ⌜ CanSum limit source g (now table) (now work) × Within g x ⌝ }
     requires { ⌜ TwoArrays (now spreads) (now boxes) × (left + 1 < 256) ⌝ }
     ensures number { λ r. ⌜ r ≡ boxesAfter left (bestCut g (viewOf (now (table .entry))) x) ⌝ }
     ensures room { λ r. ⌜ roomIn (now (spreads .exit)) (now (boxes .exit))
@@ -43,15 +45,15 @@ fn cut_top(
         dimension,
         bin,
         score: _,
-    } = best_cut(table, work, g, x)
+    } = best_cut(table, work, source, g, x)
     else {
         put_box(spreads, boxes, left, 0.0, x);
         return left + 1;
     };
     let low = low_side(x, dimension, bin);
     let high = high_side(x, dimension, bin);
-    put_with_spread(table, work, g, spreads, boxes, left, low);
-    put_with_spread(table, work, g, spreads, boxes, left + 1, high);
+    put_with_spread(table, work, source, g, spreads, boxes, left, low);
+    put_with_spread(table, work, source, g, spreads, boxes, left + 1, high);
     left + 2
 }
 
@@ -59,12 +61,13 @@ fn cut_top(
 fn round(
     table: &[u64],
     work: &[u64],
+    source: Source,
     g: Grid,
     spreads: &mut [f64; 256],
     boxes: &mut [u64; 256],
     len: usize,
 ) -> usize
-    requires { ⌜ CanSum limit g (now table) (now work) ⌝ }
+    requires { ⌜ CanSum limit source g (now table) (now work) ⌝ }
     requires { ⌜ TwoArrays (now spreads) (now boxes) × (0 < len) × (len < 256)
         × Within g (item noItem (roomIn (now spreads) (now boxes)) 0 .bounds) ⌝ }
     ensures number { λ r. ⌜ r
@@ -78,7 +81,7 @@ fn round(
     let left = len - 1;
     take_top(spreads, boxes, len);
     if 0.0 < s {
-        return cut_top(table, work, g, spreads, boxes, left, x);
+        return cut_top(table, work, source, g, spreads, boxes, left, x);
     }
     put_box(spreads, boxes, left, s, x);
     len
@@ -94,12 +97,13 @@ pub struct Ended {
 pub(crate) fn all_rounds(
     table: &[u64],
     work: &[u64],
+    source: Source,
     g: Grid,
     k: usize,
     spreads: &mut [f64; 256],
     boxes: &mut [u64; 256],
 ) -> Ended
-    requires { ⌜ CanSum limit g (now table) (now work) × (k ≤ 256) ⌝ }
+    requires { ⌜ CanSum limit source g (now table) (now work) × (k ≤ 256) ⌝ }
     requires { ⌜ TwoArrays (now spreads) (now boxes) × (roomIn (now spreads) (now boxes) ≡ startRoom g) ⌝ }
     ensures boxes { λ r. ⌜ r .boxes ≡ heapOf g (viewOf (now (table .entry))) k .boxes ⌝ }
     ensures rounds { λ r. ⌜ r .rounds ≡ heapOf g (viewOf (now (table .entry))) k .rounds ⌝ }
@@ -111,7 +115,7 @@ pub(crate) fn all_rounds(
     let mut rounds = 0;
     while len < k {
         let more = 0.0 < spreads[0];
-        len = round(table, work, g, spreads, boxes, len);
+        len = round(table, work, source, g, spreads, boxes, len);
         rounds = rounds + 1;
         if !more {
             return Ended { boxes: len, rounds };

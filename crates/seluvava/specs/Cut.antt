@@ -11,6 +11,7 @@ use Rattle.grid.specs.Grid.{gridOf, numberOn}
 use Rattle.table.specs.Table.{Table, viewOf}
 use Rattle.table.specs.Sound.{limit}
 use Rattle.boxes.specs.Bytes.{boxBytes}
+use Rattle.sums.specs.declared.source.Source.{Source}
 use Rattle.rounds.specs.declared.gather.BoxSpread.{BoxSpread}
 use Rattle.cutter.specs.declared.call.CutRecord.{CutRecord}
 use Rattle.cutter.specs.Fronts.{filled}
@@ -31,22 +32,22 @@ unfoldable pub hasRoom : ℕ → ℕ → ℕ → Bool
 hasRoom k boxes spreads = leb (6 * k) boxes && leb k spreads
 
 -- no lent length is wrong: those that every cut is lent are right, and there is room for the boxes
-unfoldable pub allLong : Grid → ℕ → ℕ → Lent → Bool
-allLong g k table l =
-    longEnough g k table (lengthsOf (l .buffers)) && hasRoom k (length (l .boxes)) (length (l .spreads))
+unfoldable pub allLong : Source → Grid → ℕ → ℕ → Lent → Bool
+allLong source g k table l =
+    longEnough source g k table (lengthsOf (l .buffers)) && hasRoom k (length (l .boxes)) (length (l .spreads))
 
 -- the answer of the call on an accepted grid: that of a cut, where 5 is any of its lengths
-unfoldable pub callNumberOn : Grid → ℕ → Table → Lent → ℕ
-callNumberOn g k t l = cutNumberOn limit g k (allLong g k (length t) l) (viewOf t)
+unfoldable pub callNumberOn : Source → Grid → ℕ → Table → Lent → ℕ
+callNumberOn source g k t l = cutNumberOn limit g k (allLong source g k (length t) l) (viewOf t)
 
-unfoldable pub callNumber : ℕ → ℕ → ℕ → ℕ → Table → Lent → ℕ
-callNumber b1 b2 b3 k t l = numberOn (gridOf b1 b2 b3) (λ g. callNumberOn g k t l)
+unfoldable pub callNumber : Source → ℕ → ℕ → ℕ → ℕ → Table → Lent → ℕ
+callNumber source b1 b2 b3 k t l = numberOn (gridOf b1 b2 b3) (λ g. callNumberOn source g k t l)
 
 -- "A refused cut hands back its answer, zero boxes, zero rounds"
-unfoldable pub cutAnswer : ℕ → ℕ → ℕ → ℕ → Table → Lent → CutAnswer
-cutAnswer b1 b2 b3 k t l =
-    let n = callNumber b1 b2 b3 k t l in
-    let r = cutRecord b1 b2 b3 k t (l .buffers) in
+unfoldable pub cutAnswer : Source → ℕ → ℕ → ℕ → ℕ → Table → Lent → CutAnswer
+cutAnswer source b1 b2 b3 k t l =
+    let n = callNumber source b1 b2 b3 k t l in
+    let r = cutRecord source b1 b2 b3 k t (l .buffers) in
     record { number = n; boxes = whenDone n (r .boxes) 0; rounds = whenDone n (r .rounds) 0 }
 
 -- ---- what was lent, afterwards
@@ -62,12 +63,12 @@ unfoldable pub told : CutRecord → List BoxSpread
 told r = take (r .boxes) (r .places)
 
 -- "A refusal writes nothing."
-unfoldable pub callLater : ℕ → ℕ → ℕ → ℕ → Table → Lent → Lent
-callLater b1 b2 b3 k t l =
-    let r = cutRecord b1 b2 b3 k t (l .buffers) in
-    whenDone (callNumber b1 b2 b3 k t l)
+unfoldable pub callLater : Source → ℕ → ℕ → ℕ → ℕ → Table → Lent → Lent
+callLater source b1 b2 b3 k t l =
+    let r = cutRecord source b1 b2 b3 k t (l .buffers) in
+    whenDone (callNumber source b1 b2 b3 k t l)
     (record {
-      buffers = cutLater b1 b2 b3 k t (l .buffers);
+      buffers = cutLater source b1 b2 b3 k t (l .buffers);
       boxes = filled 6 itsBytes (told r) (l .boxes);
       spreads = filled 1 spreadOf (told r) (l .spreads);
     })

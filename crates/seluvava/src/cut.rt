@@ -1,16 +1,12 @@
 // Cutting a table, with its boxes and spreads written into lent arrays.
-use boxes::sides::Bounds;
-use cutter::call::CutRecord;
-use cutter::call::cut;
-use grid::place::Chosen;
-use grid::place::grid_of;
+use crate::arrays::put_boxes;
+use crate::arrays::room_number;
+use cutter::call::cut_from;
+use sums::source::Source;
 ghost use mathlib.Core.Path.{_≡_};
-ghost use Prim.Native.Nat.{_+_, _*_, _≤_, _<_};
-ghost use lib.ListN.{length};
-ghost use Rattle.cutter.specs.Cut.{buffers};
-ghost use Rattle.cutter.specs.Fronts.{filled};
-ghost use Rattle.seluvava.specs.Cut.{lent, cutAnswer, callLater, itsBytes, spreadOf, told};
-ghost use Rattle.seluvava.specs.Inner.{roomNumber, withBoxAt};
+ghost use Rattle.sums.specs.declared.source.Source.the-variants.{Moments, Bins};
+ghost use Rattle.cutter.specs.Cut.{buffers, noWork};
+ghost use Rattle.seluvava.specs.Cut.{lent, cutAnswer, callLater};
 
 // What a cut answers; the boxes themselves go into lent arrays.
 #[repr(C)]
@@ -20,56 +16,62 @@ pub struct CutAnswer {
     pub rounds: usize,
 }
 
-// The answer that the lengths of the arrays for boxes and spreads call for.
-fn room_number(b1: usize, b2: usize, b3: usize, k: usize, boxes: usize, spreads: usize) -> u8
-    ensures { λ r. ⌜ r ≡ roomNumber b1 b2 b3 k boxes spreads ⌝ }
+// A cut with sums from where they come from, and its boxes and spreads written.
+fn cut_and_write(
+    source: Source,
+    b1: usize,
+    b2: usize,
+    b3: usize,
+    k: usize,
+    table: &[u64],
+    work: &mut [u64],
+    palette: &mut [u8],
+    counts: &mut [u32],
+    remainders: &mut [u32],
+    map: &mut [u8],
+    boxes: &mut [u8],
+    spreads: &mut [f64],
+) -> CutAnswer
+    ensures answer { λ r. ⌜ r
+        ≡ cutAnswer source b1 b2 b3 k (now (table .entry))
+        (lent (buffers (now (work .entry)) (now (palette .entry)) (now (counts .entry)) (now (remainders .entry))
+        (now (map .entry)))
+        (now (boxes .entry)) (now (spreads .entry))) ⌝ }
+    ensures later { λ r. ⌜
+        lent (buffers (now (work .exit)) (now (palette .exit)) (now (counts .exit)) (now (remainders .exit))
+        (now (map .exit)))
+        (now (boxes .exit)) (now (spreads .exit))
+        ≡ callLater source b1 b2 b3 k (now (table .entry))
+        (lent (buffers (now (work .entry)) (now (palette .entry)) (now (counts .entry)) (now (remainders .entry))
+        (now (map .entry)))
+        (now (boxes .entry)) (now (spreads .entry))) ⌝ }
 {
-    let Chosen::Accepted(accepted) = grid_of(b1, b2, b3) else {
-        return 1;
-    };
-    if k < 1 {
-        return 2;
+    let number = room_number(b1, b2, b3, k, boxes.len(), spreads.len());
+    if number != 0 {
+        return CutAnswer {
+            number,
+            boxes: 0,
+            rounds: 0,
+        };
     }
-    if 256 < k {
-        return 2;
-    }
-    if boxes < 6 * k {
-        return 5;
-    }
-    if spreads < k {
-        return 5;
-    }
-    0
-}
-
-// Writes the bounds of a box as the six bytes of place i.
-fn put_box(boxes: &mut [u8], i: usize, x: Bounds)
-    requires { ⌜ 6 * i + 5 < length (now boxes) ⌝ }
-    ensures { λ r. ⌜ now (boxes .exit) ≡ withBoxAt (now (boxes .entry)) i x ⌝ }
-{
-    let at = 6 * i;
-    boxes[at] = x.r0;
-    boxes[at + 1] = x.r1;
-    boxes[at + 2] = x.g0;
-    boxes[at + 3] = x.g1;
-    boxes[at + 4] = x.b0;
-    boxes[at + 5] = x.b1;
-}
-
-// Writes the boxes of a record and their spreads.
-fn put_boxes(r: CutRecord, boxes: &mut [u8], spreads: &mut [f64])
-    requires { ⌜ (length (r .places) ≡ 256) × (r .boxes ≤ 256)
-        × (6 * r .boxes ≤ length (now boxes)) × (r .boxes ≤ length (now spreads)) ⌝ }
-    ensures boxes { λ c. ⌜ now (boxes .exit) ≡ filled 6 itsBytes (told r) (now (boxes .entry)) ⌝ }
-    ensures spreads { λ c. ⌜ now (spreads .exit) ≡ filled 1 spreadOf (told r) (now (spreads .entry)) ⌝ }
-{
-    let n = r.boxes;
-    let mut i = 0;
-    while i < n {
-        let x = r.places[i];
-        put_box(boxes, i, x.bounds);
-        spreads[i] = x.spread;
-        i = i + 1;
+    let r = cut_from(
+        source,
+        b1,
+        b2,
+        b3,
+        k,
+        table,
+        work,
+        palette,
+        counts,
+        remainders,
+        map,
+    );
+    put_boxes(r, boxes, spreads);
+    CutAnswer {
+        number: r.number,
+        boxes: r.boxes,
+        rounds: r.rounds,
     }
 }
 
@@ -92,7 +94,7 @@ pub extern "C" fn seluvava_cut(
     spreads: &mut [f64],
 ) -> CutAnswer
     ensures answer { λ r. ⌜ r
-        ≡ cutAnswer b1 b2 b3 k (now (table .entry))
+        ≡ cutAnswer Moments b1 b2 b3 k (now (table .entry))
         (lent (buffers (now (work .entry)) (now (palette .entry)) (now (counts .entry)) (now (remainders .entry))
         (now (map .entry)))
         (now (boxes .entry)) (now (spreads .entry))) ⌝ }
@@ -100,24 +102,71 @@ pub extern "C" fn seluvava_cut(
         lent (buffers (now (work .exit)) (now (palette .exit)) (now (counts .exit)) (now (remainders .exit))
         (now (map .exit)))
         (now (boxes .exit)) (now (spreads .exit))
-        ≡ callLater b1 b2 b3 k (now (table .entry))
+        ≡ callLater Moments b1 b2 b3 k (now (table .entry))
         (lent (buffers (now (work .entry)) (now (palette .entry)) (now (counts .entry)) (now (remainders .entry))
         (now (map .entry)))
         (now (boxes .entry)) (now (spreads .entry))) ⌝ }
 {
-    let number = room_number(b1, b2, b3, k, boxes.len(), spreads.len());
-    if number != 0 {
-        return CutAnswer {
-            number,
-            boxes: 0,
-            rounds: 0,
-        };
-    }
-    let r = cut(b1, b2, b3, k, table, work, palette, counts, remainders, map);
-    put_boxes(r, boxes, spreads);
-    CutAnswer {
-        number: r.number,
-        boxes: r.boxes,
-        rounds: r.rounds,
-    }
+    cut_and_write(
+        Source::Moments,
+        b1,
+        b2,
+        b3,
+        k,
+        table,
+        work,
+        palette,
+        counts,
+        remainders,
+        map,
+        boxes,
+        spreads,
+    )
+}
+
+// The same without a work table: the bins of a box are added up each time that its sums are needed.
+#[no_mangle]
+pub extern "C" fn seluvava_cut_slowly(
+    b1: usize,
+    b2: usize,
+    b3: usize,
+    k: usize,
+    table: &[u64],
+    palette: &mut [u8],
+    counts: &mut [u32],
+    remainders: &mut [u32],
+    map: &mut [u8],
+    boxes: &mut [u8],
+    spreads: &mut [f64],
+) -> CutAnswer
+    ensures answer { λ r. ⌜ r
+        ≡ cutAnswer Bins b1 b2 b3 k (now (table .entry))
+        (lent (buffers noWork (now (palette .entry)) (now (counts .entry)) (now (remainders .entry))
+        (now (map .entry)))
+        (now (boxes .entry)) (now (spreads .entry))) ⌝ }
+    ensures later { λ r. ⌜
+        lent (buffers noWork (now (palette .exit)) (now (counts .exit)) (now (remainders .exit))
+        (now (map .exit)))
+        (now (boxes .exit)) (now (spreads .exit))
+        ≡ callLater Bins b1 b2 b3 k (now (table .entry))
+        (lent (buffers noWork (now (palette .entry)) (now (counts .entry)) (now (remainders .entry))
+        (now (map .entry)))
+        (now (boxes .entry)) (now (spreads .entry))) ⌝ }
+{
+    let mut none = [0u64; 0];
+    cut_and_write(
+        Source::Bins,
+        b1,
+        b2,
+        b3,
+        k,
+        table,
+        &mut none,
+        palette,
+        counts,
+        remainders,
+        map,
+        boxes,
+        spreads,
+    )
 }

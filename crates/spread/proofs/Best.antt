@@ -18,10 +18,11 @@ use Rattle.grid.specs.Grid.{placeOf}
 use Rattle.table.specs.Cell.{View}
 use Rattle.boxes.specs.declared.sides.Bounds.{Bounds}
 use Rattle.sums.specs.declared.box_sums.Stats.{Stats}
-use Rattle.sums.specs.Box.{boxSum, statsOf}
+use Rattle.bins.specs.Sum.{boxSum}
+use Rattle.sums.specs.Box.{statsOf}
 use Rattle.boxes.specs.Box.{minAt, maxAt, lowSide, highSide}
 use Rattle.boxes.proofs.Within.{InBox}
-use Rattle.sums.proofs.Laws.{bins-empty}
+use Rattle.bins.proofs.Laws.{bins-empty}
 use Rattle.boxes.proofs.Within.{in-low, in-high, in-box}
 use Rattle.spread.specs.declared.position.Position.{Position}
 use Rattle.spread.specs.declared.position.Position.the-variants.{At, Nowhere}

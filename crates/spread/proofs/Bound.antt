@@ -24,7 +24,8 @@ use Rattle.table.specs.Sound.{limit}
 use Rattle.table.proofs.Soundness.{Sound}
 use Rattle.boxes.specs.declared.sides.Bounds.{Bounds}
 use Rattle.boxes.specs.Box.{Within, oneBin}
-use Rattle.sums.specs.Box.{whole, boxSum, statsOf}
+use Rattle.bins.specs.Sum.{boxSum}
+use Rattle.sums.specs.Box.{whole, statsOf}
 use Rattle.spread.specs.Spread.{squareOf, qOf, exactQ, spreadOf}
 use Rattle.spread.proofs.Numbers.{Numbers, quotAt, spreadAt, weight-value, squares-value, numbers, spread-is}
 use Rattle.spread.proofs.Rounding.{Is, is-of, of-whole, mul-of, add-whole, div-whole, less-of, less-under}

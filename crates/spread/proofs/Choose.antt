@@ -14,13 +14,13 @@ use Rattle.table.specs.Sound.{limit}
 use Rattle.table.proofs.Soundness.{Sound}
 use Rattle.boxes.specs.declared.sides.Bounds.{Bounds}
 use Rattle.sums.specs.declared.box_sums.Stats.{Stats}
-use Rattle.boxes.specs.Box.{maxAt, lowSide, highSide, Within}
+use Rattle.boxes.specs.Box.{minAt, maxAt, lowSide, highSide, Within}
 use Rattle.sums.specs.Box.{statsOf}
-use Rattle.sums.proofs.Laws.{box-sums-high, box-weight-high}
+use Rattle.bins.proofs.Laws.{box-sums-high, box-weight-high}
 use Rattle.spread.specs.declared.position.Position.{Position}
 use Rattle.spread.specs.declared.position.Position.the-variants.{Nowhere}
 use Rattle.spread.specs.Spread.{Plain}
-use Rattle.spread.specs.Cut.{positionOf, positionAt, laterWins, better, bestRun}
+use Rattle.spread.specs.Cut.{positionOf, positionAt, laterWins, better, bestRun, bestIn}
 
 -- the better of two, by which wins
 module _ (a b : Position) where
@@ -62,6 +62,12 @@ module _ (g : Grid) (v : View) (x : Bounds) (d : ℕ) where
     where
       none : (first bin : ℕ) → bin ≤ first → 0 ≡ bin - first
       none first bin h = omega arith
+
+  -- once the end of the box is reached
+  pub run-whole : {bin : ℕ} → bin ≡ maxAt x d → {best : Position}
+      → best ≡ bestRun g v x d (minAt x d + 1) (bin - (minAt x d + 1)) → best ≡ bestIn g v x d
+  unfolding bestIn
+  run-whole e q = q ∙ ap (λ (n : ℕ). bestRun g v x d (minAt x d + 1) (n - (minAt x d + 1))) e
 
   pub run-next : (first bin : ℕ) → first ≤ bin → {best p r : Position} → best ≡ bestRun g v x d first (bin - first)
       → p ≡ positionAt g v x d bin → r ≡ better best p → r ≡ bestRun g v x d first ((bin + 1) - first)

@@ -16,13 +16,16 @@ use Rattle.table.specs.Cell.{View, numberOf, cellOf}
 use Rattle.table.specs.Table.{Table, viewOf}
 use Rattle.boxes.specs.declared.sides.Bounds.{Bounds}
 use Rattle.boxes.specs.Box.{minAt, maxAt, lowSide, highSide, slabTo, Within}
-use Rattle.sums.specs.Box.{binSum, boxSum, statsFrom, statsOf}
+use Rattle.bins.specs.Sum.{binSum, boxSum}
+use Rattle.sums.specs.Box.{statsFrom, statsOf}
+use Rattle.table.proofs.Cells.{zeroCell, zeros-cell}
 use Rattle.table.specs.Sound.{limit}
 use Rattle.sums.specs.declared.box_sums.Stats.{Stats}
+use Rattle.sums.specs.declared.source.Source.the-variants.{Moments}
 use Rattle.sums.specs.Moments.{CanSum}
 use Rattle.sums.specs.Inner.{Corner, binCell}
-use Rattle.sums.proofs.Corners.{first-from, second-from, third-from, no-first, no-second, no-third, zeroCell, zeros-are}
-use Rattle.sums.proofs.Corners.{zeros-cell, corner-inside, corner-cell, corner-number, corner-squares, stats-by}
+use Rattle.bins.proofs.Runs.{first-from, second-from, third-from, no-first, no-second, no-third}
+use Rattle.sums.proofs.Corners.{zeros-are, corner-inside, corner-cell, corner-number, corner-squares, stats-by}
 use Rattle.sums.proofs.Corners.{cell-stats}
 use Rattle.spread.specs.Inner.{outerOf, innerOf, startOf, HasRecord, minusStats, combinedStats, CanCombine}
 use Rattle.spread.proofs.Sides.{Exact, Less, stats-less}
@@ -205,22 +208,30 @@ pub record Reads (w : Table) (p : ℕ) (f : ℕ → ℕ) : Type 0 where
   pub has : HasRecord w p
   pub exact : {y : Stats} → y ≡ statsFrom (viewOf w p) → Exact y f
 
-module _ {g : Grid} {t w : Table} (can-sum : CanSum limit g t w) where
+module _ {g : Grid} {t w : Table} (can-sum : CanSum limit Moments g t w) where
   -- below r, gr and b
   at-corner : (r gr b : ℕ) → r ≤ g .size1 → gr ≤ g .size2 → b ≤ g .size3 → 0 < r → 0 < gr → 0 < b
       → {p : ℕ} → p ≡ placeOf g (r - 1) (gr - 1) (b - 1) → Reads w p (binSum g (viewOf t) 0 r 0 gr 0 b)
   at-corner r gr b h k l r0 gr0 b0 {p} at =
-      let c : Corner g t w r gr b = record { can-sum = can-sum; one = h; two = k; three = l } in
-      let squares = corner-squares c r0 gr0 b0 in
+      let c : Corner g t w r gr b = record {
+        can-sum = can-sum;
+        some-one = r0;
+        one = h;
+        some-two = gr0;
+        two = k;
+        some-three = b0;
+        three = l;
+      } in
+      let squares = corner-squares c in
       record {
-        low = omega (arith, at, place-lt (corner-inside c r0 gr0 b0), bins-high (can-sum .table .accepted));
+        low = omega (arith, at, place-lt (corner-inside c), bins-high (can-sum .table .accepted));
         has = record {
-          cell = corner-cell c r0 gr0 b0 at;
-          squares = omega (arith, corner-number c r0 gr0 b0 at 4 (lit< tt));
+          cell = corner-cell c at;
+          squares = omega (arith, corner-number c at 4 (lit< tt));
         };
         exact = λ e.
             record {
-              is = e ∙ stats-by (viewOf w p) (binSum g (viewOf t) 0 r 0 gr 0 b) (corner-number c r0 gr0 b0 at);
+              is = e ∙ stats-by (viewOf w p) (binSum g (viewOf t) 0 r 0 gr 0 b) (corner-number c at);
               squares = squares;
             };
       }

@@ -11,9 +11,10 @@ use Rattle.table.specs.Cell.{View}
 use Rattle.table.specs.Sound.{limit}
 use Rattle.table.proofs.Soundness.{Sound}
 use Rattle.boxes.specs.declared.sides.Bounds.{Bounds}
-use Rattle.sums.specs.Box.{boxSum, statsOf}
+use Rattle.bins.specs.Sum.{boxSum}
+use Rattle.sums.specs.Box.{statsOf}
 use Rattle.boxes.specs.Box.{Within}
-use Rattle.sums.proofs.Laws.{box-sums-high, box-squares-high, box-weight-high}
+use Rattle.bins.proofs.Laws.{box-sums-high, box-squares-high, box-weight-high}
 use Rattle.sums.specs.Box.{whole}
 use Rattle.spread.specs.Spread.{qOf, quotientOf, zeroOf, spreadOf}
 use Rattle.boxes.specs.Box.{oneBin}

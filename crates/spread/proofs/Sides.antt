@@ -14,9 +14,10 @@ use Rattle.table.proofs.Soundness.{Sound}
 use Rattle.boxes.specs.declared.sides.Bounds.{Bounds}
 use Rattle.sums.specs.declared.box_sums.Stats.{Stats}
 use Rattle.boxes.specs.Box.{minAt, maxAt, lowSide, highSide, slabTo, Within}
-use Rattle.sums.specs.Box.{boxSum, statsFrom, statsOf}
-use Rattle.sums.proofs.Corners.{box-squares}
-use Rattle.sums.proofs.Laws.{cut-sum, slab-sum, slab-squares}
+use Rattle.bins.specs.Sum.{boxSum}
+use Rattle.sums.specs.Box.{statsFrom, statsOf}
+use Rattle.bins.proofs.Laws.{box-squares}
+use Rattle.bins.proofs.Laws.{cut-sum, slab-sum, slab-squares}
 use Rattle.sums.specs.Box.{whole}
 use Rattle.spread.specs.Inner.{minusStats, Covers}
 use Rattle.spread.proofs.Rounding.{less-of, of-whole, whole-is}

@@ -4,7 +4,7 @@ use boxes::sides::Bounds;
 use grid::place::Grid;
 use sums::box_sums::Stats;
 use sums::box_sums::stats_of;
-use sums::moments::ZEROS;
+use table::cell::ZEROS;
 use table::layout::cell_at;
 ghost use mathlib.Core.Path.{_≡_};
 ghost use Prim.Native.Nat.{_≤_};
@@ -12,6 +12,7 @@ ghost use Rattle.table.specs.Sound.{limit};
 ghost use Rattle.table.specs.Table.{viewOf};
 ghost use Rattle.boxes.specs.Box.{maxAt, lowSide, slabTo, Within};
 ghost use Rattle.sums.specs.Box.{statsFrom, statsOf};
+ghost use Rattle.sums.specs.declared.source.Source.the-variants.{Moments};
 ghost use Rattle.sums.specs.Moments.{CanSum};
 ghost use Rattle.spread.specs.Inner.{walkOf, HasRecord, minusStats, Covers, combinedStats, CanCombine, Slabs};
 
@@ -58,7 +59,7 @@ pub(crate) fn sums_before(
     walk: Walk,
     bin: u8,
 ) -> Stats
-    requires { ⌜ CanSum limit g (now table) (now work) × Within g x × (bin ≤ maxAt x dimension) ⌝ }
+    requires { ⌜ CanSum limit Moments g (now table) (now work) × Within g x × (bin ≤ maxAt x dimension) ⌝ }
     requires { ⌜ walk ≡ walkOf g x dimension ⌝ }
     ensures { λ r. ⌜ r ≡ statsOf g (viewOf (now (table .entry))) (slabTo x dimension bin) ⌝ }
 {

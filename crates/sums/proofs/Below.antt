@@ -1,22 +1,23 @@
 -- Laws of moments: how each comes from those before it, and that at a sound table none is large.
 -- Assumes nothing.
-use mathlib.Core.Path.{_≡_, refl, sym, ap, _∙_}
-use Prim.Native.Nat.{ℕ, _+_, _*_, _^_, _≤_, _<_}
-use native.Mathlib.Nat.{add-zero, zero-add, le-trans}
+use mathlib.Core.Path.{_≡_, refl, ap, _∙_}
+use Prim.Native.Nat.{ℕ, _+_, _^_, _≤_, _<_}
+use native.Mathlib.Nat.{add-zero, zero-add}
 use native.Mathlib.Omega.{arith}
 use Rattle.grid.specs.declared.place.Grid.{Grid}
 use Rattle.basics.specs.Range.{sumFrom}
-use Rattle.grid.specs.Grid.{Accepted, binsOf, placeOf}
+use Rattle.grid.specs.Grid.{Accepted, placeOf}
 use Rattle.basics.specs.Dimension.{choose}
-use Rattle.basics.proofs.Range.{sum-zero, sum-grow, sum-le}
-use Rattle.grid.proofs.Places.{place-lt, bin-of-place}
+use Rattle.basics.proofs.Range.{sum-zero}
+use Rattle.grid.proofs.Places.{bin-of-place}
 use Rattle.table.specs.Cell.{View}
-use Rattle.table.specs.Sound.{limit, total}
-use Rattle.table.proofs.Soundness.{Sound, number-high, total-high, total-is}
-use Rattle.sums.specs.Box.{sum3, binSum}
+use Rattle.table.specs.Sound.{limit}
+use Rattle.table.proofs.Soundness.{Sound}
+use Rattle.bins.specs.Sum.{sum3, binSum}
 use Rattle.sums.specs.Moments.{belowSum, momentsOf}
 use Rattle.sums.specs.Inner.{lineSum}
-use Rattle.sums.proofs.Boxes.{sum3-first, sum3-second, sum3-le, sum3-scale, all-places}
+use Rattle.bins.proofs.Boxes.{sum3-first, sum3-second}
+use Rattle.bins.proofs.Runs.{runs-grow, all-bins, all-small}
 
 module _ (g : Grid) (v : View) where
   -- number j of a bin
@@ -66,40 +67,9 @@ module _ (g : Grid) (v : View) where
   unfolding belowSum binSum
   below-grows r gr b j = omega (arith, sum3-second (bin j) 0 r 0 gr 1 0 b)
 
--- number j of all bins
-pub all-bins : (g : Grid) (v : View) (j : ℕ) → belowSum g v (g .size1) (g .size2) (g .size3) j
-    ≡ sumFrom 0 (binsOf g) (λ p. v p j)
-unfolding belowSum binSum
-all-bins g v j = sym (all-places g (λ p. v p j))
-
--- the whole grid has the most
-pub below-all : (g : Grid) (v : View) (r gr b j : ℕ) → r ≤ g .size1 → gr ≤ g .size2 → b ≤ g .size3
-    → belowSum g v r gr b j ≤ belowSum g v (g .size1) (g .size2) (g .size3) j
-unfolding belowSum binSum sum3
-below-all g v r gr b j h k l =
-    le-trans (sum-grow 0 r (g .size1) _ h)
-    (sum-le 0 (g .size1) _ _
-    (λ x i t.
-    le-trans (sum-grow 0 gr (g .size2) _ k)
-    (sum-le 0 (g .size2) _ _ (λ y m u. sum-grow 0 b (g .size3) (λ z. v (placeOf g x y z) j) l))))
-
-module _ {g : Grid} {v : View} (a : Accepted g) (s : Sound limit g v) where
-  all-high : (j : ℕ) → j < 5 → belowSum g v (g .size1) (g .size2) (g .size3) j ≤ 195075 * total g v
-  unfolding belowSum binSum
-  all-high j h =
-      rw (
-        total-is g v,
-        all-places g (λ p. v p 0),
-        ← sum3-scale 195075 0 (g .size1) 0 (g .size2) 0 (g .size3)
-            (λ x y z. v (placeOf g x y z) 0),
-      )
-      (sum3-le 0 (g .size1) 0 (g .size2) 0 (g .size3) (λ x y z. v (placeOf g x y z) j)
-      (λ x y z. 195075 * v (placeOf g x y z) 0)
-      (λ x y z t u w. number-high a s (placeOf g x y z)
-      (place-lt (record { accepted = a; one = omega arith; two = omega arith; three = omega arith })) j h))
-
-  -- every moment is below 2^50
-  pub below-small : (r gr b j : ℕ) → r ≤ g .size1 → gr ≤ g .size2 → b ≤ g .size3 → j < 5
-      → belowSum g v r gr b j < 2 ^ 50
-  below-small r gr b j h k l m =
-      omega (arith, below-all g v r gr b j h k l, all-high j m, total-high s)
+-- at a sound table every moment is below 2^50
+pub below-small : {g : Grid} {v : View} → Accepted g → Sound limit g v → (r gr b j : ℕ) → r ≤ g .size1
+    → gr ≤ g .size2 → b ≤ g .size3 → j < 5 → belowSum g v r gr b j < 2 ^ 50
+unfolding belowSum
+below-small {g} {v} a s r gr b j h k l m =
+    omega (arith, runs-grow g v r gr b j h k l, all-bins g v j, all-small a s j m)

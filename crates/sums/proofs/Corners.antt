@@ -1,80 +1,25 @@
 -- A box's sum from the moments, by inclusion and exclusion.
 -- Assumes nothing.
-use mathlib.Core.Path.{_≡_, refl, sym, ap, _∙_}
+use mathlib.Core.Path.{_≡_, sym, ap, _∙_}
 use Prim.Native.Nat.{ℕ, _+_, _-_, _^_, _≤_, _<_}
-use native.Mathlib.Nat.{zero-add}
 use native.Mathlib.Omega.{arith}
 use lib.Dec.{lit<}
 use Rattle.grid.specs.declared.place.Grid.{Grid}
-use Rattle.basics.specs.Range.{sumFrom}
 use Rattle.grid.specs.Grid.{Inside, placeOf}
-use Rattle.basics.proofs.Range.{sum-zero, sum-same}
 use Rattle.grid.proofs.Places.{place-lt}
 use Rattle.table.specs.declared.cell.Cell.{Cell}
 use Rattle.table.specs.Cell.{View, cellOf, numberOf, minusCell, AtLeast}
 use Rattle.table.specs.Table.{Table, viewOf, HasCell}
 use Rattle.table.specs.Sound.{limit}
 use Rattle.table.proofs.Tables.{has-cell}
-use Rattle.table.proofs.Cells.{number-cell, cell-by, Fields, cell-fields, minus-least, minus-is, zero-cell}
+use Rattle.table.proofs.Cells.{number-cell, cell-by, Fields, cell-fields, minus-least, minus-is, zeroCell, zeros-cell}
 use Rattle.table.proofs.Soundness.{Sound}
-use Rattle.boxes.specs.declared.sides.Bounds.{Bounds}
 use Rattle.sums.specs.declared.box_sums.Stats.{Stats}
-use Rattle.boxes.specs.Box.{Within}
-use Rattle.sums.specs.Box.{sum3, binSum, boxSum, statsFrom}
+use Rattle.bins.specs.Sum.{binSum}
+use Rattle.sums.specs.Box.{statsFrom}
 use Rattle.sums.specs.Moments.{belowSum}
 use Rattle.sums.specs.Inner.{binCell, Corner}
-use Rattle.boxes.proofs.Within.{Sides, sides}
-use Rattle.sums.proofs.Boxes.{sum3-first, sum3-second, sum3-third}
 use Rattle.sums.proofs.Below.{moments-at, below-small}
-
--- a cell of zeros
-abbrev pub zeroCell : Cell
-zeroCell = record { weight = 0; sum1 = 0; sum2 = 0; sum3 = 0; squares = 0 }
-
--- no bins
-pub no-first : (g : Grid) (v : View) (a b m c k j : ℕ) → binSum g v a 0 b m c k j ≡ 0
-unfolding binSum sum3 sumFrom
-no-first g v a b m c k j = refl
-
-pub no-second : (g : Grid) (v : View) (a n b c k j : ℕ) → binSum g v a n b 0 c k j ≡ 0
-unfolding binSum sum3 sumFrom
-no-second g v a n b c k j = sum-zero a n
-
-pub no-third : (g : Grid) (v : View) (a n b m c j : ℕ) → binSum g v a n b m c 0 j ≡ 0
-unfolding binSum sum3 sumFrom
-no-third g v a n b m c j = sum-same a n _ _ (λ x h t. sum-zero b m) ∙ sum-zero a n
-
--- the runs up to an end are those up to a start and from there on
-ends : (s e : ℕ) → s ≤ e → e ≡ s + (e - s)
-ends s e h = omega arith
-
-module _ (g : Grid) (v : View) where
-  abbrev bin : ℕ → ℕ → ℕ → ℕ → ℕ
-  bin j r gr b = v (placeOf g r gr b) j
-
-  pub first-from : (s e b m c k j : ℕ) → s ≤ e → binSum g v 0 e b m c k j
-      ≡ binSum g v 0 s b m c k j + binSum g v s (e - s) b m c k j
-  unfolding binSum
-  first-from s e b m c k j h =
-      ap (λ (n : ℕ). sum3 0 n b m c k (bin j)) (ends s e h)
-      ∙ sum3-first (bin j) 0 s (e - s) b m c k
-      ∙ ap (λ (n : ℕ). sum3 0 s b m c k (bin j) + sum3 n (e - s) b m c k (bin j)) (zero-add s)
-
-  pub second-from : (a n s e c k j : ℕ) → s ≤ e → binSum g v a n 0 e c k j
-      ≡ binSum g v a n 0 s c k j + binSum g v a n s (e - s) c k j
-  unfolding binSum
-  second-from a n s e c k j h =
-      ap (λ (m : ℕ). sum3 a n 0 m c k (bin j)) (ends s e h)
-      ∙ sum3-second (bin j) a n 0 s (e - s) c k
-      ∙ ap (λ (m : ℕ). sum3 a n 0 s c k (bin j) + sum3 a n m (e - s) c k (bin j)) (zero-add s)
-
-  pub third-from : (a n b m s e j : ℕ) → s ≤ e → binSum g v a n b m 0 e j
-      ≡ binSum g v a n b m 0 s j + binSum g v a n b m s (e - s) j
-  unfolding binSum
-  third-from a n b m s e j h =
-      ap (λ (k : ℕ). sum3 a n b m 0 k (bin j)) (ends s e h)
-      ∙ sum3-third (bin j) a n b m 0 s (e - s)
-      ∙ ap (λ (k : ℕ). sum3 a n b m 0 s (bin j) + sum3 a n b m k (e - s) (bin j)) (zero-add s)
 
 -- the cell of a run of bins, from those up to its end and up to its start
 module _ (F : ℕ → ℕ → ℕ → ℕ) (split : (s e j : ℕ) → s ≤ e → F 0 e j ≡ F 0 s j + F s (e - s) j) {s e : ℕ}
@@ -93,10 +38,6 @@ module _ (F : ℕ → ℕ → ℕ → ℕ) (split : (s e j : ℕ) → s ≤ e �
       same = omega arith
 
 -- zeros where there are no bins
-pub zeros-cell : (f : ℕ → ℕ) → ((j : ℕ) → f j ≡ 0) → zeroCell ≡ cellOf f
-zeros-cell f e =
-    zero-cell ∙ cell-by (cellOf (λ j. 0)) (cellOf f) (λ j h. number-cell (λ i. 0) j h ∙ sym (number-cell f j h ∙ e j))
-
 pub zeros-are : (g : Grid) (v : View) (a n b m c k : ℕ) → ((j : ℕ) → binSum g v a n b m c k j ≡ 0)
     → zeroCell ≡ binCell g v a n b m c k
 unfolding binCell
@@ -107,68 +48,45 @@ module _ {g : Grid} {t w : Table} {r gr b : ℕ} (c : Corner g t w r gr b) where
   before : (n : ℕ) → 0 < n → (n - 1) + 1 ≡ n
   before n h = omega arith
 
-  module _ (h : 0 < r) (k : 0 < gr) (l : 0 < b) where
-    pub corner-inside : Inside g (r - 1) (gr - 1) (b - 1)
-    corner-inside =
-        record {
-          accepted = c .can-sum .table .accepted;
-          one = omega (arith, c .one);
-          two = omega (arith, c .two);
-          three = omega (arith, c .three);
-        }
+  pub corner-inside : Inside g (r - 1) (gr - 1) (b - 1)
+  corner-inside =
+      record {
+        accepted = c .can-sum .table .accepted;
+        one = omega (arith, c .some-one, c .one);
+        two = omega (arith, c .some-two, c .two);
+        three = omega (arith, c .some-three, c .three);
+      }
 
-    pub corner-cell : {p : ℕ} → p ≡ placeOf g (r - 1) (gr - 1) (b - 1) → HasCell w p
-    corner-cell {p} at = has-cell (c .can-sum .work) p (omega (arith, place-lt corner-inside, at))
+  pub corner-cell : {p : ℕ} → p ≡ placeOf g (r - 1) (gr - 1) (b - 1) → HasCell w p
+  corner-cell {p} at = has-cell (c .can-sum .provided .work) p (omega (arith, place-lt corner-inside, at))
 
-    pub corner-number : {p : ℕ} → p ≡ placeOf g (r - 1) (gr - 1) (b - 1) → (j : ℕ) → j < 5 → viewOf w p j
-        ≡ binSum g (viewOf t) 0 r 0 gr 0 b j
-    unfolding belowSum
-    corner-number at j m =
-        ap (λ (n : ℕ). viewOf w n j) at
-        ∙ c .can-sum .has-moments .at (placeOf g (r - 1) (gr - 1) (b - 1)) j (place-lt corner-inside) m
-        ∙ moments-at g (viewOf t) (r - 1) (gr - 1) (b - 1) j (corner-inside .two) (corner-inside .three)
-        ∙ (λ i. binSum g (viewOf t) 0 (before r h i) 0 (before gr k i) 0 (before b l i) j)
+  pub corner-number : {p : ℕ} → p ≡ placeOf g (r - 1) (gr - 1) (b - 1) → (j : ℕ) → j < 5 → viewOf w p j
+      ≡ binSum g (viewOf t) 0 r 0 gr 0 b j
+  unfolding belowSum
+  corner-number at j m =
+      ap (λ (n : ℕ). viewOf w n j) at
+      ∙ c .can-sum .provided .has-moments .at (placeOf g (r - 1) (gr - 1) (b - 1)) j (place-lt corner-inside) m
+      ∙ moments-at g (viewOf t) (r - 1) (gr - 1) (b - 1) j (corner-inside .two) (corner-inside .three)
+      ∙ (λ i. binSum g (viewOf t) 0 (before r (c .some-one) i) 0 (before gr (c .some-two) i) 0
+      (before b (c .some-three) i) j)
 
-    pub corner-is : {p : ℕ} → p ≡ placeOf g (r - 1) (gr - 1) (b - 1) → {x : Cell} → x ≡ cellOf (viewOf w p) → x
-        ≡ binCell g (viewOf t) 0 r 0 gr 0 b
-    unfolding binCell
-    corner-is {p} at {x} e =
-        cell-by x (binCell g (viewOf t) 0 r 0 gr 0 b)
-        (λ j m.
-        ap (λ (y : Cell). numberOf y j) e
-        ∙ number-cell (viewOf w p) j m
-        ∙ corner-number at j m
-        ∙ sym (number-cell (binSum g (viewOf t) 0 r 0 gr 0 b) j m))
+  pub corner-is : {p : ℕ} → p ≡ placeOf g (r - 1) (gr - 1) (b - 1) → {x : Cell} → x ≡ cellOf (viewOf w p) → x
+      ≡ binCell g (viewOf t) 0 r 0 gr 0 b
+  unfolding binCell
+  corner-is {p} at {x} e =
+      cell-by x (binCell g (viewOf t) 0 r 0 gr 0 b)
+      (λ j m.
+      ap (λ (y : Cell). numberOf y j) e
+      ∙ number-cell (viewOf w p) j m
+      ∙ corner-number at j m
+      ∙ sym (number-cell (binSum g (viewOf t) 0 r 0 gr 0 b) j m))
 
-    pub corner-squares : binSum g (viewOf t) 0 r 0 gr 0 b 4 ≤ 2 ^ 53
-    unfolding belowSum
-    corner-squares =
-        let h = c .can-sum in
-        let s : Sound limit g (viewOf t) = record { holds = h .is-sound } in
-        omega (arith, below-small (h .table .accepted) s r gr b 4 (c .one) (c .two) (c .three) (lit< tt))
-
--- a box has no more than the bins below its ends
-pub box-below : (g : Grid) (v : View) (x : Bounds) (j : ℕ) → Sides g x
-    → boxSum g v x j ≤ belowSum g v (x .r1) (x .g1) (x .b1) j
-unfolding boxSum belowSum
-box-below g v x j s =
-    omega (
-      arith,
-      first-from g v (x .r0) (x .r1) (x .g0) (x .g1 - x .g0) (x .b0) (x .b1 - x .b0) j (omega (arith, s .one)),
-      second-from g v 0 (x .r1) (x .g0) (x .g1) (x .b0) (x .b1 - x .b0) j (omega (arith, s .two)),
-      third-from g v 0 (x .r1) 0 (x .g1) (x .b0) (x .b1) j (omega (arith, s .three)),
-    )
-
--- f64 holds the squares of a box of a sound table
-pub box-squares : {g : Grid} {v : View} → Sound limit g v → {x : Bounds} → Within g x → boxSum g v x 4 ≤ 2 ^ 53
-box-squares {g} {v} s {x} w =
-    let e = sides w in
-    omega (
-      arith,
-      box-below g v x 4 e,
-      below-small (w .accepted) s (x .r1) (x .g1) (x .b1) 4 (e .one-fits)
-          (e .two-fits) (e .three-fits) (lit< tt),
-    )
+  pub corner-squares : binSum g (viewOf t) 0 r 0 gr 0 b 4 ≤ 2 ^ 53
+  unfolding belowSum
+  corner-squares =
+      let h = c .can-sum in
+      let s : Sound limit g (viewOf t) = record { holds = h .is-sound } in
+      omega (arith, below-small (h .table .accepted) s r gr b 4 (c .one) (c .two) (c .three) (lit< tt))
 
 -- ---- statistics of five numbers
 pub stats-by : (f h : ℕ → ℕ) → ((j : ℕ) → j < 5 → f j ≡ h j) → statsFrom f ≡ statsFrom h

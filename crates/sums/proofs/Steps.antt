@@ -18,13 +18,13 @@ use Rattle.table.specs.declared.cell.Cell.{Cell}
 use Rattle.table.specs.Cell.{View, numberOf, cellOf, plusCell, minusCell, SumsFit}
 use Rattle.table.specs.Table.{Table, Sized, viewOf, written, putAt, HasCell, Held, TableOf}
 use Rattle.table.specs.Sound.{limit, sound as soundFor}
-use Rattle.table.proofs.Cells.{number-cell, number-plus, number-minus, cell-by, zero-cell}
+use Rattle.table.proofs.Cells.{number-cell, number-plus, number-minus, cell-by, zeroCell, zero-cell}
 use Rattle.table.proofs.Tables.{has-cell, list-holds, holds-list}
 use Rattle.table.proofs.Tables.{put-sized, put-there, put-elsewhere}
 use Rattle.table.proofs.Soundness.{Sound}
+use Rattle.sums.specs.declared.source.Source.the-variants.{Moments, Bins}
 use Rattle.sums.specs.Moments.{belowSum, momentsOf, HasMoments, ForMoments, CanSum}
 use Rattle.sums.specs.Inner.{lineSum, momentCell, lineCell, Before, Ready, joinedCell, CanJoin, withMoment}
-use Rattle.sums.proofs.Corners.{zeroCell}
 use Rattle.sums.proofs.Below.{moments-at, below-none, below-no-row, below-step, below-grows, below-small}
 
 -- ---- places before a place
@@ -291,18 +291,26 @@ none-made l = record { tables = l; made = record { at = λ q j h k. absurd (omeg
 pub all-made : {g : Grid} {t w : Table} → Before g t w (binsOf g) → w ≡ written (binsOf g) (momentsOf g (viewOf t))
 all-made b = holds-list (record { lent = b .tables .work; at = b .made .at })
 
--- a work table that the moments were written into holds them, and boxes can be summed from it
+-- a work table that the moments were written into holds them
 pub holds-moments : (g : Grid) (v : View) {w : Table} → w ≡ written (binsOf g) (momentsOf g v)
     → HasMoments g v (viewOf w)
 holds-moments g v e = record { at = rw e (list-holds (binsOf g) (momentsOf g v) .at) }
 
-pub sums-can : {most : ℕ} {g : Grid} {t w : Table} → TableOf g t → soundFor most g (viewOf t) ≡ true
-    → w ≡ written (binsOf g) (momentsOf g (viewOf t)) → CanSum most g t w
-sums-can {most} {g} {t} {w} h s e =
+-- boxes can be summed from it, and from the bins of any sound table
+pub can-from-moments : {most : ℕ} {g : Grid} {t w : Table} → TableOf g t → soundFor most g (viewOf t) ≡ true
+    → w ≡ written (binsOf g) (momentsOf g (viewOf t)) → CanSum most Moments g t w
+can-from-moments {most} {g} {t} {w} h s e =
     record {
       table = h;
       is-sound = s;
-      work =
-          subst (λ (x : Table). Sized x (binsOf g)) (sym e) (list-holds (binsOf g) (momentsOf g (viewOf t)) .lent);
-      has-moments = holds-moments g (viewOf t) e;
+      provided =
+          record {
+            work = subst (λ (x : Table). Sized x (binsOf g)) (sym e)
+                (list-holds (binsOf g) (momentsOf g (viewOf t)) .lent);
+            has-moments = holds-moments g (viewOf t) e;
+          };
     }
+
+pub can-from-bins : {most : ℕ} {g : Grid} {t w : Table} → TableOf g t → soundFor most g (viewOf t) ≡ true
+    → CanSum most Bins g t w
+can-from-bins h s = record { table = h; is-sound = s; provided = tt }

@@ -8,7 +8,8 @@ use Rattle.table.specs.declared.cell.Cell.{Cell}
 use Rattle.table.specs.Cell.{View, numberOf, cellOf, plusCell, minusCell, AtLeast}
 use Rattle.table.specs.Table.{Table, viewOf, putAt}
 use Rattle.table.specs.Sound.{limit}
-use Rattle.sums.specs.Box.{binSum}
+use Rattle.bins.specs.Sum.{binSum}
+use Rattle.sums.specs.declared.source.Source.the-variants.{Moments}
 use Rattle.sums.specs.Moments.{momentsOf, MomentsBefore, ForMoments, CanSum}
 
 -- the cell of the moments at a place
@@ -47,11 +48,14 @@ pub record Ready (g : Grid) (t w : Table) (r gr b : ℕ) : Type 0 where
   pub inside : Inside g r gr b
   pub before : Before g t w (placeOf g r gr b)
 
--- the work table holds the moments, and some bins of the grid end at r, gr and b
+-- the work table holds the moments, and some bins of the grid end at r, gr and b, at least one in each dimension
 pub record Corner (g : Grid) (t w : Table) (r gr b : ℕ) : Type 0 where
-  pub can-sum : CanSum limit g t w
+  pub can-sum : CanSum limit Moments g t w
+  pub some-one : 0 < r
   pub one : r ≤ g .size1
+  pub some-two : 0 < gr
   pub two : gr ≤ g .size2
+  pub some-three : 0 < b
   pub three : b ≤ g .size3
 
 -- the cell of the sums over three runs of bins

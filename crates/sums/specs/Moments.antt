@@ -7,7 +7,9 @@ use Rattle.grid.specs.Grid.{binsOf, binAt}
 use Rattle.table.specs.Cell.{View}
 use Rattle.table.specs.Table.{Table, Sized, viewOf, TableOf}
 use Rattle.table.specs.Sound.{sound}
-use Rattle.sums.specs.Box.{binSum}
+use Rattle.bins.specs.Sum.{binSum}
+use Rattle.sums.specs.declared.source.Source.{Source}
+use Rattle.sums.specs.declared.source.Source.the-variants.{Moments, Bins}
 
 -- number j of all bins with r, g and b below the three given
 unfoldable pub belowSum : Grid → View → ℕ → ℕ → ℕ → ℕ → ℕ
@@ -31,9 +33,18 @@ pub record ForMoments (most : ℕ) (g : Grid) (t w : Table) : Type 0 where
   pub is-sound : sound most g (viewOf t) ≡ true
   pub work : Sized w (binsOf g)
 
--- what the sum of a box asks for: the same two tables, and that the work table holds the moments
-pub record CanSum (most : ℕ) (g : Grid) (t w : Table) : Type 0 where
-  pub table : TableOf g t
-  pub is-sound : sound most g (viewOf t) ≡ true
+-- a work table of the grid that holds the moments of a table
+pub record Holds (g : Grid) (t w : Table) : Type 0 where
   pub work : Sized w (binsOf g)
   pub has-moments : HasMoments g (viewOf t) (viewOf w)
+
+-- what a source of sums asks of the work table: moments stand in it, and who adds up bins needs none
+abbrev pub Provides : Source → Grid → Table → Table → Type 0
+Provides Moments g t w = Holds g t w
+Provides Bins g t w = Unit {0}
+
+-- what the sum of a box asks for: a table that is sound for a limit, and what its source needs
+pub record CanSum (most : ℕ) (source : Source) (g : Grid) (t w : Table) : Type 0 where
+  pub table : TableOf g t
+  pub is-sound : sound most g (viewOf t) ≡ true
+  pub provided : Provides source g t w

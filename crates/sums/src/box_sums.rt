@@ -1,5 +1,6 @@
-// The statistics of boxes, from the moments of their table.
-use crate::moments::ZEROS;
+// The statistics of boxes, from the moments of their table or from its bins.
+use crate::source::Source;
+use bins::add_up::add_up;
 use boxes::sides::Bounds;
 use grid::place::Grid;
 use grid::place::place;
@@ -12,7 +13,9 @@ ghost use Rattle.table.specs.Cell.{numberOf};
 ghost use Rattle.table.specs.Sound.{limit};
 ghost use Rattle.table.specs.Table.{viewOf};
 ghost use Rattle.boxes.specs.Box.{Within};
-ghost use Rattle.sums.specs.Box.{boxCell, whole, statsFrom, statsOf};
+ghost use Rattle.bins.specs.Sum.{boxCell, CanAdd};
+ghost use Rattle.sums.specs.declared.source.Source.the-variants.{Moments};
+ghost use Rattle.sums.specs.Box.{whole, statsFrom, statsOf};
 ghost use Rattle.sums.specs.Moments.{CanSum};
 ghost use Rattle.sums.specs.Inner.{binCell, Corner};
 
@@ -25,21 +28,11 @@ pub struct Stats {
     pub squares: f64,
 }
 
-// The sums of all bins below r, gr and b; an index below 0 counts as zeros. The table is named by the contract alone,
-// here and below.
+// The sums of all bins below r, gr and b. The table is named by the contract alone, here and in the three below.
 fn corner(table: &[u64], work: &[u64], g: Grid, r: usize, gr: usize, b: usize) -> Cell
     requires { ⌜ Corner g (now table) (now work) r gr b ⌝ }
     ensures { λ c. ⌜ c ≡ binCell g (viewOf (now (table .entry))) 0 r 0 gr 0 b ⌝ }
 {
-    if r == 0 {
-        return ZEROS;
-    }
-    if gr == 0 {
-        return ZEROS;
-    }
-    if b == 0 {
-        return ZEROS;
-    }
     cell_at(work, place(g, r - 1, gr - 1, b - 1))
 }
 
@@ -79,7 +72,7 @@ fn slab(table: &[u64], work: &[u64], g: Grid, r: usize, x: Bounds) -> Cell
 
 // The five sums of a box, from the moments of its table (`volume`).
 fn box_cell(table: &[u64], work: &[u64], g: Grid, x: Bounds) -> Cell
-    requires { ⌜ CanSum limit g (now table) (now work) × Within g x ⌝ }
+    requires { ⌜ CanSum limit Moments g (now table) (now work) × Within g x ⌝ }
     ensures { λ c. ⌜ c ≡ boxCell g (viewOf (now (table .entry))) x ⌝ }
 {
     let upper = slab(table, work, g, x.r1 as usize, x);
@@ -111,10 +104,21 @@ pub fn stats_of(c: Cell) -> Stats
     }
 }
 
-// The statistics of a box, from the moments of its table.
-pub fn box_sum(table: &[u64], work: &[u64], g: Grid, x: Bounds) -> Stats
-    requires { ⌜ CanSum limit g (now table) (now work) × Within g x ⌝ }
+// The statistics of a box, from its bins.
+pub fn sum_of_bins(table: &[u64], g: Grid, x: Bounds) -> Stats
+    requires { ⌜ CanAdd limit g (now table) x ⌝ }
     ensures { λ r. ⌜ r ≡ statsOf g (viewOf (now (table .entry))) x ⌝ }
 {
-    stats_of(box_cell(table, work, g, x))
+    stats_of(add_up(table, g, x))
+}
+
+// The statistics of a box, from where sums come from.
+pub fn box_sum(table: &[u64], work: &[u64], source: Source, g: Grid, x: Bounds) -> Stats
+    requires { ⌜ CanSum limit source g (now table) (now work) × Within g x ⌝ }
+    ensures { λ r. ⌜ r ≡ statsOf g (viewOf (now (table .entry))) x ⌝ }
+{
+    match source {
+        Source::Moments => stats_of(box_cell(table, work, g, x)),
+        Source::Bins => sum_of_bins(table, g, x),
+    }
 }

@@ -2,6 +2,7 @@
 use grid::place::Grid;
 use grid::place::place;
 use table::cell::Cell;
+use table::cell::ZEROS;
 use table::cell::minus;
 use table::cell::plus;
 use table::layout::cell_at;
@@ -13,15 +14,6 @@ ghost use Rattle.table.specs.Sound.{limit};
 ghost use Rattle.table.specs.Table.{viewOf, written};
 ghost use Rattle.sums.specs.Moments.{momentsOf, ForMoments};
 ghost use Rattle.sums.specs.Inner.{momentCell, lineCell, Before, Ready, joinedCell, CanJoin, withMoment};
-
-// A cell of zeros.
-pub const ZEROS: Cell = Cell {
-    weight: 0,
-    sum1: 0,
-    sum2: 0,
-    sum3: 0,
-    squares: 0,
-};
 
 // What was read, joined by inclusion and exclusion: the sums along a row and the moments of the row above, and what the
 // plane before has more than the row above in it.

@@ -6,6 +6,7 @@ use Prim.Native.Nat.{ℕ, zero, suc}
 use native.Mathlib.Omega.{arith}
 use Rattle.basics.specs.Answer.{whenDone}
 use Rattle.cutter.specs.declared.call.CutRecord.{CutRecord}
+use Rattle.sums.specs.declared.source.Source.the-variants.{Moments}
 use Rattle.cutter.specs.Cut.{Buffers, cutRecord, cutLater}
 use Rattle.lines.specs.Text.{refusedOf}
 use Rattle.lines.specs.Listing.{lentZeros}
@@ -22,12 +23,12 @@ unfolding swatchText
 text-cut n t e = when-done n _ _ e
 
 -- where the cut was refused, and where it is done
-module _ (t : List ℕ) {r : CutRecord} (e : r ≡ cutRecord 8 8 8 16 t lentZeros) where
+module _ (t : List ℕ) {r : CutRecord} (e : r ≡ cutRecord Moments 8 8 8 16 t lentZeros) where
   pub cut-refused : (r .number ≡ 0 → ⊥) → cutSwatches t ≡ refusedOf (r .number)
   unfolding cutSwatches
   cut-refused h = rw (← e) (when-refused (r .number) _ _ h)
 
-  pub cut-listed : {later : Buffers} → later ≡ cutLater 8 8 8 16 t lentZeros → r .number ≡ 0
+  pub cut-listed : {later : Buffers} → later ≡ cutLater Moments 8 8 8 16 t lentZeros → r .number ≡ 0
       → cutSwatches t
       ≡ swatchListing (r .boxes) (r .rounds) (later .results .palette) (later .results .counts)
       (numbersOf (later .results .palette))

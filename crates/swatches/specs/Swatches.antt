@@ -3,6 +3,7 @@ use mathlib.Core.List.{List, [], _∷_, _++_}
 use Prim.Native.Nat.{ℕ, zero, suc}
 use lib.ListN.{getD, replicate}
 use Rattle.basics.specs.Answer.{whenDone}
+use Rattle.sums.specs.declared.source.Source.the-variants.{Moments}
 use Rattle.cutter.specs.Cut.{cutRecord, cutLater}
 use Rattle.lines.specs.Text.{namedOf, headOf, lineAt, totalOf, refusedOf}
 use Rattle.lines.specs.Listing.{lentZeros}
@@ -42,8 +43,8 @@ numbersOf palette = nearestLater palette (replicate 16 0)
 
 unfoldable pub cutSwatches : List ℕ → List ℕ
 cutSwatches t =
-    let r = cutRecord 8 8 8 16 t lentZeros in
-    let later = cutLater 8 8 8 16 t lentZeros .results in
+    let r = cutRecord Moments 8 8 8 16 t lentZeros in
+    let later = cutLater Moments 8 8 8 16 t lentZeros .results in
     whenDone (r .number)
     (swatchListing (r .boxes) (r .rounds) (later .palette) (later .counts) (numbersOf (later .palette)))
     (refusedOf (r .number))

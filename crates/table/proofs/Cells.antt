@@ -1,6 +1,6 @@
 -- Laws of cells.
 -- Assumes nothing.
-use mathlib.Core.Path.{_≡_, refl, ap}
+use mathlib.Core.Path.{_≡_, refl, sym, ap, _∙_}
 use Prim.Native.Nat.{ℕ, zero, suc, _+_, _-_, _<_}
 use native.Mathlib.Omega.{arith}
 use lib.Dec.{lit<}
@@ -94,6 +94,14 @@ minus-is f h k e {c} {d} p q {x} r =
       e j,
     ))
 
-pub zero-cell : _≡_ {A = Cell} (record { weight = 0; sum1 = 0; sum2 = 0; sum3 = 0; squares = 0 }) (cellOf (λ j. 0))
+-- ---- a cell of zeros
+abbrev pub zeroCell : Cell
+zeroCell = record { weight = 0; sum1 = 0; sum2 = 0; sum3 = 0; squares = 0 }
+
+pub zero-cell : zeroCell ≡ cellOf (λ j. 0)
 unfolding cellOf
 zero-cell = refl
+
+pub zeros-cell : (f : ℕ → ℕ) → ((j : ℕ) → f j ≡ 0) → zeroCell ≡ cellOf f
+zeros-cell f e =
+    zero-cell ∙ cell-by (cellOf (λ j. 0)) (cellOf f) (λ j h. number-cell (λ i. 0) j h ∙ sym (number-cell f j h ∙ e j))

@@ -11,6 +11,15 @@ pub struct Cell {
     pub squares: u64,
 }
 
+// A cell of zeros.
+pub const ZEROS: Cell = Cell {
+    weight: 0,
+    sum1: 0,
+    sum2: 0,
+    sum3: 0,
+    squares: 0,
+};
+
 // Two cells added, number by number.
 pub fn plus(c: Cell, d: Cell) -> Cell
     requires { ⌜ SumsFit c d ⌝ }

@@ -1,10 +1,10 @@
 //! The port: the exported calls of the static library.
 use oracle::port::{Band, CutAnswer, Grid, Lent, Port, Recorded};
 use seluvava_sys::{
-    Session, SessionAnswer, seluvava_batch, seluvava_begin, seluvava_bins, seluvava_compare,
-    seluvava_cut, seluvava_load, seluvava_load_ppm, seluvava_map, seluvava_merge, seluvava_nearest,
-    seluvava_paint, seluvava_ppm_header, seluvava_reload, seluvava_replay, seluvava_rescue,
-    seluvava_table_len,
+    CutAnswer as Answer, Session, SessionAnswer, seluvava_batch, seluvava_begin, seluvava_bins,
+    seluvava_compare, seluvava_cut, seluvava_cut_slowly, seluvava_load, seluvava_load_ppm,
+    seluvava_map, seluvava_merge, seluvava_nearest, seluvava_paint, seluvava_ppm_header,
+    seluvava_reload, seluvava_replay, seluvava_rescue, seluvava_table_len,
 };
 use std::ptr;
 
@@ -27,6 +27,14 @@ fn start_mut<T>(list: &mut [T]) -> *mut T {
 
 fn told(answer: SessionAnswer) -> (u8, u32) {
     (answer.number, answer.session.interval)
+}
+
+fn cut_told(answer: Answer) -> CutAnswer {
+    CutAnswer {
+        number: answer.number,
+        boxes: answer.boxes,
+        rounds: answer.rounds,
+    }
 }
 
 pub struct Library;
@@ -199,8 +207,15 @@ impl Port for Library {
         })
     }
 
-    fn cut(&self, [b1, b2, b3]: Grid, k: usize, table: &[u64], lent: Lent<'_>) -> CutAnswer {
-        let answer = unsafe {
+    fn cut(
+        &self,
+        [b1, b2, b3]: Grid,
+        k: usize,
+        table: &[u64],
+        work: &mut [u64],
+        lent: Lent<'_>,
+    ) -> CutAnswer {
+        cut_told(unsafe {
             seluvava_cut(
                 b1,
                 b2,
@@ -208,8 +223,8 @@ impl Port for Library {
                 k,
                 start(table),
                 table.len(),
-                start_mut(lent.work),
-                lent.work.len(),
+                start_mut(work),
+                work.len(),
                 start_mut(lent.palette),
                 lent.palette.len(),
                 start_mut(lent.counts),
@@ -223,12 +238,32 @@ impl Port for Library {
                 start_mut(lent.spreads).cast(),
                 lent.spreads.len(),
             )
-        };
-        CutAnswer {
-            number: answer.number,
-            boxes: answer.boxes,
-            rounds: answer.rounds,
-        }
+        })
+    }
+
+    fn cut_slowly(&self, [b1, b2, b3]: Grid, k: usize, table: &[u64], lent: Lent<'_>) -> CutAnswer {
+        cut_told(unsafe {
+            seluvava_cut_slowly(
+                b1,
+                b2,
+                b3,
+                k,
+                start(table),
+                table.len(),
+                start_mut(lent.palette),
+                lent.palette.len(),
+                start_mut(lent.counts),
+                lent.counts.len(),
+                start_mut(lent.remainders),
+                lent.remainders.len(),
+                start_mut(lent.map),
+                lent.map.len(),
+                start_mut(lent.boxes),
+                lent.boxes.len(),
+                start_mut(lent.spreads).cast(),
+                lent.spreads.len(),
+            )
+        })
     }
 
     fn map(

@@ -173,6 +173,27 @@ unsafe extern "C" {
         spreads_len: usize,
     ) -> CutAnswer;
 
+    pub fn seluvava_cut_slowly(
+        b1: usize,
+        b2: usize,
+        b3: usize,
+        k: usize,
+        table: *const u64,
+        table_len: usize,
+        palette: *mut u8,
+        palette_len: usize,
+        counts: *mut u32,
+        counts_len: usize,
+        remainders: *mut u32,
+        remainders_len: usize,
+        map: *mut u8,
+        map_len: usize,
+        boxes: *mut u8,
+        boxes_len: usize,
+        spreads: *mut f64,
+        spreads_len: usize,
+    ) -> CutAnswer;
+
     pub fn seluvava_map(
         b1: usize,
         b2: usize,

@@ -128,7 +128,7 @@ fn write_answer(s: &mut Script, case: &Case, input: &Input, l: &mut Lists) -> Op
     s.set("left", &l.remainders);
     s.set("map", &l.map);
     let lent = Lengths {
-        work: l.second.len(),
+        work: Some(l.second.len()),
         palette: l.palette.len(),
         counts: l.counts.len(),
         remainders: l.remainders.len(),

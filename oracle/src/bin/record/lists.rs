@@ -57,7 +57,6 @@ const PLACES: usize = 256;
 pub fn cut(grid: Grid, k: usize, l: &mut Lists) -> Record {
     let (mut boxes, mut spreads) = ([0; 6 * PLACES], [0; PLACES]);
     let lent = Lent {
-        work: &mut l.second,
         palette: &mut l.palette,
         counts: &mut l.counts,
         remainders: &mut l.remainders,
@@ -65,7 +64,7 @@ pub fn cut(grid: Grid, k: usize, l: &mut Lists) -> Record {
         boxes: &mut boxes,
         spreads: &mut spreads,
     };
-    let answer = Model.cut(grid, k, &l.table, lent);
+    let answer = Model.cut(grid, k, &l.table, &mut l.second, lent);
     let boxes = boxes.as_chunks().0.iter().copied().zip(spreads);
     Record {
         number: answer.number,

@@ -1,4 +1,4 @@
--- `cutter::call::cut_on` meets its contract: the moments, the boxes of the loop, and what they give.
+-- `cutter::call::cut_on` meets its contract: the work table, the boxes of the loop, and what they give.
 -- Assumes nothing.
 use mathlib.Core.Path.{_≡_, sym, ap, subst, _∙_}
 use Prim.Native.Nat.{_≤_}
@@ -7,18 +7,19 @@ use native.Mathlib.Omega.{arith}
 use borrow.Author.Needs.{needs}
 use denote.Ref.{now}
 use Rattle.table.specs.Cell.{View}
-use Rattle.grid.specs.Grid.{binsOf}
-use Rattle.table.specs.Table.{Table, viewOf, written, TableOf}
+use Rattle.table.specs.Table.{Table, viewOf, TableOf}
 use Rattle.table.specs.Sound.{limit}
 use Rattle.table.proofs.Tables.{sized-by}
-use Rattle.sums.specs.Moments.{momentsOf, CanSum}
-use Rattle.sums.proofs.Steps.{sums-can}
+use Rattle.sums.specs.declared.source.Source.{Source}
+use Rattle.sums.specs.declared.source.Source.the-variants.{Moments, Bins}
+use Rattle.sums.specs.Moments.{CanSum}
+use Rattle.sums.proofs.Steps.{can-from-moments, can-from-bins}
 use Rattle.rounds.specs.declared.gather.Boxes.{Boxes}
 use Rattle.rounds.specs.Loop.{boxesOf}
 use Rattle.rounds.proofs.Filled.{heap-most}
 use Rattle.cutter.specs.Palette.{paletteLater, countsLater, remaindersLater}
 use Rattle.cutter.specs.Inner.{fillFrom, Found}
-use Rattle.cutter.specs.Cut.{buffers, doneRecord, listOf, boxList, resultsOn, laterOn}
+use Rattle.cutter.specs.Cut.{buffers, doneRecord, listOf, boxList, workLater, resultsOn, laterOn}
 use Rattle.cutter.proofs.Maps.{filled-map}
 use Rattle.cutter.proofs.RecordBoxes.{list-tiles, all-found}
 use Rattle.cutter.proofs.call.cut_on.Statement.{statement}
@@ -27,13 +28,19 @@ use Rattle.cutter.proofs.call.cut_on.Tie as tie
 abbrev view : tie.Start → View
 view s = viewOf (now (s .args .table))
 
--- the table, and the work table after the moments
+-- the table, and the work table once it is ready
 the-table : (s : tie.Start) → TableOf (s .args .g) (now (s .args .table))
 the-table s = record { accepted = s .pre .0 .0; lent = sized-by (s .pre .1 .table) }
 
-can-sum : (s : tie.Start) {w : Table} → w ≡ written (binsOf (s .args .g)) (momentsOf (s .args .g) (view s))
-    → CanSum limit (s .args .g) (now (s .args .table)) w
-can-sum s = sums-can (the-table s) (s .pre .0 .1 .is-sound)
+can-sum : (s : tie.Start) {w : Table}
+    → w ≡ workLater (s .args .source) (s .args .g) (view s) (now (s .args .work))
+    → CanSum limit (s .args .source) (s .args .g) (now (s .args .table)) w
+can-sum s = go (s .args .source)
+  where
+    go : (source : Source) {w : Table} → w ≡ workLater source (s .args .g) (view s) (now (s .args .work))
+        → CanSum limit source (s .args .g) (now (s .args .table)) w
+    go Moments e = can-from-moments (the-table s) (s .pre .0 .1 .is-sound) e
+    go Bins e = can-from-bins (the-table s) (s .pre .0 .1 .is-sound)
 
 -- the boxes of the loop
 the-boxes : (s : tie.Start) {b : Boxes} → b ≡ boxesOf (s .args .g) (view s) (s .args .k) → Found (s .args .g) (view s) b
@@ -45,20 +52,20 @@ few : (s : tie.Start) {b : Boxes} → b ≡ boxesOf (s .args .g) (view s) (s .ar
 unfolding boxesOf
 few s e = rw e (heap-most (s .args .g) (view s) (s .args .k) (s .pre .0 .1 .least) (s .pre .0 .1 .most))
 
-moments-requires : tie.Need-moments-requires
-moments-requires c κs =
+ready-requires : tie.Need-ready-requires
+ready-requires c κs =
     let s = c .before .before .before .before .before .before .before in
-    record { table = the-table s; is-sound = s .pre .0 .1 .is-sound; work = sized-by (s .pre .1 .work) }
+    (the-table s, s .pre .0 .1 .is-sound, s .pre .1 .work)
 
 cut-boxes-requires : tie.Need-cut-boxes-requires
 cut-boxes-requires c κs =
-    let s = c .before .before .before .before .before .before .before .before .before .before .before in (can-sum s (c .before .before .before .moments .ensures), s .pre .0 .1 .most)
+    let s = c .before .before .before .before .before .before .before .before .before .before .before in (can-sum s (c .before .before .before .ready .ensures), s .pre .0 .1 .most)
 
 put-results-requires : tie.Need-put-results-requires
 put-results-requires c κs =
     let s = c .before .before .before .before .before .before .before .before .before .before .before .before .before .before .before .before in
     let e = c .before .before .before .before .cut-boxes .ensures in (
-      (can-sum s (c .before .before .before .before .before .before .before .before .moments .ensures), the-boxes s e),
+      (can-sum s (c .before .before .before .before .before .before .before .before .ready .ensures), the-boxes s e),
       (
         omega (arith, few s e, s .pre .1 .palette),
         le-trans (few s e) (s .pre .1 .counts),
@@ -109,14 +116,14 @@ returns c =
     ∙ filled-map (s .args .g) _ (list-tiles (s .args .g) (view s) (s .args .k) (s .pre .0 .1 .most) (s .pre .0 .0))
     (now (s .args .map)) (s .pre .1 .map) in (
       c .done .ensures ∙ ap doneRecord e,
-      λ i. buffers (c .before .before .before .before .before .before .before .before .before .before .before .before .before .before .before .before .before .before .before .before .moments .ensures i) (palette i) (counts i) (remainders i) (map i),
+      λ i. buffers (c .before .before .before .before .before .before .before .before .before .before .before .before .before .before .before .before .before .before .before .before .ready .ensures i) (palette i) (counts i) (remainders i) (map i),
     )
 
 pub cut-on-spec : {M : Type 1} → statement M
 cut-on-spec =
     tie.close
     (tie.spec
-    moments-requires
+    ready-requires
     cut-boxes-requires
     put-results-requires
     fill-boxes-requires

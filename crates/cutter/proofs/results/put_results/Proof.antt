@@ -24,14 +24,14 @@ use Rattle.cutter.proofs.results.put_results.Statement.{statement}
 use Rattle.cutter.proofs.results.put_results.Tie as tie
 
 abbrev Inv-loop : tie.InvT-loop
-Inv-loop table work g palette₀ counts₀ remainders₀ places n i₀ palette counts remainders i =
+Inv-loop table work source g palette₀ counts₀ remainders₀ places n i₀ palette counts remainders i =
     let boxes = take i (listOf n places) in
     (i ≤ n) × (palette ≡ paletteLater g (viewOf table) boxes palette₀)
     × (counts ≡ countsLater g (viewOf table) boxes counts₀)
     × (remainders ≡ remaindersLater g (viewOf table) boxes remainders₀)
 
 abbrev μ-loop : tie.MeasureT-loop
-μ-loop table work g palette₀ counts₀ remainders₀ places n i₀ palette counts remainders i = n - i
+μ-loop table work source g palette₀ counts₀ remainders₀ places n i₀ palette counts remainders i = n - i
 
 abbrev view : tie.Start Inv-loop μ-loop → View
 view s = viewOf (now (s .args .table))

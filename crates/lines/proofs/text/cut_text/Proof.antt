@@ -4,6 +4,7 @@ use mathlib.Core.Path.{ap, _∙_}
 use native.Mathlib.Omega.{arith}
 use Rattle.cutter.proofs.RecordSize.{few}
 use borrow.Author.Needs.{needs}
+use Rattle.sums.specs.declared.source.Source.the-variants.{Moments}
 use Rattle.cutter.specs.Cut.{cutRecord, cutLater}
 use Rattle.lines.proofs.Texts.{lent-zeros, cut-refused, cut-listed}
 use Rattle.lines.proofs.text.cut_text.Statement.{statement}
@@ -36,7 +37,7 @@ same-length c = search needs
 returns : tie.Need-returns
 returns c =
     let cut = c .before .before .before .before .before .before .before .before .before .before .before .cut in
-    rw (cut-refused _ (cut .ensures .0 ∙ ap (cutRecord 8 8 8 16 _) lent-zeros)
+    rw (cut-refused _ (cut .ensures .0 ∙ ap (cutRecord Moments 8 8 8 16 _) lent-zeros)
     (c .before .before .before .before .if1 .taken))
     (c .before .before .refused .ensures)
 
@@ -49,7 +50,7 @@ slice-aggregate-listing-2 c = search needs
 listing-requires : tie.Need-listing-requires
 listing-requires c κs =
     let cut = c .before .before .before .before .before .before .before .before .before .before .cut in
-    let h = few 16 (omega arith) (omega arith) _ 8 8 8 _ (cut .ensures .0) in
+    let h = few Moments 16 (omega arith) (omega arith) _ 8 8 8 _ (cut .ensures .0) in
     search needs
 
 same-length-2 : tie.Need-same-length-2
@@ -58,8 +59,8 @@ same-length-2 c = search needs
 returns-2 : tie.Need-returns-2
 returns-2 c =
     let cut = c .before .before .before .before .before .before .before .before .before .before .before .before .before .cut in
-    rw (cut-listed _ (cut .ensures .0 ∙ ap (cutRecord 8 8 8 16 _) lent-zeros)
-    (cut .ensures .1 ∙ ap (cutLater 8 8 8 16 _) lent-zeros)
+    rw (cut-listed _ (cut .ensures .0 ∙ ap (cutRecord Moments 8 8 8 16 _) lent-zeros)
+    (cut .ensures .1 ∙ ap (cutLater Moments 8 8 8 16 _) lent-zeros)
     (c .before .before .before .before .before .before .if1 .left))
     (c .before .before .listing .ensures)
 

@@ -23,13 +23,13 @@ use Rattle.rounds.proofs.rounds.all_rounds.Statement.{statement}
 use Rattle.rounds.proofs.rounds.all_rounds.Tie as tie
 
 abbrev Inv-loop : tie.InvT-loop
-Inv-loop table work g k spreads₀ boxes₀ len₀ rounds₀ spreads boxes len rounds =
+Inv-loop table work source g k spreads₀ boxes₀ len₀ rounds₀ spreads boxes len rounds =
     TwoArrays spreads boxes
     × Each (OfGrid g) (roomIn spreads boxes) len
     × ToCome g (viewOf table) k (roomIn spreads boxes) len rounds
 
 abbrev μ-loop : tie.MeasureT-loop
-μ-loop table work g k spreads₀ boxes₀ len₀ rounds₀ spreads boxes len rounds = need k (roomIn spreads boxes) len
+μ-loop table work source g k spreads₀ boxes₀ len₀ rounds₀ spreads boxes len rounds = need k (roomIn spreads boxes) len
 
 loop-holds : tie.Need-loop-holds Inv-loop μ-loop
 loop-holds c =

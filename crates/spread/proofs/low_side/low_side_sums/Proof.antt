@@ -5,7 +5,8 @@ use native.Mathlib.Nat.{le-of-lt}
 use denote.Ref.{now}
 use Rattle.table.specs.Table.{viewOf}
 use Rattle.boxes.specs.Box.{lowSide}
-use Rattle.sums.specs.Box.{boxSum, statsOf}
+use Rattle.bins.specs.Sum.{boxSum}
+use Rattle.sums.specs.Box.{statsOf}
 use Rattle.spread.proofs.Sides.{Less, low}
 use Rattle.spread.proofs.low_side.low_side_sums.Statement.{statement}
 use Rattle.spread.proofs.low_side.low_side_sums.Tie as tie

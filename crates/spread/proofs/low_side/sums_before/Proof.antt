@@ -10,7 +10,7 @@ use Rattle.table.specs.Cell.{View, numberOf}
 use Rattle.table.specs.Table.{viewOf}
 use Rattle.sums.specs.declared.box_sums.Stats.{Stats}
 use Rattle.sums.specs.Box.{statsFrom, statsOf}
-use Rattle.sums.proofs.Corners.{zeroCell}
+use Rattle.table.proofs.Cells.{zeroCell}
 use Rattle.boxes.specs.Box.{minAt, maxAt, slabTo}
 use Rattle.spread.specs.declared.walk.Walk.{Walk}
 use Rattle.spread.specs.Inner.{outerOf, innerOf, startOf, walkOf, combinedStats, CanCombine}

@@ -5,8 +5,9 @@ use borrow.Author.Needs.{needs}
 use denote.Ref.{now}
 use Rattle.table.specs.Table.{viewOf}
 use Rattle.sums.specs.Inner.{binCell}
-use Rattle.sums.specs.Box.{binSum}
-use Rattle.sums.proofs.Corners.{third-from, from-least, from-is, from-start}
+use Rattle.bins.specs.Sum.{binSum}
+use Rattle.bins.proofs.Runs.{third-from}
+use Rattle.sums.proofs.Corners.{from-least, from-is, from-start}
 use Rattle.sums.proofs.box_sums.bins_from.Statement.{statement}
 use Rattle.sums.proofs.box_sums.bins_from.Tie as tie
 

@@ -3,12 +3,14 @@
 use mathlib.Core.Path.{_≡_}
 use Prim.Native.Nat.{ℕ, _+_, _-_, _≤_}
 use native.Mathlib.Nat.{le-trans, le-of-lt}
+use native.Mathlib.Omega.{arith}
 use borrow.Author.Needs.{needs}
 use denote.Ref.{now}
 use Rattle.table.specs.Table.{viewOf}
 use Rattle.sums.specs.Inner.{binCell}
-use Rattle.sums.specs.Box.{binSum, boxSum, boxCell}
-use Rattle.sums.proofs.Corners.{first-from, from-least, from-is, from-start}
+use Rattle.bins.specs.Sum.{binSum, boxSum, boxCell}
+use Rattle.bins.proofs.Runs.{first-from}
+use Rattle.sums.proofs.Corners.{from-least, from-is, from-start}
 use Rattle.boxes.proofs.Within.{sides}
 use Rattle.sums.proofs.box_sums.box_cell.Statement.{statement}
 use Rattle.sums.proofs.box_sums.box_cell.Tie as tie
@@ -31,7 +33,15 @@ slab-requires : tie.Need-slab-requires
 slab-requires c κs =
     let s = c .before .before .before in
     let e = sides (s .pre .1) in (
-      record { can-sum = s .pre .0; one = e .one-fits; two = e .two-fits; three = e .three-fits },
+      record {
+        can-sum = s .pre .0;
+        some-one = omega (arith, e .one);
+        one = e .one-fits;
+        some-two = omega (arith, e .two);
+        two = e .two-fits;
+        some-three = omega (arith, e .three);
+        three = e .three-fits;
+      },
       le-of-lt
           (e .two),
       le-of-lt (e .three),
@@ -53,10 +63,12 @@ slab-requires-2 c κs =
     let e = sides (s .pre .1) in (
       record {
         can-sum = s .pre .0;
+        some-one = omega (arith, c .before .if1 .left);
         one = le-trans (le-of-lt (e .one)) (e .one-fits);
+        some-two = omega (arith, e .two);
         two = e .two-fits;
-        three =
-            e .three-fits;
+        some-three = omega (arith, e .three);
+        three = e .three-fits;
       },
       le-of-lt (e .two),
       le-of-lt (e .three),

@@ -1,28 +1,61 @@
--- `sums::box_sum` meets its contract: the statistics of the five sums of the box.
+-- `sums::box_sum` meets its contract: the statistics of the five sums of the box, from where they come.
 -- Assumes nothing.
+use mathlib.Core.Path.{subst}
+use borrow.Author.Needs.{needs}
 use denote.Ref.{now}
+use Rattle.table.specs.Sound.{limit}
 use Rattle.table.specs.Table.{viewOf}
-use Rattle.sums.specs.Box.{boxSum, boxCell, statsOf}
-use Rattle.sums.proofs.Corners.{box-squares, cell-squares, cell-stats}
+use Rattle.bins.specs.Sum.{boxSum, boxCell}
+use Rattle.bins.proofs.Laws.{box-squares}
+use Rattle.sums.specs.declared.source.Source.{Source}
+use Rattle.sums.specs.Box.{statsOf}
+use Rattle.sums.specs.Moments.{CanSum}
+use Rattle.sums.proofs.Corners.{cell-squares, cell-stats}
 use Rattle.sums.proofs.box_sums.box_sum.Statement.{statement}
 use Rattle.sums.proofs.box_sums.box_sum.Tie as tie
 
+enum-told : tie.Need-enum-told
+enum-told c = search needs
+
 box-cell-requires : tie.Need-box-cell-requires
-box-cell-requires c κs = c .before .before .pre
+box-cell-requires c κs =
+    let s = c .before .before .before .before in (
+      subst (λ (x : Source). CanSum limit x (s .args .g) (now (s .args .table)) (now (s .args .work)))
+          (c .enum-told .given .1) (s .pre .0),
+      s .pre .1,
+    )
 
 stats-of-requires : tie.Need-stats-of-requires
 unfolding boxCell
 stats-of-requires c κs =
-    let s = c .before .before .before in
+    let s = c .before .before .before .before .before in
     cell-squares (boxSum (s .args .g) (viewOf (now (s .args .table))) (s .args .x)) (c .box-cell .ensures)
     (box-squares (record { holds = s .pre .0 .is-sound }) (s .pre .1))
+
+enum-told-2 : tie.Need-enum-told-2
+enum-told-2 c = search needs
+
+sum-of-bins-requires : tie.Need-sum-of-bins-requires
+sum-of-bins-requires c κs = search needs
 
 returns : tie.Need-returns
 unfolding boxCell statsOf
 returns c =
-    let s = c .before .before .before .before in
+    let s = c .before .before .before .before .before .before in
     cell-stats (boxSum (s .args .g) (viewOf (now (s .args .table))) (s .args .x)) (c .before .box-cell .ensures)
     (c .stats-of .ensures)
 
+returns-2 : tie.Need-returns-2
+returns-2 c = search needs
+
 pub box-sum-spec : {M : Type 1} → statement M
-box-sum-spec = tie.close (tie.spec box-cell-requires stats-of-requires returns)
+box-sum-spec =
+    tie.close
+    (tie.spec
+    enum-told
+    box-cell-requires
+    stats-of-requires
+    enum-told-2
+    sum-of-bins-requires
+    returns
+    returns-2)

@@ -3,12 +3,14 @@
 use mathlib.Core.Path.{_≡_}
 use Prim.Native.Nat.{ℕ, _+_, _-_, _≤_}
 use native.Mathlib.Nat.{le-trans}
+use native.Mathlib.Omega.{arith}
 use borrow.Author.Needs.{needs}
 use denote.Ref.{now}
 use Rattle.table.specs.Table.{viewOf}
 use Rattle.sums.specs.Inner.{binCell}
-use Rattle.sums.specs.Box.{binSum}
-use Rattle.sums.proofs.Corners.{second-from, from-least, from-is, from-start}
+use Rattle.bins.specs.Sum.{binSum}
+use Rattle.bins.proofs.Runs.{second-from}
+use Rattle.sums.proofs.Corners.{from-least, from-is, from-start}
 use Rattle.sums.proofs.box_sums.slab.Statement.{statement}
 use Rattle.sums.proofs.box_sums.slab.Tie as tie
 
@@ -47,8 +49,18 @@ cast-bins-from-2 c = search needs
 bins-from-requires-2 : tie.Need-bins-from-requires-2
 bins-from-requires-2 c κs =
     let s = c .before .before .before .before .before .before .before .before .before in
-    let k = s .pre .0 in
-    (record { can-sum = k .can-sum; one = k .one; two = le-trans (s .pre .1) (k .two); three = k .three }, s .pre .2)
+    let k = s .pre .0 in (
+      record {
+        can-sum = k .can-sum;
+        some-one = k .some-one;
+        one = k .one;
+        some-two = omega (arith, c .before .if1 .left);
+        two = le-trans (s .pre .1) (k .two);
+        some-three = k .some-three;
+        three = k .three;
+      },
+      s .pre .2,
+    )
 
 minus-requires : tie.Need-minus-requires
 unfolding binCell

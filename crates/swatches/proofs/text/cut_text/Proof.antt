@@ -4,6 +4,7 @@ use mathlib.Core.Path.{ap, _∙_}
 use native.Mathlib.Omega.{arith}
 use Rattle.cutter.proofs.RecordSize.{few}
 use borrow.Author.Needs.{needs}
+use Rattle.sums.specs.declared.source.Source.the-variants.{Moments}
 use Rattle.cutter.specs.Cut.{cutRecord, cutLater}
 use Rattle.lines.proofs.Texts.{lent-zeros}
 use Rattle.swatches.specs.Swatches.{numbersOf}
@@ -38,7 +39,7 @@ same-length c = search needs
 returns : tie.Need-returns
 returns c =
     let cut = c .before .before .before .before .before .before .before .before .before .before .before .cut in
-    rw (cut-refused _ (cut .ensures .0 ∙ ap (cutRecord 8 8 8 16 _) lent-zeros)
+    rw (cut-refused _ (cut .ensures .0 ∙ ap (cutRecord Moments 8 8 8 16 _) lent-zeros)
     (c .before .before .before .before .if1 .taken))
     (c .before .before .refused .ensures)
 
@@ -65,7 +66,7 @@ swatch-lines-requires c κs =
     let nearest = c .before .before .before .before .before in
     let cut = nearest .before .before .before .before .before .before .before .before .before .before in
     let room = cut .before .before .before .before .before .before .before .before .pre in
-    let h = few 16 (omega arith) (omega arith) _ 8 8 8 _ (cut .cut .ensures .0) in
+    let h = few Moments 16 (omega arith) (omega arith) _ 8 8 8 _ (cut .cut .ensures .0) in
     search needs
 
 same-length-2 : tie.Need-same-length-2
@@ -78,8 +79,8 @@ returns-2 c =
     let nearest = listed .before .before .before .before .before .before in
     let cut = nearest .before .before .before .before .before .before .before .before .before .before .cut in
     rw (
-      cut-listed _ (cut .ensures .0 ∙ ap (cutRecord 8 8 8 16 _) lent-zeros)
-          (cut .ensures .1 ∙ ap (cutLater 8 8 8 16 _) lent-zeros)
+      cut-listed _ (cut .ensures .0 ∙ ap (cutRecord Moments 8 8 8 16 _) lent-zeros)
+          (cut .ensures .1 ∙ ap (cutLater Moments 8 8 8 16 _) lent-zeros)
           (nearest .before .before .before .if1 .left),
       ← nearest .nearest .ensures .1,
     )
