@@ -337,8 +337,8 @@ seluvava_cut(size_t b1, size_t b2, size_t b3, size_t k,
  *             as for cut.
  *
  * A round adds up all bins of its box less than b1 + b2 + b3 times. So the time grows with the bins times the three
- * sizes together, and twice each size takes about 16 times as long: expect milliseconds at 16,32,16, some hundredths of
- * a second at 32,32,32, and 5 to 15 seconds at 128,128,128. docs/SPEED.md has measured times.
+ * sizes together, and twice each size takes about 16 times as long: expect milliseconds at 16,32,16, ten times that at
+ * 32,32,32, and 5 to 15 seconds at 128,128,128. docs/SPEED.md has measured times.
  *
  * Answers 0, 1, 2, 5, 6, 8.
  */

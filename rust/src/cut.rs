@@ -216,8 +216,8 @@ impl Table {
     /// are needed. The cut is the same, and so are the refusals.
     ///
     /// It is for where there is no room for a second table, and to hold the other cut to. Its time grows with the
-    /// grid's bins times its three sizes together, so that twice each size takes about 16 times as long: some
-    /// milliseconds at 32,32,32, some seconds at 128,128,128.
+    /// grid's bins times its three sizes together, so that twice each size takes about 16 times as long: ten
+    /// milliseconds or more at 32,32,32, some seconds at 128,128,128.
     ///
     /// # Errors
     ///
