@@ -14,16 +14,17 @@ use lib.ListN.{length}
 use Rattle.grid.specs.declared.place.Grid.{Grid}
 use Rattle.grid.specs.declared.place.Chosen.the-variants as chosen
 use Rattle.grid.specs.Grid.{gridOf, binsOf}
-use Rattle.table.specs.Table.{Table, viewOf, written}
-use Rattle.table.specs.Sound.{limit}
-use Rattle.table.proofs.Tables.{list-holds}
+use Rattle.table.specs.declared.layout.Layout.{Layout}
+use Rattle.table.specs.Layout.{TableIn, viewIn, writtenIn}
+use Rattle.table.specs.Sound.{limitOf}
+use Rattle.table.proofs.Layouts.{list-holds-in}
 use Rattle.loader.specs.declared.add.Added.{Added}
 use Rattle.loader.specs.declared.add.Added.the-variants.{Total, Passed}
-use Rattle.loader.specs.Load.{Weighted, weightOf, loaded, scaledWeights, loadNumber, loadLater}
-use Rattle.loader.specs.Add.{Known, Whole, scaledBatch, addedTo, addedAnswer, addedLater}
+use Rattle.loader.specs.Load.{Weighted, weightOf, loaded, scaledWeights, loadNumberIn, loadLaterIn}
+use Rattle.loader.specs.Add.{KnownIn, Whole, scaledBatch, addedTo, addedAnswerIn, addedLaterIn}
 use Rattle.loader.specs.Inner.{heldTo}
 use Rattle.loader.proofs.Loading.{AllBytes, held-sound, held-total}
-use Rattle.loader.proofs.Calls.{pairs, load-over, load-done}
+use Rattle.loader.proofs.Calls.{pairs, load-over, load-done-in}
 use Rattle.loader.proofs.Scaled.{scaled-pairs}
 
 -- ---- the two cases
@@ -68,43 +69,45 @@ module _ (most had : ℕ) (cs : List Weighted) where
   passed-means e =
       leb-false (had + weightOf cs) most (cond-passed (leb (had + weightOf cs) most) (had + weightOf cs) e)
 
-  module _ (g : Grid) (t : Table) where
-    abbrev after : Table
-    after = written (binsOf g) (loaded g cs (viewOf t))
+  module _ (l : Layout) (g : Grid) (t : TableIn l) where
+    abbrev after : TableIn l
+    after = writtenIn l (binsOf g) (loaded g cs (viewIn l t))
 
     pub later-fits : had + weightOf cs ≤ most
-        → addedLater most g t had cs ≡ written (binsOf g) (loaded g cs (viewOf t))
-    unfolding addedLater
+        → addedLaterIn l most g t had cs ≡ writtenIn l (binsOf g) (loaded g cs (viewIn l t))
+    unfolding addedLaterIn
     later-fits h = ap (λ (b : Bool). cond b after t) (le-leb (had + weightOf cs) most h)
 
-    pub later-passes : most < had + weightOf cs → addedLater most g t had cs ≡ t
-    unfolding addedLater
+    pub later-passes : most < had + weightOf cs → addedLaterIn l most g t had cs ≡ t
+    unfolding addedLaterIn
     later-passes h = ap (λ (b : Bool). cond b after t) (lt-leb (had + weightOf cs) most h)
 
 -- ---- the table is known after it
-module _ {most : ℕ} {g : Grid} {t : Table} {had : ℕ} (k : Known most g t had) (cs : List Weighted) where
-  pub known-after : AllBytes cs → {n : ℕ} → addedTo most had cs ≡ Total n → Known most g (addedLater most g t had cs) n
+module _ {l : Layout} {most : ℕ} {g : Grid} {t : TableIn l} {had : ℕ} (k : KnownIn l most g t had)
+    (cs : List Weighted) where
+  pub known-after : AllBytes cs → {n : ℕ} → addedTo most had cs ≡ Total n
+      → KnownIn l most g (addedLaterIn l most g t had cs) n
   known-after bytes e =
       let m = total-means most had cs e in
       let a = k .table .accepted in
-      let same = later-fits most had cs g t (m .0) in
-      let holds = list-holds (binsOf g) (loaded g cs (viewOf t)) in
+      let same = later-fits most had cs l g t (m .0) in
+      let holds = list-holds-in l (binsOf g) (loaded g cs (viewIn l t)) in
       rw same
       (record {
         table = record { accepted = a; lent = holds .lent };
         is-sound =
-            held-sound a cs bytes (viewOf t) holds (record { holds = k .is-sound })
+            held-sound a cs bytes (viewIn l t) holds (record { holds = k .is-sound })
             (subst (λ (x : ℕ). x + weightOf cs ≤ most) (k .total-is) (m .0)) .holds;
         total-is =
-            m .1 ∙ ap (λ (x : ℕ). x + weightOf cs) (k .total-is) ∙ sym (held-total a cs bytes (viewOf t) holds);
+            m .1 ∙ ap (λ (x : ℕ). x + weightOf cs) (k .total-is) ∙ sym (held-total a cs bytes (viewIn l t) holds);
       })
 
-  pub known-still : addedTo most had cs ≡ Passed → Known most g (addedLater most g t had cs) had
-  known-still e = rw (later-passes most had cs g t (passed-means most had cs e)) k
+  pub known-still : addedTo most had cs ≡ Passed → KnownIn l most g (addedLaterIn l most g t had cs) had
+  known-still e = rw (later-passes most had cs l g t (passed-means most had cs e)) k
 
 -- ---- it is what a load says
-module _ (b1 b2 b3 : ℕ) {g : Grid} (e : gridOf b1 b2 b3 ≡ chosen.Accepted g) {t : Table} {had : ℕ}
-    (k : Known limit g t had) {colours : List ℕ} {weighted : Bool} {weights : List ℕ}
+module _ (b1 b2 b3 : ℕ) {g : Grid} (e : gridOf b1 b2 b3 ≡ chosen.Accepted g) {l : Layout} {t : TableIn l} {had : ℕ}
+    (k : KnownIn l (limitOf l) g t had) {colours : List ℕ} {weighted : Bool} {weights : List ℕ}
     (w : Whole colours weighted weights) (scale : ℕ) where
   abbrev cs : List Weighted
   cs = scaledBatch scale colours weighted weights
@@ -119,31 +122,31 @@ module _ (b1 b2 b3 : ℕ) {g : Grid} (e : gridOf b1 b2 b3 ≡ chosen.Accepted g)
 
   abbrev Says : Type 0
   Says =
-      (loadNumber b1 b2 b3 t colours true scaled ≡ addedAnswer (addedTo limit had cs) .number)
-      × (loadLater b1 b2 b3 t colours true scaled ≡ addedLater limit g t had cs)
+      (loadNumberIn l b1 b2 b3 t colours true scaled ≡ addedAnswerIn l (addedTo (limitOf l) had cs) .number)
+      × (loadLaterIn l b1 b2 b3 t colours true scaled ≡ addedLaterIn l (limitOf l) g t had cs)
 
   says : Says
-  says = go (decLe (had + weightOf cs) limit)
+  says = go (decLe (had + weightOf cs) (limitOf l))
     where
-      go : Dec (had + weightOf cs ≤ limit) → Says
+      go : Dec (had + weightOf cs ≤ limitOf l) → Says
       go (yes h) =
-          let l = load-done b1 b2 b3 t colours true scaled e (w .threes) paired (k .table .lent) (k .is-sound)
-          (subst (λ (x : ℕ). x + weightOf cs ≤ limit) (k .total-is) h) refl in (
-            sym (l .0) ∙ ap (λ (a : Added). addedAnswer a .number) (sym (added-fits limit had cs h)),
-            sym (l .1) ∙ sym (later-fits limit had cs g t h),
+          let q = load-done-in l b1 b2 b3 t colours true scaled e (w .threes) paired (k .table .lent) (k .is-sound)
+          (subst (λ (x : ℕ). x + weightOf cs ≤ limitOf l) (k .total-is) h) refl in (
+            sym (q .0) ∙ ap (λ (a : Added). addedAnswerIn l a .number) (sym (added-fits (limitOf l) had cs h)),
+            sym (q .1) ∙ sym (later-fits (limitOf l) had cs l g t h),
           )
       go (no n) =
           let h = lt-of-not-le n in
-          let l = load-over b1 b2 b3 t colours true scaled e (w .threes) paired (k .table .lent) (k .is-sound)
-          (subst (λ (x : ℕ). limit < x + weightOf cs) (k .total-is) h) in (
-            sym (l .0) ∙ ap (λ (a : Added). addedAnswer a .number) (sym (added-passes limit had cs h)),
-            sym (l .1) ∙ sym (later-passes limit had cs g t h),
+          let q = load-over l b1 b2 b3 t colours true scaled e (w .threes) paired (k .table .lent) (k .is-sound)
+          (subst (λ (x : ℕ). limitOf l < x + weightOf cs) (k .total-is) h) in (
+            sym (q .0) ∙ ap (λ (a : Added). addedAnswerIn l a .number) (sym (added-passes (limitOf l) had cs h)),
+            sym (q .1) ∙ sym (later-passes (limitOf l) had cs l g t h),
           )
 
-  pub number-says : loadNumber b1 b2 b3 t colours true (scaledWeights scale (length colours / 3) weighted weights)
-      ≡ addedAnswer (addedTo limit had (scaledBatch scale colours weighted weights)) .number
+  pub number-says : loadNumberIn l b1 b2 b3 t colours true (scaledWeights scale (length colours / 3) weighted weights)
+      ≡ addedAnswerIn l (addedTo (limitOf l) had (scaledBatch scale colours weighted weights)) .number
   number-says = says .0
 
-  pub later-says : loadLater b1 b2 b3 t colours true (scaledWeights scale (length colours / 3) weighted weights)
-      ≡ addedLater limit g t had (scaledBatch scale colours weighted weights)
+  pub later-says : loadLaterIn l b1 b2 b3 t colours true (scaledWeights scale (length colours / 3) weighted weights)
+      ≡ addedLaterIn l (limitOf l) g t had (scaledBatch scale colours weighted weights)
   later-says = says .1

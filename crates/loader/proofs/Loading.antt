@@ -22,13 +22,14 @@ use Rattle.basics.proofs.Range.{sum-plus, sum-zero, sum-hit, hit}
 use Rattle.grid.proofs.Size.{span-low, span-high}
 use Rattle.grid.proofs.Places.{Bytes, colour-bin, colour-place-lt}
 use Rattle.table.specs.Cell.{View}
-use Rattle.table.specs.Table.{Table, viewOf}
+use Rattle.table.specs.declared.layout.Layout.{Layout}
+use Rattle.table.specs.Layout.{TableIn, viewIn}
 use Rattle.table.specs.Sound.{spanAt, total}
 use Rattle.loader.specs.Load.{Weighted, share, adds, sumOver, weightOf, loaded}
 use Rattle.table.proofs.Soundness.{Keeps, keeps-zero, keeps-plus, squares-above, squares-below}
 use Rattle.table.proofs.Soundness.{Sound, sound-by, sound-keeps, sound-same, total-is}
 use Rattle.table.proofs.Soundness.{total-same, span-is}
-use Rattle.table.proofs.Tables.{Holds}
+use Rattle.table.proofs.Layouts.{HoldsIn}
 
 -- ---- sums over a list of colours
 pub over-append : (cs ds : List Weighted) (f : Weighted → ℕ) → sumOver (cs ++ ds) f ≡ sumOver cs f + sumOver ds f
@@ -154,14 +155,14 @@ module _ {g : Grid} (a : Accepted g) where
       (omega (arith, load-total cs b v))
 
 -- ---- a table that holds what was there with colours loaded
-module _ {g : Grid} (a : Accepted g) (cs : List Weighted) (b : AllBytes cs) (v : View) {s : Table}
-    (holds : Holds (binsOf g) s (loaded g cs v)) where
-  pub held-sound : {most : ℕ} → Sound most g v → total g v + weightOf cs ≤ most → Sound most g (viewOf s)
+module _ {g : Grid} (a : Accepted g) (cs : List Weighted) (b : AllBytes cs) (v : View) {l : Layout}
+    {s : TableIn l} (holds : HoldsIn l (binsOf g) s (loaded g cs v)) where
+  pub held-sound : {most : ℕ} → Sound most g v → total g v + weightOf cs ≤ most → Sound most g (viewIn l s)
   held-sound {most} k u =
-      record { holds = sound-same g (viewOf s) (loaded g cs v) (holds .at) most ∙ load-sound a cs b k u .holds }
+      record { holds = sound-same g (viewIn l s) (loaded g cs v) (holds .at) most ∙ load-sound a cs b k u .holds }
 
-  pub held-total : total g (viewOf s) ≡ total g v + weightOf cs
-  held-total = total-same g (viewOf s) (loaded g cs v) (holds .at) ∙ load-total a cs b v
+  pub held-total : total g (viewIn l s) ≡ total g v + weightOf cs
+  held-total = total-same g (viewIn l s) (loaded g cs v) (holds .at) ∙ load-total a cs b v
 
 -- number j of place p, after a load and by what one colour adds to it
 pub loaded-at : (g : Grid) (cs : List Weighted) (v : View) (p j : ℕ)

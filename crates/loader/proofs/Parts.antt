@@ -20,12 +20,14 @@ use Rattle.pixels.proofs.EqualColours.{one-colour}
 use Rattle.basics.proofs.Range.{and-left, and-right, sum-append, sum-grow, sum-equal, sum-scale}
 use Rattle.grid.proofs.Places.{Bytes, colour-place-lt}
 use Rattle.table.specs.Cell.{View, numberOf, cellOf}
-use Rattle.table.specs.Table.{Table, Sized, viewOf}
-use Rattle.table.specs.Sound.{limit}
+use Rattle.table.specs.declared.layout.Layout.{Layout}
+use Rattle.table.specs.Layout.{TableIn, SizedIn, viewIn}
+use Rattle.table.specs.Sound.{limitOf}
 use Rattle.loader.specs.Load.{Weighted, share, adds, sumOver, weightOf, loaded, weightedAt, batchOf}
 use Rattle.loader.specs.Inner.{lastEqual, scaledAt, partOf, withPart, withColour, CellFits, PartFits}
-use Rattle.table.proofs.Soundness.{number-below, sound-held}
-use Rattle.table.proofs.Tables.{has-cell, Holds, holds-same, holds-itself, list-holds, add-holds}
+use Rattle.table.proofs.Soundness.{number-below, limit-high}
+use Rattle.table.proofs.Layouts.{HoldsIn, cell-in, holds-same-in, holds-itself-in, list-holds-in, add-holds-in}
+use Rattle.table.proofs.Layouts.{sound-held-in}
 use Rattle.table.proofs.Cells.{number-cell, number-plus}
 use Rattle.loader.proofs.Loading.{over-list, AllBytes, load-sound, held-sound, held-total}
 
@@ -99,12 +101,13 @@ over-part i n m c f =
     ∙ sym (over-list i (n + m) c f)
 
 -- more colours loaded into a table that holds what was there with some loaded
-held-more : (g : Grid) (v : View) (s e : Table) (i n m : ℕ) (c : ℕ → Weighted)
-    → Holds (binsOf g) s (loaded g (listFrom i n c) v) → Holds (binsOf g) e (loaded g (listFrom (i + n) m c) (viewOf s))
-    → Holds (binsOf g) e (loaded g (listFrom i (n + m) c) v)
+held-more : (l : Layout) (g : Grid) (v : View) (s e : TableIn l) (i n m : ℕ) (c : ℕ → Weighted)
+    → HoldsIn l (binsOf g) s (loaded g (listFrom i n c) v)
+    → HoldsIn l (binsOf g) e (loaded g (listFrom (i + n) m c) (viewIn l s))
+    → HoldsIn l (binsOf g) e (loaded g (listFrom i (n + m) c) v)
 unfolding loaded
-held-more g v s e i n m c first then =
-    holds-same then
+held-more l g v s e i n m c first then =
+    holds-same-in then
     (λ p j h k.
     ap (λ (x : ℕ). x + sumOver (listFrom (i + n) m c) (λ d. adds g d p j)) (first .at p j h k)
     ∙ add-assoc (v p j) (sumOver (listFrom i n c) (λ d. adds g d p j))
@@ -164,68 +167,77 @@ all-bytes-of colours weighted weights h =
     run-bytes 0 (length colours / 3) (weightedAt colours weighted weights) (colour-bytes colours h)
 
 -- before the first of them
-pub held-none : (g : Grid) (t : Table) (scale : ℕ) (colours : List ℕ) (weighted : Bool) (weights : List ℕ) (i : ℕ)
-    → Sized t (binsOf g) → Holds (binsOf g) t (loaded g (partOf scale colours weighted weights i 0) (viewOf t))
+pub held-none : (l : Layout) (g : Grid) (t : TableIn l) (scale : ℕ) (colours : List ℕ) (weighted : Bool)
+    (weights : List ℕ) (i : ℕ) → SizedIn l t (binsOf g)
+    → HoldsIn l (binsOf g) t (loaded g (partOf scale colours weighted weights i 0) (viewIn l t))
 unfolding loaded partOf listFrom sumOver
-held-none g t scale colours weighted weights i e =
-    holds-same (holds-itself (binsOf g) t e) (λ p j h k. sym (add-zero (viewOf t p j)))
+held-none l g t scale colours weighted weights i e =
+    holds-same-in (holds-itself-in l (binsOf g) t e) (λ p j h k. sym (add-zero (viewIn l t p j)))
 
 -- after the first m of n colours that fit, those that follow fit
-module _ {most : ℕ} {g : Grid} {t : Table} {scale : ℕ} {colours : List ℕ} {weighted : Bool} {weights : List ℕ} {i n : ℕ}
-    (fits : PartFits most g t scale colours weighted weights i n) (bytes : (k : ℕ) → getD colours k 0 < 256)
-    {s : Table} (m : ℕ)
-    (holds : Holds (binsOf g) s (loaded g (partOf scale colours weighted weights i m) (viewOf t))) where
-  part-within : (l : ℕ) → m + l ≤ n
+module _ {l : Layout} {g : Grid} {t : TableIn l} {scale : ℕ} {colours : List ℕ} {weighted : Bool} {weights : List ℕ}
+    {i n : ℕ} (fits : PartFits l g t scale colours weighted weights i n) (bytes : (k : ℕ) → getD colours k 0 < 256)
+    {s : TableIn l} (m : ℕ)
+    (holds : HoldsIn l (binsOf g) s (loaded g (partOf scale colours weighted weights i m) (viewIn l t))) where
+  part-within : (r : ℕ) → m + r ≤ n
       → weightOf (partOf scale colours weighted weights i m)
-      + weightOf (partOf scale colours weighted weights (i + m) l)
+      + weightOf (partOf scale colours weighted weights (i + m) r)
       ≤ weightOf (partOf scale colours weighted weights i n)
   unfolding partOf weightOf
-  part-within l h =
+  part-within r h =
       let c = scaledAt scale colours weighted weights in
       omega (
         arith,
-        over-part i m l c (λ d. d .weight),
-        over-list i (m + l) c (λ d. d .weight),
+        over-part i m r c (λ d. d .weight),
+        over-list i (m + r) c (λ d. d .weight),
         over-list i n c (λ d. d .weight),
-        sum-grow i (m + l) n (λ k. c k .weight) h,
+        sum-grow i (m + r) n (λ k. c k .weight) h,
       )
 
-  pub fits-later : (at l : ℕ) → at ≡ i + m → m + l ≤ n → PartFits most g s scale colours weighted weights at l
-  fits-later at l e h =
+  pub fits-later : (at r : ℕ) → at ≡ i + m → m + r ≤ n → PartFits l g s scale colours weighted weights at r
+  fits-later at r e h =
       let a = fits .table .accepted in
       let first = partOf scale colours weighted weights i m in
       let b = part-bytes scale colours weighted weights bytes i m in
-      let within = part-within l h in
+      let within = part-within r h in
       record {
         scaled = fits .scaled;
         table = record { accepted = a; lent = holds .lent };
         is-sound =
-            held-sound a first b (viewOf t) holds (record { holds = fits .is-sound })
+            held-sound a first b (viewIn l t) holds (record { holds = fits .is-sound })
             (omega (arith, fits .under)) .holds;
         there = omega (arith, fits .there);
         one-each = fits .one-each;
-        under = rw e (omega (arith, held-total a first b (viewOf t) holds, fits .under));
+        under = rw e (omega (arith, held-total a first b (viewIn l t) holds, fits .under));
       }
 
-  pub held-later : (at l : ℕ) → at ≡ i + m → {e : Table}
-      → Holds (binsOf g) e (loaded g (partOf scale colours weighted weights at l) (viewOf s))
-      → Holds (binsOf g) e (loaded g (partOf scale colours weighted weights i (m + l)) (viewOf t))
+  pub held-later : (at r : ℕ) → at ≡ i + m → {e : TableIn l}
+      → HoldsIn l (binsOf g) e (loaded g (partOf scale colours weighted weights at r) (viewIn l s))
+      → HoldsIn l (binsOf g) e (loaded g (partOf scale colours weighted weights i (m + r)) (viewIn l t))
   unfolding partOf
-  held-later at l q {e} more =
-      held-more g (viewOf t) s e i m l (scaledAt scale colours weighted weights) holds (rw q at more)
+  held-later at r q {e} more =
+      held-more l g (viewIn l t) s e i m r (scaledAt scale colours weighted weights) holds (rw q at more)
+
+-- a scale and whether weights are given, where they are known, can be said by constants
+pub constants : {l : Layout} {g : Grid} {t : TableIn l} {m n : ℕ} {colours : List ℕ} {a b : Bool} {weights : List ℕ}
+    {at r : ℕ}
+    → m ≡ n → a ≡ b → PartFits l g t m colours a weights at r → PartFits l g t n colours b weights at r
+constants {l} {g} {t} {m} {n} {colours} {a} {b} {weights} {at} {r} e q fits =
+    subst (λ (x : ℕ). PartFits l g t x colours b weights at r) e
+    (subst (λ (x : Bool). PartFits l g t m colours x weights at r) q fits)
 
 -- a table with colours added holds what was there with them loaded
-pub part-held : (g : Grid) (t : Table) (scale : ℕ) (colours : List ℕ) (weighted : Bool) (weights : List ℕ) (i n : ℕ)
-    {e : Table}
-    → e ≡ withPart g t scale colours weighted weights i n
-    → Holds (binsOf g) e (loaded g (partOf scale colours weighted weights i n) (viewOf t))
+pub part-held : (l : Layout) (g : Grid) (t : TableIn l) (scale : ℕ) (colours : List ℕ) (weighted : Bool)
+    (weights : List ℕ) (i n : ℕ) (e : TableIn l)
+    → e ≡ withPart l g t scale colours weighted weights i n
+    → HoldsIn l (binsOf g) e (loaded g (partOf scale colours weighted weights i n) (viewIn l t))
 unfolding withPart
-part-held g t scale colours weighted weights i n r =
-    rw r (list-holds (binsOf g) (loaded g (partOf scale colours weighted weights i n) (viewOf t)))
+part-held l g t scale colours weighted weights i n e r =
+    rw r (list-holds-in l (binsOf g) (loaded g (partOf scale colours weighted weights i n) (viewIn l t)))
 
 -- equal colours that fit can be added at once
-module _ {most : ℕ} {g : Grid} {t : Table} {scale : ℕ} {colours : List ℕ} {weighted : Bool} {weights : List ℕ} {i n : ℕ}
-    (fits : PartFits most g t scale colours weighted weights i n) (bytes : (k : ℕ) → getD colours k 0 < 256)
+module _ {l : Layout} {g : Grid} {t : TableIn l} {scale : ℕ} {colours : List ℕ} {weighted : Bool} {weights : List ℕ}
+    {i n : ℕ} (fits : PartFits l g t scale colours weighted weights i n) (bytes : (k : ℕ) → getD colours k 0 < 256)
     (same : (k : ℕ) → k < n → colourAt colours (i + k) ≡ colourAt colours i)
     {x : Rgb} (p : x ≡ colourAt colours i) {w : ℕ}
     (q : w ≡ scale * cond weighted (sumFrom i n (λ k. getD weights k 0)) n) where
@@ -247,35 +259,39 @@ module _ {most : ℕ} {g : Grid} {t : Table} {scale : ℕ} {colours : List ℕ} 
       (λ m. adds g (record { colour = p m; weight = (q ∙ sym (part-weight scale colours weighted weights i n)) m }) r j)
       ∙ sym (run-adds g (colourAt colours i) (scaledAt scale colours weighted weights) r j i n same)
 
-  pub light : w ≤ most
+  pub light : w ≤ limitOf l
   light = omega (arith, q, part-weight scale colours weighted weights i n, fits .under)
 
-  pub has-room : most ≤ limit → CellFits t (colourPlace g x) (cellOf (share (record { colour = x; weight = w })))
+  pub has-room : CellFits l t (colourPlace g x) (cellOf (share (record { colour = x; weight = w })))
   unfolding adds loaded
-  has-room m =
+  has-room =
       let a = fits .table .accepted in
       let after =
       load-sound a these (part-bytes scale colours weighted weights bytes i n) (record { holds = fits .is-sound })
       (fits .under) in
       let sums : (j : ℕ) → j < 5
-      → numberOf (cellOf (viewOf t place)) j + numberOf (cellOf (share it)) j ≡ loaded g these (viewOf t) place j =
+      → numberOf (cellOf (viewIn l t place)) j + numberOf (cellOf (share it)) j ≡ loaded g these (viewIn l t) place j =
       λ j k.
-      (λ r. number-cell (viewOf t place) j k r + number-cell (share it) j k r)
-      ∙ ap (λ (y : ℕ). viewOf t place j + y)
+      (λ r. number-cell (viewIn l t place) j k r + number-cell (share it) j k r)
+      ∙ ap (λ (y : ℕ). viewIn l t place j + y)
       (ap (λ (b : Bool). cond b (share it j) 0) (sym (eq-eqb place place refl)) ∙ adds-it place j) in
       record {
-        cell = has-cell (fits .table .lent) place inside;
-        sums = record { fits = λ j k. rw (sums j k) (lt-trans (number-below a after place inside m j k) (lit< tt)) };
-        held = sound-held a after place inside m (λ j k. number-plus _ _ j k ∙ sums j k);
+        cell = cell-in l t (binsOf g) (fits .table .lent) place inside;
+        sums =
+            record {
+              fits = λ j k. rw (sums j k) (lt-trans (number-below a after place inside (limit-high l) j k) (lit< tt));
+            };
+        held = sound-held-in l a after place inside _ (λ j k. number-plus _ _ j k ∙ sums j k);
       }
 
-  pub at-once : {e : Table} → e ≡ withColour g t (record { colour = x; weight = w })
-      → Holds (binsOf g) e (loaded g (partOf scale colours weighted weights i n) (viewOf t))
+  pub at-once : (e : TableIn l) → e ≡ withColour l g t (record { colour = x; weight = w })
+      → HoldsIn l (binsOf g) e (loaded g (partOf scale colours weighted weights i n) (viewIn l t))
   unfolding withColour adds loaded
-  at-once r =
+  at-once e r =
       rw r
-      (holds-same (add-holds (holds-itself (binsOf g) t (fits .table .lent)) place (cellOf (share it)) inside)
-      (λ q j l k. ap (λ (y : ℕ). viewOf t q j + y)
+      (holds-same-in (add-holds-in (holds-itself-in l (binsOf g) t (fits .table .lent)) place
+      (cellOf (share it)) inside)
+      (λ q j h k. ap (λ (y : ℕ). viewIn l t q j + y)
       (ap (λ (y : ℕ). cond (eqb place q) y 0) (number-cell (share it) j k) ∙ adds-it q j)))
 
 -- a colour by itself is one, with its own weight

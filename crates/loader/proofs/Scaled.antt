@@ -18,10 +18,11 @@ use Rattle.grid.specs.Grid.{gridOf, onGrid, numberOn, binsOf}
 use Rattle.pixels.specs.Colour.{colourAt}
 use Rattle.basics.proofs.Range.{length-list, list-at}
 use Rattle.basics.proofs.Lists.{list-same}
-use Rattle.table.specs.Table.{Table, isSized, viewOf, written}
-use Rattle.table.specs.Sound.{limit, total, sound, unsoundNumber}
+use Rattle.table.specs.declared.layout.Layout.{Layout}
+use Rattle.table.specs.Layout.{TableIn, isSizedIn, viewIn, writtenIn}
+use Rattle.table.specs.Sound.{limitOf, total, sound, unsoundNumber}
 use Rattle.loader.specs.Load.{weightOf, loaded, weightedAt, batchOf, scaledWeights}
-use Rattle.loader.specs.Load.{loadNumberOn, loadNumber, loadLater}
+use Rattle.loader.specs.Load.{passedNumber, loadNumberOn, loadNumberIn, loadLaterIn}
 use Rattle.loader.specs.Add.{Whole, scaledBatch}
 use Rattle.loader.specs.Inner.{scaledAt, partOf}
 use Rattle.loader.proofs.Loading.{AllBytes}
@@ -113,28 +114,29 @@ module _ (colours : List ℕ) (weighted : Bool) (weights : List ℕ) where
       ∙ list-same 0 (length colours / 3) (scaledAt 1 colours weighted weights) (weightedAt colours weighted weights)
       (λ k l h i. record { colour = colourAt colours k; weight = one-mul (cond weighted (getD weights k 0) 1) i })
 
-  module _ (b1 b2 b3 : ℕ) (t : Table) where
+  module _ (l : Layout) (b1 b2 b3 : ℕ) (t : TableIn l) where
     abbrev once : List ℕ
     once = scaledWeights 1 (length colours / 3) weighted weights
 
-    once-on : (g : Grid) → loadNumberOn limit 7 g (isSized t (binsOf g)) (viewOf t) colours true once
-        ≡ loadNumberOn limit 7 g (isSized t (binsOf g)) (viewOf t) colours weighted weights
+    once-on : (g : Grid) →
+        loadNumberOn (limitOf l) (passedNumber l) g (isSizedIn l t (binsOf g)) (viewIn l t) colours true once
+        ≡ loadNumberOn (limitOf l) (passedNumber l) g (isSizedIn l t (binsOf g)) (viewIn l t) colours weighted weights
     unfolding loadNumberOn
     once-on g i =
         refuse (not (eqb (length colours % 3) 0)) 3
         (refuse (scaled-pairs 1 colours weighted weights i) 4
-        (refuse (not (isSized t (binsOf g))) 5
-        (refuse (not (sound limit g (viewOf t))) unsoundNumber
-        (refuse (ltb limit (total g (viewOf t) + weightOf (once-batch i))) 7 0))))
+        (refuse (not (isSizedIn l t (binsOf g))) 5
+        (refuse (not (sound (limitOf l) g (viewIn l t))) unsoundNumber
+        (refuse (ltb (limitOf l) (total g (viewIn l t) + weightOf (once-batch i))) (passedNumber l) 0))))
 
-    pub once-number : loadNumber b1 b2 b3 t colours true (scaledWeights 1 (length colours / 3) weighted weights)
-        ≡ loadNumber b1 b2 b3 t colours weighted weights
-    unfolding loadNumber
+    pub once-number : loadNumberIn l b1 b2 b3 t colours true (scaledWeights 1 (length colours / 3) weighted weights)
+        ≡ loadNumberIn l b1 b2 b3 t colours weighted weights
+    unfolding loadNumberIn
     once-number i = numberOn (gridOf b1 b2 b3) (λ g. once-on g i)
 
-    pub once-later : loadLater b1 b2 b3 t colours true (scaledWeights 1 (length colours / 3) weighted weights)
-        ≡ loadLater b1 b2 b3 t colours weighted weights
-    unfolding loadLater
+    pub once-later : loadLaterIn l b1 b2 b3 t colours true (scaledWeights 1 (length colours / 3) weighted weights)
+        ≡ loadLaterIn l b1 b2 b3 t colours weighted weights
+    unfolding loadLaterIn
     once-later i =
         onGrid (gridOf b1 b2 b3) t
-        (λ g. whenDone (once-on g i) (written (binsOf g) (loaded g (once-batch i) (viewOf t))) t)
+        (λ g. whenDone (once-on g i) (writtenIn l (binsOf g) (loaded g (once-batch i) (viewIn l t))) t)

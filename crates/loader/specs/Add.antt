@@ -10,11 +10,14 @@ use Rattle.grid.specs.declared.place.Grid.{Grid}
 use Rattle.basics.specs.Answer.{Answer}
 use Rattle.basics.specs.Range.{listFrom}
 use Rattle.grid.specs.Grid.{Accepted, binsOf, stepsOf}
-use Rattle.table.specs.Table.{Table, viewOf, written, TableOf}
+use Rattle.table.specs.declared.layout.Layout.{Layout}
+use Rattle.table.specs.declared.layout.Layout.the-variants.{Wide}
+use Rattle.table.specs.Table.{Table}
+use Rattle.table.specs.Layout.{TableIn, TableOfIn, viewIn, writtenIn}
 use Rattle.table.specs.Sound.{sound, total}
 use Rattle.loader.specs.declared.add.Added.{Added}
 use Rattle.loader.specs.declared.add.Added.the-variants.{Total, Passed}
-use Rattle.loader.specs.Load.{Weighted, weightOf, loaded, batchOf, scaledWeights}
+use Rattle.loader.specs.Load.{Weighted, weightOf, loaded, batchOf, scaledWeights, passedNumber}
 
 -- ---- what is lent
 -- for each dimension and each value of a component its step, and 2^32 times its square: 256 numbers a dimension
@@ -30,10 +33,14 @@ pub record StepTable (g : Grid) (steps : List ℕ) : Type 0 where
   pub filled : steps ≡ stepTable g
 
 -- a sound table, with its total
-pub record Known (most : ℕ) (g : Grid) (t : Table) (had : ℕ) : Type 0 where
-  pub table : TableOf g t
-  pub is-sound : sound most g (viewOf t) ≡ true
-  pub total-is : had ≡ total g (viewOf t)
+pub record KnownIn (l : Layout) (most : ℕ) (g : Grid) (t : TableIn l) (had : ℕ) : Type 0 where
+  pub table : TableOfIn l g t
+  pub is-sound : sound most g (viewIn l t) ≡ true
+  pub total-is : had ≡ total g (viewIn l t)
+
+-- and one in the wide layout
+abbrev pub Known : ℕ → Grid → Table → ℕ → Type 0
+Known most g t had = KnownIn Wide most g t had
 
 -- a batch that neither 3 nor 4 refuses
 pub record Whole (colours : List ℕ) (weighted : Bool) (weights : List ℕ) : Type 0 where
@@ -55,11 +62,18 @@ scaledBatch scale colours weighted weights =
 unfoldable pub addedTo : ℕ → ℕ → List Weighted → Added
 addedTo most had cs = cond (leb (had + weightOf cs) most) (Total (had + weightOf cs)) Passed
 
--- the answer and the values of each case
+-- the answer and the values of each case, in a layout and in the wide one
+abbrev pub addedAnswerIn : Layout → Added → Answer
+addedAnswerIn l (Total n) = record { number = 0; values = n ∷ [] }
+addedAnswerIn l Passed = record { number = passedNumber l; values = [] }
+
 abbrev pub addedAnswer : Added → Answer
-addedAnswer (Total n) = record { number = 0; values = n ∷ [] }
-addedAnswer Passed = record { number = 7; values = [] }
+addedAnswer a = addedAnswerIn Wide a
 
 -- the table then
-unfoldable pub addedLater : ℕ → Grid → Table → ℕ → List Weighted → Table
-addedLater most g t had cs = cond (leb (had + weightOf cs) most) (written (binsOf g) (loaded g cs (viewOf t))) t
+unfoldable pub addedLaterIn : (l : Layout) → ℕ → Grid → TableIn l → ℕ → List Weighted → TableIn l
+addedLaterIn l most g t had cs =
+    cond (leb (had + weightOf cs) most) (writtenIn l (binsOf g) (loaded g cs (viewIn l t))) t
+
+abbrev pub addedLater : ℕ → Grid → Table → ℕ → List Weighted → Table
+addedLater most g t had cs = addedLaterIn Wide most g t had cs

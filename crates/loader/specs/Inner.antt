@@ -12,9 +12,10 @@ use Rattle.grid.specs.Grid.{binsOf, colourPlace}
 use Rattle.pixels.specs.Colour.{colourAt}
 use Rattle.pixels.specs.Equal.{equalColours}
 use Rattle.table.specs.declared.cell.Cell.{Cell}
-use Rattle.table.specs.Table.{Table, viewOf, written, putAt, HasCell, Held, TableOf}
+use Rattle.table.specs.declared.layout.Layout.{Layout}
+use Rattle.table.specs.Layout.{TableIn, TableOfIn, viewIn, writtenIn, putIn, CellIn, HeldIn}
 use Rattle.table.specs.Cell.{cellOf, plusCell, SumsFit}
-use Rattle.table.specs.Sound.{sound, total}
+use Rattle.table.specs.Sound.{limitOf, sound, total}
 use Rattle.loader.specs.declared.add.Added.{Added}
 use Rattle.loader.specs.declared.add.Added.the-variants.{Total, Passed}
 use Rattle.loader.specs.Load.{Weighted, share, weightOf, loaded}
@@ -50,43 +51,43 @@ unfoldable pub lastEqual : List ℕ → ℕ → ℕ → Bool
 lastEqual colours i n = ltb 0 n && (ltb 64 (i + n) && equalColours colours ((i + n) - 65))
 
 -- a table with them added
-unfoldable pub withPart : Grid → Table → ℕ → List ℕ → Bool → List ℕ → ℕ → ℕ → Table
-withPart g t scale colours weighted weights i n =
-    written (binsOf g) (loaded g (partOf scale colours weighted weights i n) (viewOf t))
+unfoldable pub withPart : (l : Layout) → Grid → TableIn l → ℕ → List ℕ → Bool → List ℕ → ℕ → ℕ → TableIn l
+withPart l g t scale colours weighted weights i n =
+    writtenIn l (binsOf g) (loaded g (partOf scale colours weighted weights i n) (viewIn l t))
 
 -- a total, or that it passes the limit
 unfoldable pub heldTo : ℕ → ℕ → Added
 heldTo most n = cond (leb n most) (Total n) Passed
 
 -- a table with a cell added at a place
-abbrev pub withCell : Table → ℕ → Cell → Table
-withCell t p c = putAt t p (plusCell (cellOf (viewOf t p)) c)
+abbrev pub withCell : (l : Layout) → TableIn l → ℕ → Cell → TableIn l
+withCell l t p c = putIn l t p (plusCell (cellOf (viewIn l t p)) c)
 
 -- a table with one colour added
-unfoldable pub withColour : Grid → Table → Weighted → Table
-withColour g t c = withCell t (colourPlace g (c .colour)) (cellOf (share c))
+unfoldable pub withColour : (l : Layout) → Grid → TableIn l → Weighted → TableIn l
+withColour l g t c = withCell l t (colourPlace g (c .colour)) (cellOf (share c))
 
 -- a cell can be added at a place: each sum is a number, and fits its place
-pub record CellFits (t : Table) (p : ℕ) (c : Cell) : Type 0 where
-  pub cell : HasCell t p
-  pub sums : SumsFit (cellOf (viewOf t p)) c
-  pub held : Held (plusCell (cellOf (viewOf t p)) c)
+pub record CellFits (l : Layout) (t : TableIn l) (p : ℕ) (c : Cell) : Type 0 where
+  pub cell : CellIn l t p
+  pub sums : SumsFit (cellOf (viewIn l t p)) c
+  pub held : HeldIn l (plusCell (cellOf (viewIn l t p)) c)
 
 -- n colours of a batch, from colour i on, can be added to a sound table: they are there, with one weight a colour where
 -- weights are given, and the total fits
-pub record PartFits (most : ℕ) (g : Grid) (t : Table) (scale : ℕ) (colours : List ℕ) (weighted : Bool)
+pub record PartFits (l : Layout) (g : Grid) (t : TableIn l) (scale : ℕ) (colours : List ℕ) (weighted : Bool)
     (weights : List ℕ) (i n : ℕ) : Type 0 where
   pub scaled : IsScale scale
-  pub table : TableOf g t
-  pub is-sound : sound most g (viewOf t) ≡ true
+  pub table : TableOfIn l g t
+  pub is-sound : sound (limitOf l) g (viewIn l t) ≡ true
   pub there : i + n ≤ length colours / 3
   pub one-each : weighted ≡ true → length weights ≡ length colours / 3
-  pub under : total g (viewOf t) + weightOf (partOf scale colours weighted weights i n) ≤ most
+  pub under : total g (viewIn l t) + weightOf (partOf scale colours weighted weights i n) ≤ limitOf l
 
 -- a second table can be added into a first: both are sound, and the total fits
-pub record MergeFits (most : ℕ) (g : Grid) (t s : Table) : Type 0 where
-  pub first : TableOf g t
-  pub second : TableOf g s
-  pub first-sound : sound most g (viewOf t) ≡ true
-  pub second-sound : sound most g (viewOf s) ≡ true
-  pub under : total g (viewOf t) + total g (viewOf s) ≤ most
+pub record MergeFits (l : Layout) (g : Grid) (t s : TableIn l) : Type 0 where
+  pub first : TableOfIn l g t
+  pub second : TableOfIn l g s
+  pub first-sound : sound (limitOf l) g (viewIn l t) ≡ true
+  pub second-sound : sound (limitOf l) g (viewIn l s) ≡ true
+  pub under : total g (viewIn l t) + total g (viewIn l s) ≤ limitOf l

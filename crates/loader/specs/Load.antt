@@ -12,8 +12,11 @@ use Rattle.basics.specs.Range.{listFrom}
 use Rattle.grid.specs.Grid.{gridOf, onGrid, numberOn, binsOf, colourPlace}
 use Rattle.pixels.specs.Colour.{colourAt}
 use Rattle.table.specs.Cell.{View, zeros}
-use Rattle.table.specs.Table.{Table, isSized, viewOf, written}
-use Rattle.table.specs.Sound.{limit, total, sound, unsoundNumber}
+use Rattle.table.specs.declared.layout.Layout.{Layout}
+use Rattle.table.specs.declared.layout.Layout.the-variants.{Wide, Narrow}
+use Rattle.table.specs.Table.{Table}
+use Rattle.table.specs.Layout.{TableIn, isSizedIn, viewIn, writtenIn}
+use Rattle.table.specs.Sound.{limitOf, total, sound, unsoundNumber}
 
 -- a colour with a weight as large as wanted
 pub record Weighted : Type 0 where
@@ -44,9 +47,13 @@ weightOf cs = sumOver cs (λ c. c .weight)
 unfoldable pub loaded : Grid → List Weighted → View → View
 loaded g cs v p j = v p j + sumOver cs (λ c. adds g c p j)
 
--- the table of a list of colours: an empty one with them loaded
-unfoldable pub tableOf : Grid → List Weighted → Table
-tableOf g cs = written (binsOf g) (loaded g cs zeros)
+-- the table of a list of colours in a layout: an empty one with them loaded
+unfoldable pub tableIn : (l : Layout) → Grid → List Weighted → TableIn l
+tableIn l g cs = writtenIn l (binsOf g) (loaded g cs zeros)
+
+-- and in the wide one
+abbrev pub tableOf : Grid → List Weighted → Table
+tableOf g cs = tableIn Wide g cs
 
 -- a colour of weight above 0 among them, at a place
 pub record ColourAt (g : Grid) (cs : List Weighted) (p : ℕ) : Type 0 where
@@ -79,16 +86,30 @@ loadNumberOn most beyond g sized v colours weighted weights =
     (refuse (not (sound most g v)) unsoundNumber
     (refuse (ltb most (total g v + weightOf (batchOf colours weighted weights))) beyond 0))))
 
--- that of a table in the wide layout
-unfoldable pub loadNumber : ℕ → ℕ → ℕ → Table → List ℕ → Bool → List ℕ → ℕ
-loadNumber b1 b2 b3 t colours weighted weights =
+-- the answer beyond a layout's limit: "refused with 15, in the place of 7"
+abbrev pub passedNumber : Layout → ℕ
+passedNumber Wide = 7
+passedNumber Narrow = 15
+
+-- the answer to a load of a table in a layout
+unfoldable pub loadNumberIn : (l : Layout) → ℕ → ℕ → ℕ → TableIn l → List ℕ → Bool → List ℕ → ℕ
+loadNumberIn l b1 b2 b3 t colours weighted weights =
     numberOn (gridOf b1 b2 b3)
-    (λ g. loadNumberOn limit 7 g (isSized t (binsOf g)) (viewOf t) colours weighted weights)
+    (λ g. loadNumberOn (limitOf l) (passedNumber l) g (isSizedIn l t (binsOf g)) (viewIn l t) colours weighted weights)
 
 -- the table after a load: "A refusal writes nothing."
-unfoldable pub loadLater : ℕ → ℕ → ℕ → Table → List ℕ → Bool → List ℕ → Table
-loadLater b1 b2 b3 t colours weighted weights =
+unfoldable pub loadLaterIn : (l : Layout) → ℕ → ℕ → ℕ → TableIn l → List ℕ → Bool → List ℕ → TableIn l
+loadLaterIn l b1 b2 b3 t colours weighted weights =
     onGrid (gridOf b1 b2 b3) t
-    (λ g. whenDone (loadNumberOn limit 7 g (isSized t (binsOf g)) (viewOf t) colours weighted weights)
-    (written (binsOf g) (loaded g (batchOf colours weighted weights) (viewOf t)))
+    (λ g.
+    whenDone
+    (loadNumberOn (limitOf l) (passedNumber l) g (isSizedIn l t (binsOf g)) (viewIn l t) colours weighted weights)
+    (writtenIn l (binsOf g) (loaded g (batchOf colours weighted weights) (viewIn l t)))
     t)
+
+-- both in the wide layout
+abbrev pub loadNumber : ℕ → ℕ → ℕ → Table → List ℕ → Bool → List ℕ → ℕ
+loadNumber b1 b2 b3 t colours weighted weights = loadNumberIn Wide b1 b2 b3 t colours weighted weights
+
+abbrev pub loadLater : ℕ → ℕ → ℕ → Table → List ℕ → Bool → List ℕ → Table
+loadLater b1 b2 b3 t colours weighted weights = loadLaterIn Wide b1 b2 b3 t colours weighted weights

@@ -4,25 +4,53 @@ use grid::place::Grid;
 use pixels::colour::Rgb;
 use table::cell::Cell;
 use table::cell::plus;
-use table::layout::cell_at;
-use table::layout::put_at;
+use table::layout::Layout;
+use table::layout::cell_in;
+use table::layout::put_cell;
+use table::wide::cell_at;
+use table::wide::put_at;
 ghost use mathlib.Core.Path.{_≡_};
 ghost use Prim.Native.Nat.{_≤_};
 ghost use Rattle.grid.specs.Grid.{colourPlace};
+ghost use Rattle.table.specs.declared.layout.Layout.the-variants.{Wide, Narrow};
 ghost use Rattle.table.specs.Cell.{cellOf};
+ghost use Rattle.table.specs.Layout.{laid};
 ghost use Rattle.table.specs.Sound.{limit};
 ghost use Rattle.loader.specs.Load.{share};
 ghost use Rattle.loader.specs.Add.{StepTable};
 ghost use Rattle.loader.specs.Inner.{squaresOf, withCell, withColour, CellFits};
 
-// Adds a cell to the one at a place.
-pub(crate) fn add_at(table: &mut [u64], place: usize, c: Cell)
-    requires { ⌜ CellFits (now table) place c ⌝ }
-    ensures { λ r. ⌜ now (table .exit) ≡ withCell (now (table .entry)) place c ⌝ }
+// Adds a cell to the one at a place, in the wide layout.
+fn add_wide(table: &mut [u64], place: usize, c: Cell)
+    requires { ⌜ CellFits Wide (now table) place c ⌝ }
+    ensures { λ r. ⌜ now (table .exit) ≡ withCell Wide (now (table .entry)) place c ⌝ }
 {
     let old = cell_at(table, place);
     let sum = plus(old, c);
     put_at(table, place, sum);
+}
+
+// And in the narrow one.
+fn add_narrow(small: &mut [u32], large: &mut [u64], place: usize, c: Cell)
+    requires { ⌜ CellFits Narrow (laid Narrow (now small) (now large)) place c ⌝ }
+    ensures { λ r. ⌜ laid Narrow (now (small .exit)) (now (large .exit))
+        ≡ withCell Narrow (laid Narrow (now (small .entry)) (now (large .entry))) place c ⌝ }
+{
+    let before = cell_in(Layout::Narrow, small, large, place);
+    let both = plus(before, c);
+    put_cell(Layout::Narrow, small, large, place, both);
+}
+
+// Adds a cell to the one at a place. The layout is asked once for reading and writing.
+pub(crate) fn add_at(layout: Layout, small: &mut [u32], large: &mut [u64], place: usize, c: Cell)
+    requires { ⌜ CellFits layout (laid layout (now small) (now large)) place c ⌝ }
+    ensures { λ r. ⌜ laid layout (now (small .exit)) (now (large .exit))
+        ≡ withCell layout (laid layout (now (small .entry)) (now (large .entry))) place c ⌝ }
+{
+    match layout {
+        Layout::Wide => add_wide(large, place, c),
+        Layout::Narrow => add_narrow(small, large, place, c),
+    }
 }
 
 // What a colour of weight w adds to its bin.
@@ -39,14 +67,63 @@ fn share_of(x: Rgb, w: u64, squares: u64) -> Cell
     }
 }
 
-// Adds one colour to a table.
-pub(crate) fn add_colour(g: Grid, table: &mut [u64], steps: &[u64; 768], x: Rgb, w: u64)
+// Adds one colour to a wide table. Each layout has its own function here, and its own loop and block in wide.rt and
+// narrow.rt, so that the innermost loop does not ask for the layout at each colour.
+pub(crate) fn add_wide_colour(g: Grid, table: &mut [u64], steps: &[u64; 768], x: Rgb, w: u64)
     requires steps { ⌜ StepTable g (now steps) ⌝ }
     requires weight { ⌜ w ≤ limit ⌝ }
-    requires fits { ⌜ CellFits (now table) (colourPlace g x) (cellOf (share (record { colour = x; weight = w }))) ⌝ }
-    ensures { λ r. ⌜ now (table .exit) ≡ withColour g (now (table .entry)) (record { colour = x; weight = w }) ⌝ }
+    requires fits { ⌜ CellFits Wide (now table) (colourPlace g x)
+        (cellOf (share (record { colour = x; weight = w }))) ⌝ }
+    ensures { λ r. ⌜ now (table .exit)
+        ≡ withColour Wide g (now (table .entry)) (record { colour = x; weight = w }) ⌝ }
 {
     let v = look_up(g, steps, x);
     let p = (v % 4294967296) as usize;
-    add_at(table, p, share_of(x, w, v / 4294967296));
+    add_wide(table, p, share_of(x, w, v / 4294967296));
+}
+
+// Adds one colour to a narrow table.
+pub(crate) fn add_narrow_colour(
+    g: Grid,
+    small: &mut [u32],
+    large: &mut [u64],
+    steps: &[u64; 768],
+    x: Rgb,
+    w: u64,
+)
+    requires steps { ⌜ StepTable g (now steps) ⌝ }
+    requires weight { ⌜ w ≤ limit ⌝ }
+    requires fits { ⌜ CellFits Narrow (laid Narrow (now small) (now large)) (colourPlace g x)
+        (cellOf (share (record { colour = x; weight = w }))) ⌝ }
+    ensures { λ r. ⌜ laid Narrow (now (small .exit)) (now (large .exit))
+        ≡ withColour Narrow g (laid Narrow (now (small .entry)) (now (large .entry)))
+        (record { colour = x; weight = w }) ⌝ }
+{
+    let v = look_up(g, steps, x);
+    let p = (v % 4294967296) as usize;
+    add_narrow(small, large, p, share_of(x, w, v / 4294967296));
+}
+
+// Adds one colour to a table.
+pub(crate) fn add_colour(
+    layout: Layout,
+    g: Grid,
+    small: &mut [u32],
+    large: &mut [u64],
+    steps: &[u64; 768],
+    x: Rgb,
+    w: u64,
+)
+    requires steps { ⌜ StepTable g (now steps) ⌝ }
+    requires weight { ⌜ w ≤ limit ⌝ }
+    requires fits { ⌜ CellFits layout (laid layout (now small) (now large)) (colourPlace g x)
+        (cellOf (share (record { colour = x; weight = w }))) ⌝ }
+    ensures { λ r. ⌜ laid layout (now (small .exit)) (now (large .exit))
+        ≡ withColour layout g (laid layout (now (small .entry)) (now (large .entry)))
+        (record { colour = x; weight = w }) ⌝ }
+{
+    match layout {
+        Layout::Wide => add_wide_colour(g, large, steps, x, w),
+        Layout::Narrow => add_narrow_colour(g, small, large, steps, x, w),
+    }
 }

@@ -1,6 +1,5 @@
 // The weights of a batch: of one colour, of a block, and the total with all of them.
 use crate::add::Added;
-use table::sound::LIMIT;
 ghost use mathlib.Core.Path.{_≡_};
 ghost use mathlib.Core.Bool.{true, cond};
 ghost use Prim.Native.Nat.{_+_, _-_, _*_, _≤_, _<_};
@@ -25,21 +24,21 @@ fn block_sum(weights: &[u32], at: usize, end: usize) -> u64
 
 // The total with the weights added, each multiplied by the scale. All of them can add up to more than a u64 holds, so
 // the sum is held to the limit after each block.
-fn weights_total(had: u64, weights: &[u32], scale: u64) -> Added
-    requires { ⌜ (had ≤ limit) × (scale ≤ 4096) ⌝ }
-    ensures { λ r. ⌜ r ≡ heldTo limit (had + scale * allWeights (now (weights .entry))) ⌝ }
+fn weights_total(most: u64, had: u64, weights: &[u32], scale: u64) -> Added
+    requires { ⌜ (had ≤ most) × (most ≤ limit) × (scale ≤ 4096) ⌝ }
+    ensures { λ r. ⌜ r ≡ heldTo most (had + scale * allWeights (now (weights .entry))) ⌝ }
 {
     let mut total = had;
     let mut i = 0;
     while 4096 < weights.len() - i {
         total = total + scale * block_sum(weights, i, i + 4096);
-        if LIMIT < total {
+        if most < total {
             return Added::Passed;
         }
         i = i + 4096;
     }
     total = total + scale * block_sum(weights, i, weights.len());
-    if LIMIT < total {
+    if most < total {
         return Added::Passed;
     }
     Added::Total(total)
@@ -47,14 +46,21 @@ fn weights_total(had: u64, weights: &[u32], scale: u64) -> Added
 
 // The total with n colours of a batch added, each weight multiplied by the scale. Without weights n times the scale can
 // be more than a u64 holds, so n is compared with what is left, divided.
-pub(crate) fn batch_total(had: u64, n: usize, weighted: bool, weights: &[u32], scale: u64) -> Added
-    requires { ⌜ (had ≤ limit) × IsScale scale ⌝ }
-    ensures { λ r. ⌜ r ≡ heldTo limit (had + scale * cond weighted (allWeights (now (weights .entry))) n) ⌝ }
+pub(crate) fn batch_total(
+    most: u64,
+    had: u64,
+    n: usize,
+    weighted: bool,
+    weights: &[u32],
+    scale: u64,
+) -> Added
+    requires { ⌜ (had ≤ most) × (most ≤ limit) × IsScale scale ⌝ }
+    ensures { λ r. ⌜ r ≡ heldTo most (had + scale * cond weighted (allWeights (now (weights .entry))) n) ⌝ }
 {
     if weighted {
-        return weights_total(had, weights, scale);
+        return weights_total(most, had, weights, scale);
     }
-    if (LIMIT - had) / scale < n as u64 {
+    if (most - had) / scale < n as u64 {
         return Added::Passed;
     }
     Added::Total(had + scale * n as u64)

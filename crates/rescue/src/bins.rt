@@ -3,16 +3,18 @@ use grid::dimension::span_of;
 use grid::place::Grid;
 use grid::place::place;
 use table::cell::Cell;
-use table::layout::cell_at;
-use table::layout::put_at;
 use table::sound::LIMIT;
 use table::sound::keeps_bounds;
 use table::sound::row_squares;
+use table::wide::cell_at;
+use table::wide::put_at;
 ghost use mathlib.Core.Path.{_≡_};
 ghost use Prim.Native.Nat.{_≤_};
 ghost use lib.ListN.{length};
 ghost use Rattle.grid.specs.Grid.{binsOf, placeOf};
-ghost use Rattle.table.specs.Table.{TableOf, HasCell, viewOf, written};
+ghost use Rattle.table.specs.Table.{HasCell, viewOf, written};
+ghost use Rattle.table.specs.Layout.{TableOf};
+ghost use Rattle.table.specs.declared.layout.Layout.the-variants.{Wide};
 ghost use Rattle.table.specs.Sound.{limit, Row};
 ghost use Rattle.rescue.specs.Rescue.{reasonFor, rescued, reasonsOf};
 ghost use Rattle.rescue.specs.Inner.{withWeight, cleared, Onward};
@@ -64,7 +66,7 @@ fn with_weight(had: u64, weight: u64, reason: u8) -> u64
 
 // Walks one row of bins: the total of the bins kept so far.
 fn walk_row(g: Grid, table: &mut [u64], reasons: &mut [u8], r: usize, gr: usize, had: u64) -> u64
-    requires row { ⌜ Row limit g (now table) r gr had ⌝ }
+    requires row { ⌜ Row Wide g (now table) r gr had ⌝ }
     requires list { ⌜ length (now reasons) ≡ binsOf g ⌝ }
     ensures { λ total. ⌜ Onward limit g (placeOf g r gr 0) (placeOf g r gr (g .size3)) (now (table .entry))
         (now (reasons .entry)) had (now (table .exit)) (now (reasons .exit)) total ⌝ }
@@ -90,7 +92,7 @@ fn walk_row(g: Grid, table: &mut [u64], reasons: &mut [u8], r: usize, gr: usize,
 
 // Walks one plane of rows.
 fn walk_plane(g: Grid, table: &mut [u64], reasons: &mut [u8], r: usize, had: u64) -> u64
-    requires row { ⌜ Row limit g (now table) r 0 had ⌝ }
+    requires row { ⌜ Row Wide g (now table) r 0 had ⌝ }
     requires list { ⌜ length (now reasons) ≡ binsOf g ⌝ }
     ensures { λ total. ⌜ Onward limit g (placeOf g r 0 0) (placeOf g r (g .size2) 0) (now (table .entry))
         (now (reasons .entry)) had (now (table .exit)) (now (reasons .exit)) total ⌝ }

@@ -20,13 +20,14 @@ use Rattle.table.specs.declared.cell.Cell.{Cell}
 use Rattle.table.specs.declared.sound.SoundTotal.{SoundTotal}
 use Rattle.table.specs.declared.sound.SoundTotal.the-variants.{Total, Unsound}
 use Rattle.table.specs.Cell.{View, cellOf, numberOf}
-use Rattle.table.specs.Table.{Table, HasCell}
+use Rattle.table.specs.declared.layout.Layout.{Layout}
+use Rattle.table.specs.Layout.{TableIn, CellIn}
 use Rattle.table.specs.Sound.{limit, squaredSpan, plusSpan, inBounds, spanAt, binSound}
 use Rattle.table.specs.Sound.{total, sound, soundTotal, Row, SpanBelow, RowSpans}
 use Rattle.table.specs.Inner.{scanned}
 use Rattle.table.proofs.Cells.{number-cell}
 use Rattle.table.proofs.Soundness.{bounds-same}
-use Rattle.table.proofs.Tables.{has-cell}
+use Rattle.table.proofs.Layouts.{cell-of}
 use Rattle.table.proofs.Total.{cond-total, cond-unsound}
 
 module _ (most : ℕ) (g : Grid) (v : View) where
@@ -77,6 +78,16 @@ module _ (most : ℕ) (g : Grid) (v : View) where
           scan-over p n had (omega (arith, leb-false (v q 0) most l, term-le p n (λ k. v k 0) q a b))
       go true l true r d = absurd (true≢false (sym (all-at p n (binSound g v) r q a b) ∙ d))
       go true l false r d = rw r refl
+
+  -- which is so where it passes a larger one
+  pub scan-worse : {larger : ℕ} → most ≤ larger → (p n had q : ℕ) → p ≤ q → q < p + n
+      → (leb (v q 0) larger && binSound g v q) ≡ false → scanned most g v p n had ≡ Unsound
+  scan-worse {larger} h p n had q a b e = scan-bad p n had q a b (go (leb (v q 0) larger) refl e)
+    where
+      go : (w : Bool) → leb (v q 0) larger ≡ w → (w && binSound g v q) ≡ false
+          → (leb (v q 0) most && binSound g v q) ≡ false
+      go false l d = rw (lt-leb (v q 0) most (omega (arith, leb-false (v q 0) larger l))) refl
+      go true l d = rw (d, and-false (leb (v q 0) most)) refl
 
   -- from a run of bins to the next
   pub scan-more : (p n m had x : ℕ) → scanned most g v p n had ≡ Total x
@@ -172,7 +183,7 @@ row-below {s1} r =
       high = square-byte (s1 .high) (r .one .high);
     }) (r .two) (r .squares)
 
-module _ {most : ℕ} {g : Grid} {t : Table} {r gr had : ℕ} (row : Row most g t r gr had) where
+module _ {l : Layout} {g : Grid} {t : TableIn l} {r gr had : ℕ} (row : Row l g t r gr had) where
   sizes : Accepted g
   sizes = row .table .accepted
 
@@ -182,8 +193,8 @@ module _ {most : ℕ} {g : Grid} {t : Table} {r gr had : ℕ} (row : Row most g 
   pub row-place : (b : ℕ) → b < g .size3 → {from : ℕ} → from ≡ placeOf g r gr 0 → from + b < binsOf g
   row-place b h e = rw (e, place-along g r gr b) (place-lt (inside b h))
 
-  pub row-cell : (b : ℕ) → b < g .size3 → {from : ℕ} → from ≡ placeOf g r gr 0 → HasCell t (from + b)
-  row-cell b h {from} e = has-cell (row .table .lent) (from + b) (row-place b h e)
+  pub row-cell : (b : ℕ) → b < g .size3 → {from : ℕ} → from ≡ placeOf g r gr 0 → CellIn l t (from + b)
+  row-cell b h {from} e = cell-of (row .table) (from + b) (row-place b h e)
 
   pub row-one : InSize (g .shift1) r
   row-one = in-size (one sizes) r (row .inside .one)

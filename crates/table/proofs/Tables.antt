@@ -13,7 +13,10 @@ use lib.ListN.{length, getD, set, replicate, length-set, length-replicate, getD-
 use lib.Seq.{getD-set-same, getD-set-other}
 use Rattle.basics.proofs.Range.{length-list, list-at, list-is}
 use Rattle.table.specs.declared.cell.Cell.{Cell}
+use Rattle.table.specs.declared.layout.Layout.{Layout}
+use Rattle.table.specs.declared.layout.Layout.the-variants.{Wide}
 use Rattle.table.specs.Cell.{View, zeros, numberOf, cellOf, plusCell}
+use Rattle.table.specs.Layout.{TableIn, SizedIn, viewIn}
 use Rattle.table.specs.Table.{Table, tableLen, Sized, isSized, viewOf, written, emptyOf, putAt, HasCell}
 use Rattle.table.proofs.Cells.{number-cell, number-plus}
 
@@ -64,9 +67,12 @@ unfolding viewOf
 view-at t p j = refl
 
 -- ---- a table of n bins holds a view
-pub record Holds (n : ℕ) (t : Table) (v : View) : Type 0 where
-  pub lent : Sized t n
-  pub at : (p j : ℕ) → p < n → j < 5 → viewOf t p j ≡ v p j
+pub record HoldsIn (l : Layout) (n : ℕ) (t : TableIn l) (v : View) : Type 0 where
+  pub lent : SizedIn l t n
+  pub at : (p j : ℕ) → p < n → j < 5 → viewIn l t p j ≡ v p j
+
+abbrev pub Holds : ℕ → Table → View → Type 0
+Holds n t v = HoldsIn Wide n t v
 
 pub list-holds : (n : ℕ) (v : View) → Holds n (written n v) v
 unfolding viewOf written tableLen

@@ -1,4 +1,7 @@
-// Tables: five numbers per bin, where a lent table has them, and soundness.
+// Tables: five numbers per bin, where a lent table has them in either layout, and soundness.
 pub mod cell;
 pub mod layout;
+mod narrow;
+mod rows;
 pub mod sound;
+pub mod wide;

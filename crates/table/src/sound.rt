@@ -1,10 +1,9 @@
 // Soundness: each bin keeps its bounds, and all weights total at most the limit.
 use crate::cell::Cell;
-use crate::layout::cell_at;
+use crate::layout::Layout;
+use crate::rows::row_total;
 use grid::dimension::Span;
-use grid::dimension::span_of;
 use grid::place::Grid;
-use grid::place::place;
 use std::num::wrapping_sub_u64;
 ghost use mathlib.Core.Path.{_≡_};
 ghost use mathlib.Core.Bool.{_&&_};
@@ -13,13 +12,27 @@ ghost use lib.Dec.{leb};
 ghost use Rattle.basics.specs.Dimension.{choose};
 ghost use Rattle.grid.specs.Grid.{placeOf};
 ghost use Rattle.table.specs.Cell.{numberOf};
-ghost use Rattle.table.specs.Table.{viewOf, TableOf};
-ghost use Rattle.table.specs.Sound.{limit, between, squaredSpan, plusSpan, inBounds, soundTotal};
+ghost use Rattle.table.specs.Table.{viewOf};
+ghost use Rattle.table.specs.Layout.{laid, laidView, TableOfIn, TableOf};
+ghost use Rattle.table.specs.Sound.{limit, limitOf, between, squaredSpan, plusSpan, inBounds, soundTotal};
 ghost use Rattle.table.specs.Sound.{Row, SpanBelow, RowSpans};
 ghost use Rattle.table.specs.Inner.{scanned};
 
-// The largest total of a table.
+// The largest total of a table in the wide layout.
 pub const LIMIT: u64 = 4294967295;
+
+// And in the narrow one.
+pub const NARROW_LIMIT: u64 = 16843008;
+
+// The largest total in a layout.
+pub fn limit_of(layout: Layout) -> u64
+    ensures { λ r. ⌜ r ≡ limitOf layout ⌝ }
+{
+    match layout {
+        Layout::Wide => LIMIT,
+        Layout::Narrow => NARROW_LIMIT,
+    }
+}
 
 // The total of a sound table, or that it is not sound.
 pub enum SoundTotal {
@@ -102,40 +115,24 @@ pub fn keeps_bounds(s1: Span, s2: Span, row: Span, s3: Span, c: Cell) -> bool
     lies_between(with_squares(row, s3), n, c.squares)
 }
 
-// The total with one row of bins.
-fn row_total(table: &[u64], g: Grid, r: usize, gr: usize, had: u64) -> SoundTotal
-    requires { ⌜ Row limit g (now table) r gr had ⌝ }
-    ensures { λ w. ⌜ w ≡ scanned limit g (viewOf (now (table .entry))) (placeOf g r gr 0) (g .size3) had ⌝ }
-{
-    let s1 = span_of(g.shift1, r);
-    let s2 = span_of(g.shift2, gr);
-    let row = row_squares(s1, s2);
-    let start = place(g, r, gr, 0);
-    let mut total = had;
-    let mut b = 0;
-    while b < g.size3 {
-        let c = cell_at(table, start + b);
-        if !keeps_bounds(s1, s2, row, span_of(g.shift3, b), c) {
-            return SoundTotal::Unsound;
-        }
-        total = total + c.weight;
-        b = b + 1;
-    }
-    if LIMIT < total {
-        return SoundTotal::Unsound;
-    }
-    SoundTotal::Total(total)
-}
-
 // The total with one plane of rows.
-fn plane_total(table: &[u64], g: Grid, r: usize, had: u64) -> SoundTotal
-    requires { ⌜ Row limit g (now table) r 0 had ⌝ }
-    ensures { λ w. ⌜ w ≡ scanned limit g (viewOf (now (table .entry))) (placeOf g r 0 0) (g .size2 * g .size3) had ⌝ }
+fn plane_total(
+    layout: Layout,
+    small: &[u32],
+    large: &[u64],
+    g: Grid,
+    r: usize,
+    had: u64,
+) -> SoundTotal
+    requires { ⌜ Row layout g (laid layout (now small) (now large)) r 0 had ⌝ }
+    ensures { λ w. ⌜ w
+        ≡ scanned (limitOf layout) g (laidView layout (now (small .entry)) (now (large .entry)))
+        (placeOf g r 0 0) (g .size2 * g .size3) had ⌝ }
 {
     let mut total = had;
     let mut gr = 0;
     while gr < g.size2 {
-        match row_total(table, g, r, gr, total) {
+        match row_total(layout, small, large, g, r, gr, total) {
             SoundTotal::Total(x) => total = x,
             SoundTotal::Unsound => return SoundTotal::Unsound,
         }
@@ -144,19 +141,29 @@ fn plane_total(table: &[u64], g: Grid, r: usize, had: u64) -> SoundTotal
     SoundTotal::Total(total)
 }
 
-// The total of a sound table, or that it is not sound.
-pub fn sound_total(table: &[u64], g: Grid) -> SoundTotal
-    requires { ⌜ TableOf g (now table) ⌝ }
-    ensures { λ w. ⌜ w ≡ soundTotal limit g (viewOf (now (table .entry))) ⌝ }
+// The total of a sound table, or that it is not sound, in either layout.
+pub fn total_in(layout: Layout, small: &[u32], large: &[u64], g: Grid) -> SoundTotal
+    requires { ⌜ TableOfIn layout g (laid layout (now small) (now large)) ⌝ }
+    ensures { λ w. ⌜ w
+        ≡ soundTotal (limitOf layout) g (laidView layout (now (small .entry)) (now (large .entry))) ⌝ }
 {
     let mut total = 0;
     let mut r = 0;
     while r < g.size1 {
-        match plane_total(table, g, r, total) {
+        match plane_total(layout, small, large, g, r, total) {
             SoundTotal::Total(x) => total = x,
             SoundTotal::Unsound => return SoundTotal::Unsound,
         }
         r = r + 1;
     }
     SoundTotal::Total(total)
+}
+
+// The same in the wide layout.
+pub fn sound_total(table: &[u64], g: Grid) -> SoundTotal
+    requires { ⌜ TableOf g (now table) ⌝ }
+    ensures { λ w. ⌜ w ≡ soundTotal limit g (viewOf (now (table .entry))) ⌝ }
+{
+    let none = [0u32; 0];
+    total_in(Layout::Wide, &none, table, g)
 }

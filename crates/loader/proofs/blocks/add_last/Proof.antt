@@ -8,7 +8,8 @@ use borrow.Author.Needs.{needs}
 use denote.Ref.{now}
 use lib.ListN.{getD}
 use Rattle.pixels.specs.Colour.{colourAt}
-use Rattle.table.proofs.Tables.{holds-list}
+use Rattle.table.proofs.Layouts.{holds-list-in}
+use Rattle.table.proofs.Soundness.{limit-high}
 use Rattle.loader.specs.Inner.{lastEqual, withPart}
 use Rattle.loader.proofs.Parts.{light, has-room, at-once, some-equal, last-same}
 use Rattle.loader.proofs.blocks.add_last.Statement.{statement}
@@ -17,7 +18,7 @@ use Rattle.loader.proofs.blocks.add_last.Tie as tie
 -- where they are seen to be equal: each is of bytes, there are some, and all are the first
 module _ (f : tie.Then1) where
   abbrev start : tie.Start
-  start = f .before .before .before .before .before
+  start = f .before .before .before .before .before .before
 
   bytes : (k : ℕ) → getD (now (start .args .colours)) k 0 < 256
   bytes k = omega (arith, f .before .before .before .shared-slice-known .given k)
@@ -47,37 +48,49 @@ block-weight-requires c κs =
 
 add-colour-requires : tie.Need-add-colour-requires
 add-colour-requires c κs =
-    let f = c .before .before .before in
+    let f = c .before .before .before .before in
     let s = start f in (
       s .pre .1 .1,
       (
-        light (s .pre .0) (bytes f) (same f) (c .before .before .colour .ensures) (c .before .block-weight .ensures),
-        has-room (s .pre .0) (bytes f) (same f) (c .before .before .colour .ensures) (c .before .block-weight .ensures)
-            (omega arith),
+        omega (
+          arith,
+          light (s .pre .0) (bytes f) (same f) (c .before .before .before .colour .ensures)
+              (c .before .before .block-weight .ensures),
+          limit-high (s .args .layout),
+        ),
+        has-room (s .pre .0) (bytes f) (same f) (c .before .before .before .colour .ensures)
+            (c .before .before .block-weight .ensures),
       ),
     )
 
 same-length : tie.Need-same-length
 same-length c = search needs
 
-returns : tie.Need-returns
-unfolding withPart
-returns c =
-    let b = c .before .before .before .before in
-    let f = b .before .before in
-    holds-list (at-once (start f .pre .0) (bytes f) (same f) (b .before .colour .ensures) (b .block-weight .ensures)
-    (c .before .before .add-colour .ensures))
-
-add-each-requires : tie.Need-add-each-requires
-add-each-requires c κs =
-    let s = c .before .before .before .before .before .before in
-    (s .pre .0, s .pre .1 .1)
-
 same-length-2 : tie.Need-same-length-2
 same-length-2 c = search needs
 
+returns : tie.Need-returns
+unfolding withPart
+returns c =
+    let b = c .before .before .before .before .before .before .before in
+    let f = b .before .before in
+    holds-list-in (start f .args .layout)
+    (at-once (start f .pre .0) (bytes f) (same f) (b .before .colour .ensures) (b .block-weight .ensures) _
+    (c .before .before .before .before .add-colour .ensures))
+
+add-each-requires : tie.Need-add-each-requires
+add-each-requires c κs =
+    let s = c .before .before .before .before .before .before .before .before in
+    (s .pre .0, s .pre .1 .1)
+
+same-length-3 : tie.Need-same-length-3
+same-length-3 c = search needs
+
+same-length-4 : tie.Need-same-length-4
+same-length-4 c = search needs
+
 returns-2 : tie.Need-returns-2
-returns-2 c = c .before .before .add-each .ensures
+returns-2 c = c .before .before .before .before .add-each .ensures
 
 pub add-last-spec : {M : Type 1} → statement M
 add-last-spec =
@@ -88,7 +101,9 @@ add-last-spec =
     block-weight-requires
     add-colour-requires
     same-length
+    same-length-2
     returns
     add-each-requires
-    same-length-2
+    same-length-3
+    same-length-4
     returns-2)

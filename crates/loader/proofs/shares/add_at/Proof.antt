@@ -1,42 +1,61 @@
--- `loader::shares::add_at` meets its contract: the cell that was there, with the other added, is written back.
+-- `loader::shares::add_at` meets its contract: by the layout.
 -- Assumes nothing.
-use mathlib.Core.Path.{sym, subst, ap, _∙_}
 use borrow.Author.Needs.{needs}
 use denote.Ref.{now}
-use Rattle.table.specs.declared.cell.Cell.{Cell}
-use Rattle.table.specs.Cell.{plusCell, SumsFit}
-use Rattle.table.specs.Table.{putAt, Held}
+use Rattle.loader.proofs.ByLayout.{fits-as, added-as}
 use Rattle.loader.proofs.shares.add_at.Statement.{statement}
 use Rattle.loader.proofs.shares.add_at.Tie as tie
 
-cell-at-requires : tie.Need-cell-at-requires
-cell-at-requires c κs = c .before .before .pre .cell
+enum-told : tie.Need-enum-told
+enum-told c = search needs
 
-plus-requires : tie.Need-plus-requires
-plus-requires c κs =
-    let s = c .before .before .before in
-    subst (λ (x : Cell). SumsFit x (s .args .c)) (sym (c .cell-at .ensures)) (s .pre .sums)
+add-wide-requires : tie.Need-add-wide-requires
+add-wide-requires c κs =
+    let s = c .before .before .before .before .before in
+    fits-as (c .before .enum-told .given .1) (now (s .args .small)) (now (s .args .large)) (s .args .place) (s .args .c)
+    (s .pre)
 
-put-at-requires : tie.Need-put-at-requires
-put-at-requires c κs =
-    let sum = c .before in
-    let old = sum .before in
-    let s = old .before .before .before in
-    let is = sum .plus .ensures ∙ ap (λ (x : Cell). plusCell x (s .args .c)) (old .cell-at .ensures) in
-    (s .pre .cell, subst Held (sym is) (s .pre .held))
+enum-told-2 : tie.Need-enum-told-2
+enum-told-2 c = search needs
+
+add-narrow-requires : tie.Need-add-narrow-requires
+add-narrow-requires c κs =
+    let s = c .before .before .before .before .before .before in
+    fits-as (c .before .before .enum-told2 .given .1) (now (s .args .small)) (now (s .args .large)) (s .args .place)
+    (s .args .c) (s .pre)
 
 same-length : tie.Need-same-length
 same-length c = search needs
 
 returns : tie.Need-returns
 returns c =
-    let sum = c .before .before .before .before in
-    let old = sum .before in
-    let a = old .before .before .before .args in
-    c .before .before .put-at .ensures
-    ∙ ap (putAt (now (a .table)) (a .place))
-    (sum .plus .ensures ∙ ap (λ (x : Cell). plusCell x (a .c)) (old .cell-at .ensures))
+    let a = c .before .before .before .before .before .before .before .before .args in
+    added-as (c .before .before .before .before .enum-told .given .1) (now (a .small)) (now (a .large)) (a .place)
+    (a .c) _ _ (c .before .before .add-wide .ensures)
+
+same-length-2 : tie.Need-same-length-2
+same-length-2 c = search needs
+
+same-length-3 : tie.Need-same-length-3
+same-length-3 c = search needs
+
+returns-2 : tie.Need-returns-2
+returns-2 c =
+    let w = c .before .before .before .before in
+    let a = w .before .before .before .before .before .before .before .args in
+    added-as (w .before .before .before .enum-told2 .given .1) (now (a .small)) (now (a .large)) (a .place) (a .c)
+    _ _ (w .add-narrow .ensures)
 
 pub add-at-spec : {M : Type 1} → statement M
 add-at-spec =
-    tie.close (tie.spec cell-at-requires plus-requires put-at-requires same-length returns)
+    tie.close
+    (tie.spec
+    enum-told
+    add-wide-requires
+    enum-told-2
+    add-narrow-requires
+    same-length
+    returns
+    same-length-2
+    same-length-3
+    returns-2)

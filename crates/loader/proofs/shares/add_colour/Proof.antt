@@ -1,45 +1,77 @@
--- `loader::shares::add_colour` meets its contract: what was looked up is the place of the colour and its squares.
+-- `loader::shares::add_colour` meets its contract: by the layout.
 -- Assumes nothing.
-use mathlib.Core.Path.{refl}
-use native.Mathlib.Omega.{arith}
 use borrow.Author.Needs.{needs}
-use Rattle.grid.proofs.Places.{Bytes}
-use Rattle.loader.specs.Inner.{withColour}
-use Rattle.loader.proofs.StepTable.{place-below, squares-above}
+use denote.Ref.{now}
+use Rattle.grid.specs.Grid.{colourPlace}
+use Rattle.table.specs.Cell.{cellOf}
+use Rattle.loader.specs.Load.{share}
+use Rattle.loader.proofs.ByLayout.{fits-as, colour-as}
 use Rattle.loader.proofs.shares.add_colour.Statement.{statement}
 use Rattle.loader.proofs.shares.add_colour.Tie as tie
 
-is-bytes : (s : tie.Start) → Bytes (s .args .x)
-is-bytes s =
-    let known = s .good .1 .1 .1 .0 in
-    record { one = omega (arith, known); two = omega (arith, known); three = omega (arith, known) }
+enum-told : tie.Need-enum-told
+enum-told c = search needs
 
-look-up-requires : tie.Need-look-up-requires
-look-up-requires c κs = search needs
+add-wide-colour-requires : tie.Need-add-wide-colour-requires
+add-wide-colour-requires c κs =
+    let s = c .before .before .before .before .before in
+    let a = s .args in (
+      s .pre .0,
+      (
+        s .pre .1 .0,
+        fits-as (c .before .enum-told .given .1) (now (a .small)) (now (a .large)) (colourPlace (a .g) (a .x))
+            (cellOf (share (record { colour = a .x; weight = a .w }))) (s .pre .1 .1),
+      ),
+    )
 
-share-of-requires : tie.Need-share-of-requires
-share-of-requires c κs =
-    let s = c .before .before .before in
-    (omega (arith, s .pre .1 .0), squares-above (s .pre .0) (is-bytes s) (c .before .look-up .ensures))
+enum-told-2 : tie.Need-enum-told-2
+enum-told-2 c = search needs
 
-add-at-requires : tie.Need-add-at-requires
-add-at-requires c κs =
-    let s = c .before .before .before .before in
-    rw (place-below (s .pre .0) (is-bytes s) (c .before .before .look-up .ensures), c .share-of .ensures) (s .pre .1 .1)
+add-narrow-colour-requires : tie.Need-add-narrow-colour-requires
+add-narrow-colour-requires c κs =
+    let s = c .before .before .before .before .before .before in
+    let a = s .args in (
+      s .pre .0,
+      (
+        s .pre .1 .0,
+        fits-as (c .before .before .enum-told2 .given .1) (now (a .small)) (now (a .large)) (colourPlace (a .g) (a .x))
+            (cellOf (share (record { colour = a .x; weight = a .w }))) (s .pre .1 .1),
+      ),
+    )
 
 same-length : tie.Need-same-length
 same-length c = search needs
 
 returns : tie.Need-returns
-unfolding withColour
 returns c =
-    let s = c .before .before .before .before .before .before .before in
-    rw (
-      c .before .before .add-at .ensures,
-      place-below (s .pre .0) (is-bytes s) (c .before .before .before .before .before .look-up .ensures),
-      c .before .before .before .share-of .ensures,
-    ) refl
+    let w = c .before .before in
+    let a = w .before .before .before .before .before .before .args in
+    colour-as (w .before .before .enum-told .given .1) (now (a .small)) (now (a .large)) (a .g)
+    (record { colour = a .x; weight = a .w }) _ _ (w .add-wide-colour .ensures)
+
+same-length-2 : tie.Need-same-length-2
+same-length-2 c = search needs
+
+same-length-3 : tie.Need-same-length-3
+same-length-3 c = search needs
+
+returns-2 : tie.Need-returns-2
+returns-2 c =
+    let w = c .before .before .before .before in
+    let a = w .before .before .before .before .before .before .before .args in
+    colour-as (w .before .before .before .enum-told2 .given .1) (now (a .small)) (now (a .large)) (a .g)
+    (record { colour = a .x; weight = a .w }) _ _ (w .add-narrow-colour .ensures)
 
 pub add-colour-spec : {M : Type 1} → statement M
 add-colour-spec =
-    tie.close (tie.spec look-up-requires share-of-requires add-at-requires same-length returns)
+    tie.close
+    (tie.spec
+    enum-told
+    add-wide-colour-requires
+    enum-told-2
+    add-narrow-colour-requires
+    same-length
+    returns
+    same-length-2
+    same-length-3
+    returns-2)

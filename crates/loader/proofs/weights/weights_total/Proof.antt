@@ -8,18 +8,17 @@ use native.Mathlib.Omega.{arith}
 use denote.Ref.{now}
 use lib.ListN.{length, getD}
 use Rattle.basics.specs.Range.{sumFrom}
-use Rattle.table.specs.Sound.{limit}
 use Rattle.loader.specs.declared.add.Added.the-variants.{Total}
 use Rattle.loader.proofs.Totals.{held-within, held-past, block-high, more-weights, passes-early}
 use Rattle.loader.proofs.weights.weights_total.Statement.{statement}
 use Rattle.loader.proofs.weights.weights_total.Tie as tie
 
 abbrev Inv-loop : tie.InvT-loop
-Inv-loop had weights scale total₀ i₀ total i =
-    (i ≤ length weights) × (total ≡ had + scale * sumFrom 0 i (λ k. getD weights k 0)) × (total ≤ limit)
+Inv-loop most had weights scale total₀ i₀ total i =
+    (i ≤ length weights) × (total ≡ had + scale * sumFrom 0 i (λ k. getD weights k 0)) × (total ≤ most)
 
 abbrev μ-loop : tie.MeasureT-loop
-μ-loop had weights scale total₀ i₀ total i = length weights - i
+μ-loop most had weights scale total₀ i₀ total i = length weights - i
 
 -- a block of weights, multiplied, is small
 each : (l : tie.At-loop Inv-loop μ-loop) (k : ℕ) → getD (now (l .before .before .args .weights)) k 0 ≤ 4294967295
@@ -29,7 +28,7 @@ small : (c : tie.After-block-sum Inv-loop μ-loop)
     → c .before .before .before .before .args .scale * c .block-sum .result ≤ 72057594021150720
 small c =
     let l = c .before .before in
-    block-high _ (l .loop .i) ((l .loop .i + 4096) - l .loop .i) _ (l .before .before .pre .1) (omega arith) (each l)
+    block-high _ (l .loop .i) ((l .loop .i + 4096) - l .loop .i) _ (l .before .before .pre .2) (omega arith) (each l)
     (c .block-sum .ensures)
 
 small-rest : (c : tie.After-block-sum2 Inv-loop μ-loop)
@@ -37,7 +36,7 @@ small-rest : (c : tie.After-block-sum2 Inv-loop μ-loop)
 small-rest c =
     let l = c .before .before in
     block-high _ (l .loop .i) (length (now (l .before .before .args .weights)) - l .loop .i) _
-    (l .before .before .pre .1)
+    (l .before .before .pre .2)
     (omega arith) (each l) (c .block-sum2 .ensures)
 
 -- the total of all
@@ -77,7 +76,7 @@ returns c =
     let f : ℕ → ℕ = λ k. getD (now (a .weights)) k 0 in
     let so-far = more-weights (a .scale) (a .had) (l .loop .i) (l .loop .i + 4096) f (omega arith) (l .loop .inv .1)
     (c .before .block-sum .ensures) in
-    passes-early limit (a .scale) (a .had) (l .loop .i + 4096) (length (now (a .weights))) f (omega arith)
+    passes-early (a .most) (a .scale) (a .had) (l .loop .i + 4096) (length (now (a .weights))) f (omega arith)
     (omega (arith, so-far))
 
 add-i : tie.Need-add-i Inv-loop μ-loop
@@ -106,10 +105,12 @@ add-total-2 : tie.Need-add-total-2 Inv-loop μ-loop
 add-total-2 c = omega (arith, small-rest c)
 
 returns-2 : tie.Need-returns-2 Inv-loop μ-loop
-returns-2 c = sym (held-past limit _ (omega (arith, all (c .before))))
+returns-2 c = sym (held-past (c .before .before .before .before .before .args .most) _ (omega (arith, all (c .before))))
 
 returns-3 : tie.Need-returns-3 Inv-loop μ-loop
-returns-3 c = sym (held-within limit _ (omega (arith, all (c .before))) ∙ ap Total (sym (all (c .before))))
+returns-3 c =
+    sym (held-within (c .before .before .before .before .before .args .most) _ (omega (arith, all (c .before)))
+    ∙ ap Total (sym (all (c .before))))
 
 pub weights-total-spec : {M : Type 1} → statement M
 weights-total-spec =
