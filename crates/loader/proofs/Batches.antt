@@ -20,10 +20,11 @@ use Rattle.grid.proofs.Places.{chose}
 use Rattle.table.specs.declared.layout.Layout.{Layout}
 use Rattle.table.specs.declared.layout.Layout.the-variants.{Wide}
 use Rattle.table.specs.Sound.{limit, limitOf}
-use Rattle.loader.specs.Load.{Weighted, weightOf, weightedAt, batchOf, passedNumber, loadNumberIn, loadLaterIn}
-use Rattle.loader.specs.Load.{loadNumber, loadLater, tableIn, tableOf}
-use Rattle.loader.proofs.Loading.{AllBytes}
-use Rattle.loader.proofs.Parts.{batch-weight}
+use Rattle.adder.specs.Batch.{Weighted, weightOf, weightedAt, batchOf}
+use Rattle.adder.specs.Add.{passedNumber}
+use Rattle.loader.specs.Load.{loadNumberIn, loadLaterIn, loadNumber, loadLater, tableIn, tableOf}
+use Rattle.adder.proofs.Loading.{AllBytes}
+use Rattle.adder.proofs.Parts.{batch-weight}
 use Rattle.loader.proofs.Calls.{load-not-threes, load-over, load-done-in}
 use Rattle.loader.proofs.Order.{table-holds-in, table-total-in, table-sound-in, load-table-in}
 

@@ -18,8 +18,9 @@ use Rattle.table.specs.Table.{Table, Sized, viewOf, written}
 use Rattle.table.specs.Layout.{TableIn, SizedIn, isSizedIn, viewIn, writtenIn}
 use Rattle.table.specs.Sound.{limit, limitOf, total, sound}
 use Rattle.table.proofs.Layouts.{in-sized}
-use Rattle.loader.specs.Load.{weightOf, batchOf, loaded, passedNumber, loadNumberOn, loadNumberIn, loadLaterIn}
-use Rattle.loader.specs.Load.{loadNumber, loadLater}
+use Rattle.adder.specs.Batch.{weightOf, batchOf, loaded}
+use Rattle.adder.specs.Add.{passedNumber}
+use Rattle.loader.specs.Load.{loadNumberOn, loadNumberIn, loadLaterIn, loadNumber, loadLater}
 use Rattle.loader.specs.Merge.{merged, mergeNumberOn, mergeNumberIn, mergeLaterIn, mergeNumber, mergeLater}
 
 -- the answer beyond a layout's limit is a refusal

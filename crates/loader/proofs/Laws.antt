@@ -22,14 +22,15 @@ use Rattle.table.specs.declared.layout.Layout.the-variants.{Wide, Narrow}
 use Rattle.table.specs.Table.{Table, Sized, isSized, viewOf}
 use Rattle.table.specs.Layout.{TableIn, SizedIn, isSizedIn, viewIn}
 use Rattle.table.specs.Sound.{limit, limitOf, total, sound}
-use Rattle.loader.specs.Load.{weightOf, batchOf, loaded, passedNumber, loadNumberOn, loadNumberIn, loadLaterIn}
-use Rattle.loader.specs.Load.{loadNumber, loadLater}
+use Rattle.adder.specs.Batch.{weightOf, batchOf, loaded}
+use Rattle.adder.specs.Add.{passedNumber}
+use Rattle.loader.specs.Load.{loadNumberOn, loadNumberIn, loadLaterIn, loadNumber, loadLater}
 use Rattle.loader.specs.Merge.{merged, mergeNumberOn, mergeNumberIn, mergeLaterIn, mergeNumber, mergeLater}
 use Rattle.table.proofs.Tables.{same-size}
 use Rattle.table.proofs.Layouts.{sized-in, sized-once, HoldsIn, list-holds-in}
 use Rattle.table.proofs.Soundness.{Sound, sound-same, total-same}
-use Rattle.loader.proofs.Loading.{held-sound, held-total}
-use Rattle.loader.proofs.Parts.{all-bytes-of}
+use Rattle.adder.proofs.Loading.{held-sound, held-total}
+use Rattle.adder.proofs.Parts.{all-bytes-of}
 use Rattle.loader.proofs.Merging.{merge-sound, merge-total}
 use Rattle.loader.proofs.Calls.{pairs, load-on, load-after, load-done-in, merge-on, merge-after, merge-done}
 

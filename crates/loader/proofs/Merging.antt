@@ -16,8 +16,8 @@ use Rattle.table.specs.Cell.{View, numberOf, cellOf, plusCell}
 use Rattle.table.specs.declared.layout.Layout.{Layout}
 use Rattle.table.specs.Layout.{TableIn, SizedIn, viewIn, writtenIn, putIn}
 use Rattle.table.specs.Sound.{limitOf, total}
+use Rattle.adder.specs.Add.{CellFits}
 use Rattle.loader.specs.Merge.{merged}
-use Rattle.loader.specs.Inner.{CellFits}
 use Rattle.table.proofs.Layouts.{HoldsIn, cell-in, holds-same-in, holds-list-in, holds-itself-in, add-holds-in}
 use Rattle.table.proofs.Layouts.{sound-held-in}
 use Rattle.table.proofs.Cells.{number-cell, number-plus}

@@ -19,8 +19,9 @@ use Rattle.table.specs.declared.layout.Layout.the-variants.{Wide}
 use Rattle.table.specs.Table.{viewOf, written, emptyOf}
 use Rattle.table.specs.Layout.{TableIn, isSizedIn, viewIn, writtenIn, emptyIn}
 use Rattle.table.specs.Sound.{limit, limitOf, total, sound}
-use Rattle.loader.specs.Load.{Weighted, sumOver, adds, weightOf, loaded, tableIn, tableOf, batchOf}
-use Rattle.loader.specs.Load.{passedNumber, loadNumberOn, loadNumberIn, loadLaterIn}
+use Rattle.adder.specs.Batch.{Weighted, sumOver, adds, weightOf, loaded, batchOf}
+use Rattle.adder.specs.Add.{passedNumber}
+use Rattle.loader.specs.Load.{tableIn, tableOf, loadNumberOn, loadNumberIn, loadLaterIn}
 use Rattle.loader.specs.Merge.{merged, mergeNumberOn, mergeNumberIn, mergeLaterIn}
 use Rattle.loader.specs.Plan.{Batch, Plan, empty, load, merge, EndedIn, Stopped, Filled, endedOfIn, endedOf}
 use Rattle.loader.specs.Plan.{thenLoadIn, thenMergeIn, endsIn, ends, leaves, malformed, firstOf, firstMalformed}
@@ -28,8 +29,8 @@ use Rattle.loader.specs.Plan.{BytesIn}
 use Rattle.table.proofs.Tables.{Holds}
 use Rattle.table.proofs.Layouts.{in-sized, HoldsIn, list-holds-in, holds-list-in, holds-same-in, empty-holds-in}
 use Rattle.table.proofs.Soundness.{zeros-sound, zeros-total, sound-same, total-same}
-use Rattle.loader.proofs.Loading.{AllBytes, over-append, over-perm, load-total, load-sound}
-use Rattle.loader.proofs.Parts.{all-bytes-of}
+use Rattle.adder.proofs.Loading.{AllBytes, over-append, over-perm, load-total, load-sound}
+use Rattle.adder.proofs.Parts.{all-bytes-of}
 
 pub bytes-append : (cs ds : List Weighted) → AllBytes cs → AllBytes ds → AllBytes (cs ++ ds)
 bytes-append [] ds b c = c

@@ -14,7 +14,8 @@ use Rattle.grid.proofs.Places.{chose}
 use Rattle.table.specs.declared.layout.Layout.{Layout}
 use Rattle.table.specs.Layout.{TableIn, viewIn}
 use Rattle.table.specs.Sound.{limitOf, total}
-use Rattle.loader.specs.Load.{Weighted, weightOf, sumOver, tableIn, batchOf}
+use Rattle.adder.specs.Batch.{Weighted, weightOf, sumOver, batchOf}
+use Rattle.loader.specs.Load.{tableIn}
 use Rattle.loader.specs.Plan.{Plan, empty, load, merge, EndedIn, Stopped, Filled, endedOfIn, thenLoadIn}
 use Rattle.loader.specs.Plan.{thenMergeIn, endsIn, leaves, firstMalformed, BytesIn}
 use Rattle.loader.proofs.Laws.{load-says-in, merge-says-in}

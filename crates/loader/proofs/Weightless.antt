@@ -23,9 +23,10 @@ use Rattle.table.specs.Table.{Table}
 use Rattle.table.specs.Layout.{TableIn, isSizedIn, viewIn, writtenIn}
 use Rattle.table.specs.Sound.{limitOf, total, sound, unsoundNumber}
 use Rattle.table.proofs.Layouts.{holds-list-in, holds-itself-in, holds-same-in}
-use Rattle.loader.specs.Load.{Weighted, share, adds, sumOver, weightOf, loaded, weightedAt, batchOf, loadNumberOn}
-use Rattle.loader.specs.Load.{passedNumber, loadNumberIn, loadLaterIn, loadNumber, loadLater}
-use Rattle.loader.proofs.Loading.{over-list}
+use Rattle.adder.specs.Batch.{Weighted, share, adds, sumOver, weightOf, loaded, weightedAt, batchOf}
+use Rattle.adder.specs.Add.{passedNumber}
+use Rattle.loader.specs.Load.{loadNumberOn, loadNumberIn, loadLaterIn, loadNumber, loadLater}
+use Rattle.adder.proofs.Loading.{over-list}
 use Rattle.loader.proofs.Laws.{load-refused-in, load-says-in}
 
 -- ---- a colour of weight 0 adds nothing

@@ -14,8 +14,8 @@ use Rattle.grid.specs.Grid.{colourPlace}
 use Rattle.pixels.specs.Colour.{colourAt}
 use Rattle.table.specs.Table.{tableLen, isSized, viewOf, written}
 use Rattle.table.specs.Sound.{between, squaredSpan, plusSpan, squaresSpan, inBounds, spanAt, binSound, total, sound}
-use Rattle.loader.specs.Load.{share, adds, sumOver, weightOf, loaded, weightedAt, batchOf, loadNumberOn}
-use Rattle.loader.specs.Load.{loadNumberIn, loadLaterIn, loadNumber, loadLater}
+use Rattle.adder.specs.Batch.{share, adds, sumOver, weightOf, loaded, weightedAt, batchOf}
+use Rattle.loader.specs.Load.{loadNumberOn, loadNumberIn, loadLaterIn, loadNumber, loadLater}
 use Rattle.loader.specs.Merge.{merged, mergeNumberOn, mergeNumberIn, mergeLaterIn, mergeNumber, mergeLater}
 
 -- an answer, and the table then

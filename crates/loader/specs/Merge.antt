@@ -11,7 +11,7 @@ use Rattle.table.specs.declared.layout.Layout.the-variants.{Wide}
 use Rattle.table.specs.Table.{Table}
 use Rattle.table.specs.Layout.{TableIn, isSizedIn, viewIn, writtenIn}
 use Rattle.table.specs.Sound.{limitOf, total, sound, unsoundNumber}
-use Rattle.loader.specs.Load.{passedNumber}
+use Rattle.adder.specs.Add.{passedNumber}
 
 -- "A merge adds a second table into a first, number by number."
 unfoldable pub merged : View → View → View

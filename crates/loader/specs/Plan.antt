@@ -10,7 +10,8 @@ use Rattle.table.specs.declared.layout.Layout.{Layout}
 use Rattle.table.specs.declared.layout.Layout.the-variants.{Wide}
 use Rattle.table.specs.Table.{Table}
 use Rattle.table.specs.Layout.{TableIn, emptyIn}
-use Rattle.loader.specs.Load.{Weighted, batchOf, loadNumberIn, loadLaterIn}
+use Rattle.adder.specs.Batch.{Weighted, batchOf}
+use Rattle.loader.specs.Load.{loadNumberIn, loadLaterIn}
 use Rattle.loader.specs.Merge.{mergeNumberIn, mergeLaterIn}
 
 -- what a caller lends to a load

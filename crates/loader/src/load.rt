@@ -1,7 +1,7 @@
 // Loading: a batch of colours is added to a table.
-use crate::add::Added;
-use crate::add::add_batch_in;
-use crate::steps::fill_steps;
+use adder::add::Added;
+use adder::add::add_batch_in;
+use adder::steps::fill_steps;
 use grid::place::Chosen;
 use grid::place::grid_of;
 use table::layout::Layout;
@@ -13,9 +13,9 @@ ghost use mathlib.Core.Bool.{true};
 ghost use Prim.Native.Nat.{_/_};
 ghost use lib.ListN.{length};
 ghost use Rattle.table.specs.Layout.{laid};
-ghost use Rattle.loader.specs.Load.{scaledWeights, passedNumber};
+ghost use Rattle.adder.specs.Batch.{scaledWeights};
+ghost use Rattle.adder.specs.Add.{passedNumber, IsScale};
 ghost use Rattle.loader.specs.Load.{loadNumberIn, loadLaterIn, loadNumber, loadLater};
-ghost use Rattle.loader.specs.Add.{IsScale};
 
 // The answer when a total would pass a layout's limit.
 pub(crate) fn passed_number(layout: Layout) -> u8

@@ -1,6 +1,6 @@
 // Merging: a second table is added into a first.
 use crate::load::passed_number;
-use crate::shares::add_at;
+use adder::shares::add_at;
 use grid::place::Chosen;
 use grid::place::Grid;
 use grid::place::bins;

@@ -37,10 +37,11 @@ use Rattle.table.proofs.sound.keeps_bounds as keeps-bounds
 use Rattle.table.proofs.sound.limit_of as limit-of
 use Rattle.table.proofs.sound.total_in as total-in
 use Rattle.table.proofs.sound.sound_total as sound-total
-use Rattle.loader.specs.declared.add.Added.{Added}
-use Rattle.loader.proofs.steps.fill_steps as fill-steps
-use Rattle.loader.proofs.add.add_batch_in as add-batch-in
-use Rattle.loader.proofs.add.add_batch as add-batch
+use Rattle.adder.specs.declared.add.Added.{Added}
+use Rattle.adder.proofs.shares.add_at as add-at
+use Rattle.adder.proofs.steps.fill_steps as fill-steps
+use Rattle.adder.proofs.add.add_batch_in as add-batch-in
+use Rattle.adder.proofs.add.add_batch as add-batch
 use Rattle.loader.proofs.load.load_scaled_in as load-scaled-in
 use Rattle.loader.proofs.load.load_scaled as load-scaled
 use Rattle.loader.proofs.load.load_in as load-in
@@ -234,7 +235,11 @@ pub sound-total-determined : Determines 1 sound-total.Kinds.ps sound-total.Kinds
     (λ κs r e. r)
 sound-total-determined κs a r s x y p q = determined p q
 
--- ---- loader
+-- ---- adder
+pub add-at-determined : DeterminesBy 2 add-at.Kinds.ps add-at.Kinds.r add-at.Reads.Learnt
+    (λ κs a r e. lentLists (a .0) (now (e .1 .0)) (now (e .1 .1 .0)))
+add-at-determined κs a r s x y p q = ap (listsIn (a .0)) (determined p q)
+
 pub fill-steps-determined : Determines 1 fill-steps.Kinds.ps fill-steps.Kinds.r fill-steps.Reads.Learnt
     (λ κs r e. now (e .0))
 fill-steps-determined κs a r s x y p q = determined p q
@@ -248,6 +253,7 @@ pub add-batch-determined : Determines {A = Added × List ℕ} 4 add-batch.Kinds.
     (λ κs r e. (r, now (e .1 .0)))
 add-batch-determined κs a r s x y p q = both (determined (p .0) (q .0)) (determined (p .1) (q .1))
 
+-- ---- loader
 pub load-scaled-in-determined : DeterminesBy {A = ℕ × (List ℕ × List ℕ)} 4 load-scaled-in.Kinds.ps
     load-scaled-in.Kinds.r load-scaled-in.Reads.Learnt
     (λ κs a r e. (r, lentLists (a .0) (now (e .1 .1 .1 .1 .1 .0)) (now (e .1 .1 .1 .1 .1 .1 .0))))

@@ -13,7 +13,8 @@ use Rattle.table.specs.declared.layout.Layout.the-variants.{Wide}
 use Rattle.table.specs.Table.{viewOf}
 use Rattle.table.specs.Sound.{limit, total}
 use Rattle.table.proofs.Tables.{sized-test}
-use Rattle.loader.specs.Load.{weightOf, ColourAt}
+use Rattle.adder.specs.Batch.{weightOf}
+use Rattle.loader.specs.Load.{ColourAt}
 use Rattle.loader.specs.Plan.{Plan, Filled, ends, leaves, BytesIn}
 use Rattle.loader.proofs.Order.{table-holds, table-total, table-sound, leaves-bytes}
 use Rattle.loader.proofs.Plans.{filled-table}

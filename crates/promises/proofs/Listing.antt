@@ -26,9 +26,10 @@ use Rattle.table.specs.Cell.{View}
 use Rattle.table.specs.Table.{isSized, viewOf}
 use Rattle.table.specs.Sound.{limit, total, sound}
 use Rattle.table.proofs.Tables.{sized-test, empty-holds, view-at}
-use Rattle.loader.specs.Load.{Weighted, weightOf, tableOf, batchOf, loadNumber, loadLater}
-use Rattle.loader.proofs.Loading.{AllBytes}
-use Rattle.loader.proofs.Parts.{batch-weight, all-bytes-of}
+use Rattle.adder.specs.Batch.{Weighted, weightOf, batchOf}
+use Rattle.loader.specs.Load.{tableOf, loadNumber, loadLater}
+use Rattle.adder.proofs.Loading.{AllBytes}
+use Rattle.adder.proofs.Parts.{batch-weight, all-bytes-of}
 use Rattle.loader.proofs.Order.{bytes-append, weight-append, table-holds, table-total, table-sound, empty-table}
 use Rattle.loader.proofs.Batches.{batch-none, batch-append, load-stray, load-fits, load-passes}
 use Rattle.boxes.specs.Box.{minAt, maxAt, lowSide, highSide}

@@ -16,7 +16,7 @@ use Rattle.pixels.specs.Colour.{colourAt}
 use Rattle.grid.proofs.Places.{chose, colour-place-lt}
 use Rattle.table.specs.declared.layout.Layout.the-variants.{Wide}
 use Rattle.table.specs.Table.{viewOf}
-use Rattle.loader.proofs.Parts.{colour-bytes}
+use Rattle.adder.proofs.Parts.{colour-bytes}
 use Rattle.sums.specs.declared.source.Source.{Source}
 use Rattle.cutter.specs.Palette.{itsColour, coloursOf}
 use Rattle.boxes.specs.Holds.{holdsAt}

@@ -25,10 +25,11 @@ use Rattle.table.proofs.Tables.{sized-test, list-holds}
 use Rattle.table.proofs.NarrowTables.{narrow-test, wide-view}
 use Rattle.table.proofs.Layouts.{holds-list-in, narrow-wide}
 use Rattle.table.proofs.Soundness.{sound-limit, total-high}
-use Rattle.loader.specs.Load.{weightOf, loaded, batchOf, loadNumber, loadLater, loadNumberIn, loadLaterIn}
+use Rattle.adder.specs.Batch.{weightOf, loaded, batchOf}
+use Rattle.loader.specs.Load.{loadNumber, loadLater, loadNumberIn, loadLaterIn}
 use Rattle.loader.specs.Merge.{merged, mergeNumber, mergeLater, mergeNumberIn, mergeLaterIn}
-use Rattle.loader.proofs.Laws.{load-refused-in, load-tests-in, load-says-in}
-use Rattle.loader.proofs.Laws.{merge-refused-in, merge-tests-in, merge-says-in}
+use Rattle.loader.proofs.Laws.{load-refused-in, load-tests-in, load-says-in, merge-refused-in, merge-tests-in}
+use Rattle.loader.proofs.Laws.{merge-says-in}
 use Rattle.widen.specs.Widen.{widened, widenNumber, widenLater}
 use Rattle.widen.proofs.Laws.{widen-says}
 use Rattle.sums.specs.declared.source.Source.{Source}

@@ -12,7 +12,8 @@ use Rattle.grid.specs.Grid.{gridOf, colourPlace}
 use Rattle.table.specs.declared.layout.Layout.{Layout}
 use Rattle.table.specs.Layout.{TableIn}
 use Rattle.table.specs.Sound.{limitOf}
-use Rattle.loader.specs.Load.{weightOf, tableIn}
+use Rattle.adder.specs.Batch.{weightOf}
+use Rattle.loader.specs.Load.{tableIn}
 use Rattle.loader.specs.Plan.{Plan, Filled, Stopped, endedOfIn, endsIn, leaves, firstMalformed, BytesIn}
 use Rattle.loader.proofs.Order.{table-perm-in, ends-is-in, any-order-in, malformed-refused-in}
 use Rattle.loader.proofs.Plans.{filled-table}

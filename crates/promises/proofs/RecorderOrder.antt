@@ -12,7 +12,8 @@ use Rattle.grid.proofs.Places.{chose}
 use Rattle.table.specs.declared.layout.Layout.the-variants.{Wide}
 use Rattle.table.specs.Table.{Table, viewOf, written}
 use Rattle.table.specs.Sound.{limit, total}
-use Rattle.loader.specs.Load.{Weighted, weightOf, loaded, tableOf}
+use Rattle.adder.specs.Batch.{Weighted, weightOf, loaded}
+use Rattle.loader.specs.Load.{tableOf}
 use Rattle.loader.specs.Plan.{Plan, Filled, ends, leaves, firstMalformed, BytesIn}
 use Rattle.loader.proofs.Order.{load-table, table-perm, table-total, leaves-bytes, any-order}
 use Rattle.loader.proofs.Plans.{filled-table}

@@ -18,9 +18,10 @@ use Rattle.grid.proofs.Places.{Bytes, colour-place-lt}
 use Rattle.table.specs.declared.layout.Layout.the-variants.{Wide}
 use Rattle.table.specs.Table.{isSized, viewOf}
 use Rattle.table.specs.Sound.{limit, total}
-use Rattle.loader.specs.Load.{Weighted, sumOver, tableOf}
+use Rattle.adder.specs.Batch.{Weighted, sumOver}
+use Rattle.loader.specs.Load.{tableOf}
 use Rattle.loader.specs.Plan.{Plan, Filled, ends, leaves, BytesIn}
-use Rattle.loader.proofs.Loading.{AllBytes, share-weight, over-none, over-more}
+use Rattle.adder.proofs.Loading.{AllBytes, share-weight, over-none, over-more}
 use Rattle.loader.proofs.Order.{table-holds, leaves-bytes}
 use Rattle.loader.proofs.Plans.{filled-table}
 use Rattle.boxes.specs.declared.sides.Bounds.{Bounds}

@@ -17,8 +17,8 @@ use Rattle.pixels.specs.Colour.{colourAt}
 use Rattle.table.specs.Table.{tableLen, isSized, viewOf, written}
 use Rattle.table.specs.Sound.{limit, between, squaredSpan, plusSpan, squaresSpan, inBounds, spanAt, binSound}
 use Rattle.table.specs.Sound.{total, sound}
-use Rattle.loader.specs.Load.{share, adds, sumOver, weightOf, loaded, tableOf, tableIn, weightedAt, batchOf, loadNumberOn}
-use Rattle.loader.specs.Load.{loadNumberIn, loadLaterIn}
+use Rattle.adder.specs.Batch.{share, adds, sumOver, weightOf, loaded, weightedAt, batchOf}
+use Rattle.loader.specs.Load.{tableOf, tableIn, loadNumberOn, loadNumberIn, loadLaterIn}
 use Rattle.boxes.specs.Box.{minAt, maxAt, lowSide, highSide}
 use Rattle.bins.specs.Sum.{sum3, binSum, boxSum}
 use Rattle.sums.specs.Box.{statsOf}

@@ -15,7 +15,8 @@ use Rattle.table.specs.declared.layout.Layout.{Layout}
 use Rattle.table.specs.Table.{tableLen, Sized, isSized, viewOf}
 use Rattle.table.specs.Layout.{TableIn, SizedIn, isSizedIn, viewIn}
 use Rattle.table.specs.Sound.{limit, limitOf, total, sound}
-use Rattle.loader.specs.Load.{weightOf, batchOf, passedNumber}
+use Rattle.adder.specs.Batch.{weightOf, batchOf}
+use Rattle.adder.specs.Add.{passedNumber}
 use Rattle.sums.specs.declared.source.Source.{Source}
 use Rattle.cutter.specs.Cut.{BuffersIn, lengthsRight}
 use Rattle.band.specs.Band.{allBelow}

@@ -13,8 +13,8 @@ use Rattle.grid.specs.declared.place.Grid.{Grid}
 use Rattle.table.specs.declared.layout.Layout.the-variants.{Wide}
 use Rattle.table.specs.Table.{Table, viewOf}
 use Rattle.table.specs.Sound.{limit, total}
-use Rattle.loader.specs.Load.{Weighted, weightOf}
-use Rattle.loader.specs.Add.{scaledBatch}
+use Rattle.adder.specs.Batch.{Weighted, weightOf}
+use Rattle.adder.specs.Add.{scaledBatch}
 use Rattle.loader.specs.Plan.{Plan, Filled, ends}
 use Rattle.sums.specs.declared.source.Source.{Source}
 use Rattle.cutter.specs.Cut.{Buffers}

@@ -15,8 +15,8 @@ use Rattle.grid.specs.Grid.{colourPlace}
 use Rattle.pixels.specs.Colour.{colourAt}
 use Rattle.table.specs.Table.{Table, tableLen, isSized, viewOf, written}
 use Rattle.table.specs.Sound.{between, squaredSpan, plusSpan, squaresSpan, inBounds, spanAt, binSound, total, sound}
-use Rattle.loader.specs.Load.{share, adds, sumOver, weightOf, loaded, weightedAt, batchOf, scaledWeights, loadNumberOn}
-use Rattle.loader.specs.Load.{loadNumberIn, loadLaterIn}
+use Rattle.adder.specs.Batch.{share, adds, sumOver, weightOf, loaded, weightedAt, batchOf, scaledWeights}
+use Rattle.loader.specs.Load.{loadNumberOn, loadNumberIn, loadLaterIn}
 use Rattle.recorder.specs.declared.session.Session.{Session}
 use Rattle.recorder.specs.declared.session.SessionAnswer.{SessionAnswer}
 use Rattle.recorder.specs.Session.{isInterval, intervalNumber, reloaded, begun}

@@ -4,7 +4,7 @@ use mathlib.Core.Path.{_∙_}
 use borrow.Author.Needs.{needs}
 use denote.Ref.{now}
 use Rattle.table.specs.Layout.{TableIn, laid}
-use Rattle.loader.proofs.Scaled.{once-number, once-later}
+use Rattle.loader.proofs.Once.{once-number, once-later}
 use Rattle.loader.proofs.load.load_in.Statement.{statement}
 use Rattle.loader.proofs.load.load_in.Tie as tie
 

@@ -18,13 +18,14 @@ use Rattle.table.specs.Layout.{TableIn, laid, TableOfIn}
 use Rattle.table.specs.Sound.{limitOf}
 use Rattle.table.proofs.Layouts.{lengths-are, sized-in}
 use Rattle.table.proofs.Total.{unsound-says, total-says}
-use Rattle.loader.specs.declared.add.Added.{Added}
-use Rattle.loader.specs.Load.{scaledWeights, loadNumberIn, loadLaterIn}
-use Rattle.loader.specs.Add.{KnownIn, Whole, addedAnswerIn}
+use Rattle.adder.specs.declared.add.Added.{Added}
+use Rattle.adder.specs.Batch.{scaledWeights}
+use Rattle.adder.specs.Add.{KnownIn, Whole, addedAnswerIn}
+use Rattle.loader.specs.Load.{loadNumberIn, loadLaterIn}
+use Rattle.adder.proofs.Scaled.{scaled-pairs, given-length}
 use Rattle.loader.proofs.Calls.{pairs, load-no-grid-in, load-not-threes, load-not-paired, load-length}
 use Rattle.loader.proofs.Calls.{load-unsound}
-use Rattle.loader.proofs.Scaled.{scaled-pairs, given-length}
-use Rattle.loader.proofs.Adding.{number-says, later-says}
+use Rattle.loader.proofs.ByAdding.{number-says, later-says}
 use Rattle.loader.proofs.load.load_scaled_in.Statement.{statement}
 use Rattle.loader.proofs.load.load_scaled_in.Tie as tie
 

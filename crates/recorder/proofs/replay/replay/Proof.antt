@@ -14,7 +14,7 @@ use Rattle.table.specs.Layout.{TableOf}
 use Rattle.table.specs.Sound.{limit}
 use Rattle.table.proofs.Tables.{sized-by, not-sized-by}
 use Rattle.table.proofs.Total.{total-says, unsound-says}
-use Rattle.loader.specs.Add.{Known}
+use Rattle.adder.specs.Add.{Known}
 use Rattle.recorder.specs.Session.{isInterval}
 use Rattle.recorder.specs.Replay.{Recorded, recorded, lentFits}
 use Rattle.recorder.proofs.Sessions.{is-interval, no-interval}
