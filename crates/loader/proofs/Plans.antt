@@ -114,3 +114,9 @@ module _ {l : Layout} (b1 b2 b3 : ℕ) {g : Grid} (e : gridOf b1 b2 b3 ≡ chose
   pub filled-table : (p : Plan) → BytesIn p → {t : TableIn l} → endsIn l b1 b2 b3 p ≡ Filled t
       → (weightOf (leaves p) ≤ limitOf l) × (t ≡ tableIn l g (leaves p))
   filled-table p y r = (filled-fits p y r, table-is p y (filled-fits p y r) r)
+
+  -- and none of its batches is malformed
+  pub filled-formed : (p : Plan) → BytesIn p → {t : TableIn l} → endsIn l b1 b2 b3 p ≡ Filled t → firstMalformed p ≡ 0
+  filled-formed p y r =
+      filled-done (firstMalformed p) (tableIn l g (leaves p))
+      (sym (ends-is-in l b1 b2 b3 e p y (filled-fits p y r)) ∙ r)

@@ -1,53 +1,106 @@
 -- The narrow layout beside the wide one (Rules, Layouts): on a table whose total is within the narrow limit, every call
--- gives what the wide one gives on the widened table. So all that is promised of a wide cut is promised of a narrow one.
+-- gives what the wide one gives on the widened table, and its numbers and moments fit 32 bits. So all that is promised
+-- of a wide cut is promised of a narrow one.
 -- Assumes nothing.
 use mathlib.Core.Path.{_≡_, refl, sym, ap, subst, _∙_}
 use mathlib.Core.Bool.{Bool, true, not, _&&_}
 use mathlib.Core.List.{List}
-use Prim.Native.Nat.{ℕ, zero, suc, _+_, _/_, _%_, _≤_}
+use Prim.Native.Nat.{ℕ, zero, suc, _+_, _*_, _/_, _%_, _≤_, _<_}
 use native.Mathlib.Omega.{arith}
 use borrow.Author.Tests.{le-ltb}
-use lib.Dec.{eqb, ltb, lit≤}
+use lib.Dec.{eqb, ltb, lit<, lit≤}
 use lib.ListN.{length}
 use Rattle.basics.specs.Answer.{refuse, whenDone}
+use Rattle.basics.specs.Range.{sumFrom}
+use Rattle.basics.proofs.Range.{term-le}
 use Rattle.grid.specs.declared.place.Grid.{Grid}
 use Rattle.grid.specs.declared.place.Chosen.{Chosen}
 use Rattle.grid.specs.declared.place.Chosen.the-variants as chosen
-use Rattle.grid.specs.Grid.{gridOf, onGrid, numberOn, binsOf}
+use Rattle.grid.specs.Grid.{gridOf, onGrid, numberOn, Accepted, binsOf, binAt}
+use Rattle.grid.proofs.Places.{chose, bins-inside}
 use Rattle.table.specs.declared.layout.Layout.{Layout}
 use Rattle.table.specs.declared.layout.Layout.the-variants.{Wide, Narrow}
-use Rattle.table.specs.Cell.{View}
+use Rattle.table.specs.Cell.{View, zeros}
 use Rattle.table.specs.Table.{Table, isSized, viewOf, written}
 use Rattle.table.specs.Narrow.{NarrowTable, narrowView, narrowWritten}
 use Rattle.table.specs.Layout.{TableIn, isSizedIn, viewIn, writtenIn}
 use Rattle.table.specs.Sound.{limit, limitOf, total, sound}
-use Rattle.table.proofs.Tables.{sized-test, list-holds}
+use Rattle.table.proofs.Tables.{sized-test}
 use Rattle.table.proofs.NarrowTables.{narrow-test, wide-view}
 use Rattle.table.proofs.Layouts.{holds-list-in, narrow-wide}
-use Rattle.table.proofs.Soundness.{sound-limit, total-high}
-use Rattle.adder.specs.Batch.{weightOf, loaded, batchOf}
-use Rattle.loader.specs.Load.{loadNumber, loadLater, loadNumberIn, loadLaterIn}
+use Rattle.table.proofs.Soundness.{Sound, sound-in, sound-limit, total-high, numbers-high, number-below}
+use Rattle.adder.specs.Batch.{Weighted, weightOf, loaded, batchOf}
+use Rattle.loader.specs.Load.{tableIn, loadNumber, loadLater, loadNumberIn, loadLaterIn}
 use Rattle.loader.specs.Merge.{merged, mergeNumber, mergeLater, mergeNumberIn, mergeLaterIn}
+use Rattle.loader.specs.Plan.{Plan, Filled, endedOf, endedOfIn, endsIn, leaves, BytesIn}
 use Rattle.loader.proofs.Laws.{load-refused-in, load-tests-in, load-says-in, merge-refused-in, merge-tests-in}
 use Rattle.loader.proofs.Laws.{merge-says-in}
+use Rattle.loader.proofs.Order.{table-holds-in, table-total-in, leaves-bytes, ends-is-in}
+use Rattle.loader.proofs.Plans.{filled-table, filled-formed}
 use Rattle.widen.specs.Widen.{widened, widenNumber, widenLater}
-use Rattle.widen.proofs.Laws.{widen-says}
+use Rattle.widen.proofs.Laws.{widened-holds, widened-same, widen-says}
 use Rattle.sums.specs.declared.source.Source.{Source}
 use Rattle.sums.specs.declared.source.Source.the-variants.{Moments, Bins}
 use Rattle.sums.specs.Moments.{momentsOf}
+use Rattle.sums.proofs.Below.{below-small, below-high}
 use Rattle.rounds.specs.Loop.{boxesOf}
-use Rattle.cutter.specs.Cut.{Results, resultsOn, longEnough, lengthsRight, cutNumberOn, cutNumberIn, refusedRecord}
-use Rattle.cutter.specs.Cut.{doneRecord, recordOn, cutRecordIn, laterOn, cutLaterIn}
-use Rattle.promises.specs.Narrow.{Fits, SameWork, withNarrow, withWide, SameLoads, SameMerges, SameCuts, Widening}
+use Rattle.cutter.specs.Cut.{Results, BuffersIn, resultsOn, workLater, longEnough, lengthsRight, cutNumberOn}
+use Rattle.cutter.specs.Cut.{cutNumberIn, cutNumber, refusedRecord, doneRecord, recordOn, cutRecordIn, laterOn}
+use Rattle.cutter.specs.Cut.{cutLaterIn}
+use Rattle.cutter.proofs.Laws.{cut-refuses, cut-says, bins-leave-work}
+use Rattle.promises.specs.Narrow.{Fits, Below, SameWork, withNarrow, withWide, SameLoads, SameMerges, SameCuts}
+use Rattle.promises.specs.Narrow.{SamePlans, Widening}
+
+-- ---- what fits 32 bits
+-- "No weight, no component sum and no moment of these reaches 2^32", of any view that is sound for the narrow limit
+pub narrow-below : (b1 b2 b3 : ℕ) {g : Grid} → gridOf b1 b2 b3 ≡ chosen.Accepted g → (v : View)
+    → sound (limitOf Narrow) g v ≡ true → (p : ℕ) → p < binsOf g → Below g v p
+unfolding momentsOf
+narrow-below b1 b2 b3 {g} e v is-sound p h =
+    record {
+      numbers = λ j l. omega (arith, term-le 0 (binsOf g) (λ q. v q j) p (omega arith) (omega arith), all j l);
+      moments = λ j l. omega (arith, below-high a s r gr b j one two three l, total-high s);
+      squares = number-below a s p h (lit≤ tt) 4 (lit< tt);
+      square-moments = below-small a (sound-in Narrow s) r gr b 4 one two three (lit< tt);
+    }
+  where
+    a : Accepted g
+    a = chose b1 b2 b3 g e .accepted
+
+    s : Sound (limitOf Narrow) g v
+    s = record { holds = is-sound }
+
+    all : (j : ℕ) → j < 4 → sumFrom 0 (binsOf g) (λ q. v q j) ≤ 255 * limitOf Narrow
+    all j l = omega (arith, numbers-high a s j l, total-high s)
+
+    -- the moments at a place are sums over the bins below these
+    r : ℕ
+    r = binAt g 0 p + 1
+
+    gr : ℕ
+    gr = binAt g 1 p + 1
+
+    b : ℕ
+    b = binAt g 2 p + 1
+
+    one : r ≤ g .size1
+    one = omega (arith, bins-inside a p h .one)
+
+    two : gr ≤ g .size2
+    two = omega (arith, bins-inside a p h .two)
+
+    three : b ≤ g .size3
+    three = omega (arith, bins-inside a p h .three)
 
 -- ---- the widened table holds what the narrow one holds
 module _ {g : Grid} {t : NarrowTable} (f : Fits g t) where
-  pub same-view : viewOf (written (binsOf g) (narrowView t)) ≡ narrowView t
+  pub same-view : viewOf (widened (binsOf g) t) ≡ narrowView t
+  unfolding widened
   same-view = wide-view (f .lent)
 
   -- it is a table of the grid as well
-  same-size : isSizedIn Narrow t (binsOf g) ≡ isSized (written (binsOf g) (narrowView t)) (binsOf g)
-  same-size = narrow-test (f .lent) ∙ sym (sized-test (list-holds (binsOf g) (narrowView t) .lent))
+  same-size : isSizedIn Narrow t (binsOf g) ≡ isSized (widened (binsOf g) t) (binsOf g)
+  same-size = narrow-test (f .lent) ∙ sym (sized-test (widened-holds (binsOf g) t .lent))
 
   -- and is sound for the wide limit just where the narrow one is for its own
   same-sound : sound (limitOf Narrow) g (narrowView t) ≡ sound limit g (narrowView t)
@@ -71,7 +124,7 @@ module _ (b1 b2 b3 : ℕ) {g : Grid} (e : gridOf b1 b2 b3 ≡ chosen.Accepted g)
     (colours : List ℕ) (weighted : Bool) (weights : List ℕ)
     (under : total g (narrowView t) + weightOf (batchOf colours weighted weights) ≤ limitOf Narrow) where
   abbrev now-wide : Table
-  now-wide = written (binsOf g) (narrowView t)
+  now-wide = widened (binsOf g) t
 
   abbrev all : View → ℕ
   all v = total g v + weightOf (batchOf colours weighted weights)
@@ -112,10 +165,11 @@ module _ (b1 b2 b3 : ℕ) {g : Grid} (e : gridOf b1 b2 b3 ≡ chosen.Accepted g)
   load-view n m =
       ap narrowView (load-left Narrow t n)
       ∙ sym (narrow-wide (binsOf g) (loaded g (batchOf colours weighted weights) (narrowView t)))
-      ∙ ap (λ (v : View). viewOf (written (binsOf g) (loaded g (batchOf colours weighted weights) v))) (sym (same-view f))
+      ∙ ap (λ (v : View). viewOf (written (binsOf g) (loaded g (batchOf colours weighted weights) v)))
+      (sym (same-view f))
       ∙ sym (ap viewOf (load-left Wide now-wide m))
 
-  pub narrow-load-is-wide : SameLoads b1 b2 b3 t (written (binsOf g) (narrowView t)) colours weighted weights
+  pub narrow-load-is-wide : SameLoads b1 b2 b3 t (widened (binsOf g) t) colours weighted weights
   narrow-load-is-wide =
       record {
         number = load-number;
@@ -128,10 +182,10 @@ module _ (b1 b2 b3 : ℕ) {g : Grid} (e : gridOf b1 b2 b3 ≡ chosen.Accepted g)
 module _ (b1 b2 b3 : ℕ) {g : Grid} (e : gridOf b1 b2 b3 ≡ chosen.Accepted g) {t s : NarrowTable} (f : Fits g t)
     (h : Fits g s) (under : total g (narrowView t) + total g (narrowView s) ≤ limitOf Narrow) where
   abbrev first-wide : Table
-  first-wide = written (binsOf g) (narrowView t)
+  first-wide = widened (binsOf g) t
 
   abbrev second-wide : Table
-  second-wide = written (binsOf g) (narrowView s)
+  second-wide = widened (binsOf g) s
 
   abbrev both-totals : View → View → ℕ
   both-totals v u = total g v + total g u
@@ -168,7 +222,7 @@ module _ (b1 b2 b3 : ℕ) {g : Grid} (e : gridOf b1 b2 b3 ≡ chosen.Accepted g)
       ∙ (λ i. viewOf (written (binsOf g) (merged (sym (same-view f) i) (sym (same-view h) i))))
       ∙ sym (ap viewOf (merge-left Wide first-wide second-wide m))
 
-  pub narrow-merge-is-wide : SameMerges b1 b2 b3 t s (written (binsOf g) (narrowView t)) (written (binsOf g) (narrowView s))
+  pub narrow-merge-is-wide : SameMerges b1 b2 b3 t s (widened (binsOf g) t) (widened (binsOf g) s)
   narrow-merge-is-wide =
       record {
         number = merge-number;
@@ -181,7 +235,7 @@ module _ (b1 b2 b3 : ℕ) {g : Grid} (e : gridOf b1 b2 b3 ≡ chosen.Accepted g)
 module _ (source : Source) (b1 b2 b3 k : ℕ) {g : Grid} (e : gridOf b1 b2 b3 ≡ chosen.Accepted g) {t : NarrowTable}
     (f : Fits g t) (narrow : NarrowTable) (wide : Table) (same : SameWork g narrow wide) (r : Results) where
   abbrev w : Table
-  w = written (binsOf g) (narrowView t)
+  w = widened (binsOf g) t
 
   abbrev v : View
   v = narrowView t
@@ -216,32 +270,60 @@ module _ (source : Source) (b1 b2 b3 k : ℕ) {g : Grid} (e : gridOf b1 b2 b3 �
   same-results n zero q = rw q (ap (λ (u : View). resultsOn g u k r) (sym (same-view f)))
   same-results n (suc m) q = rw q refl
 
-  -- what stands in the work tables
+  -- the moments, in a work table of either layout
   same-moments : narrowView (narrowWritten (binsOf g) (momentsOf g v))
       ≡ viewOf (written (binsOf g) (momentsOf g (viewOf w)))
   same-moments =
       sym (narrow-wide (binsOf g) (momentsOf g v))
       ∙ ap (λ (u : View). viewOf (written (binsOf g) (momentsOf g u))) (sym (same-view f))
 
-  same-work : (from : Source) (n m : ℕ) → n ≡ m → narrowView narrow ≡ viewOf wide
-      → narrowView (whenDone n (laterOn Narrow from g v k (withNarrow narrow r)) (withNarrow narrow r) .work)
-      ≡ viewOf (whenDone m (laterOn Wide from g (viewOf w) k (withWide wide r)) (withWide wide r) .work)
-  unfolding whenDone laterOn
-  same-work Moments n zero q h = rw q same-moments
-  same-work Bins n zero q h = rw q h
-  same-work from n (suc m) q h = rw q h
+  -- a cut with moments that is done has them there, whatever stood there; the slow cut, and a refusal, write nothing
+  moments-left : (l : Layout) (s : TableIn l) (b : BuffersIn l) → source ≡ Moments
+      → cutNumberIn l source b1 b2 b3 k s b ≡ 0
+      → cutLaterIn l source b1 b2 b3 k s b .work ≡ writtenIn l (binsOf g) (momentsOf g (viewIn l s))
+  unfolding laterOn
+  moments-left l s b by-moments n =
+      ap (λ (x : BuffersIn l). x .work) (cut-says l source b1 b2 b3 k s b e n .leaves)
+      ∙ ap (λ (x : Source). workLater x l g (viewIn l s) (b .work)) by-moments
 
-  pub narrow-cut-is-wide : SameCuts source b1 b2 b3 k t (written (binsOf g) (narrowView t)) narrow wide r
-  unfolding cutNumberIn cutRecordIn cutLaterIn recordOn numberOn onGrid
+  slow-stays : (l : Layout) (s : TableIn l) (b : BuffersIn l) → source ≡ Bins
+      → cutLaterIn l source b1 b2 b3 k s b .work ≡ b .work
+  slow-stays l s b by-bins = rw by-bins (bins-leave-work l b1 b2 b3 k s b)
+
+  refused-stays : (l : Layout) (s : TableIn l) (b : BuffersIn l) {n : ℕ} → cutNumberIn l source b1 b2 b3 k s b ≡ suc n
+      → cutLaterIn l source b1 b2 b3 k s b .work ≡ b .work
+  refused-stays l s b q = ap (λ (x : BuffersIn l). x .work) (cut-refuses l source b1 b2 b3 k s b q .1)
+
+  cut-number : cutNumberIn Narrow source b1 b2 b3 k t (withNarrow narrow r)
+      ≡ cutNumber source b1 b2 b3 k w (withWide wide r)
+  unfolding cutNumberIn numberOn onGrid
+  cut-number = rw e same-number
+
+  pub narrow-cut-is-wide : SameCuts source b1 b2 b3 k t (widened (binsOf g) t) narrow wide r
+  unfolding cutRecordIn cutLaterIn recordOn onGrid
   narrow-cut-is-wide =
       let n = cutNumberOn (limitOf Narrow) g k fit-narrow v in
       let m = cutNumberOn limit g k fit-wide (viewOf w) in
       record {
-        number = rw e same-number;
+        number = cut-number;
         hands = rw e
-            (λ i. whenDone (same-number i) (doneRecord (boxesOf g (sym (same-view f) i) k)) (refusedRecord (same-number i)));
+            (λ i. whenDone (same-number i) (doneRecord (boxesOf g (sym (same-view f) i) k))
+            (refusedRecord (same-number i)));
         leaves = rw e (same-results n m same-number);
-        work = λ h. rw e (same-work source n m same-number h);
+        work = λ by-moments z.
+            ap narrowView (moments-left Narrow t (withNarrow narrow r) by-moments z)
+            ∙ same-moments
+            ∙ sym (ap viewOf (moments-left Wide w (withWide wide r) by-moments (sym cut-number ∙ z)));
+        slow = λ by-bins.
+            record {
+              in-narrow = slow-stays Narrow t (withNarrow narrow r) by-bins;
+              in-wide = slow-stays Wide w (withWide wide r) by-bins;
+            };
+        refused = λ j q.
+            record {
+              in-narrow = refused-stays Narrow t (withNarrow narrow r) q;
+              in-wide = refused-stays Wide w (withWide wide r) (sym cut-number ∙ q);
+            };
       }
 
 -- ---- the widening
@@ -249,12 +331,11 @@ module _ (b1 b2 b3 : ℕ) {g : Grid} (e : gridOf b1 b2 b3 ≡ chosen.Accepted g)
     (n : widenNumber b1 b2 b3 t old ≡ 0) where
   -- the narrow table of a widening that is done is sound on the grid, and its wide table is the one above
   fits-widened : Fits g t × (sound (limitOf Narrow) g (narrowView t) ≡ true)
-      × (widenLater b1 b2 b3 t old ≡ written (binsOf g) (narrowView t))
-  unfolding widened
+      × (widenLater b1 b2 b3 t old ≡ widened (binsOf g) t)
   fits-widened =
       let d = widen-says b1 b2 b3 t old n in
       subst (λ (h : Grid). Fits h t × (sound (limitOf Narrow) h (narrowView t) ≡ true)
-      × (widenLater b1 b2 b3 t old ≡ written (binsOf h) (narrowView t))) (same-grid (d .chosen) e)
+      × (widenLater b1 b2 b3 t old ≡ widened (binsOf h) t)) (same-grid (d .chosen) e)
       (record { lent = d .lent; under = total-high (d .sound-before) }, d .sound-before .holds, d .later)
 
   -- "widening a narrow table then cutting is the same as cutting it"
@@ -272,4 +353,33 @@ module _ (b1 b2 b3 : ℕ) {g : Grid} (e : gridOf b1 b2 b3 ≡ chosen.Accepted g)
         view = same-view f;
         is-sound = ap (λ (v : View). sound limit g v) (same-view f) ∙ sym (same-sound f) ∙ fits-widened .1;
         total-is = ap (λ (v : View). total g v) (same-view f);
+      })
+
+-- ---- what is promised of tables from plans
+module _ (b1 b2 b3 : ℕ) {g : Grid} (e : gridOf b1 b2 b3 ≡ chosen.Accepted g) where
+  -- the table of some colours, widened, is the wide one
+  widened-table : (cs : List Weighted) → widened (binsOf g) (tableIn Narrow g cs) ≡ tableIn Wide g cs
+  unfolding tableIn
+  widened-table cs =
+      holds-list-in Wide
+      (widened-same (binsOf g) (tableIn Narrow g cs) (loaded g cs zeros) (table-holds-in Narrow g cs))
+
+  -- a plan that ran in the narrow layout runs in the wide one, and so what is promised of tables from wide plans, as
+  -- Full and Tiling do, is promised of its table widened
+  pub narrow-plan-is-wide : (p : Plan) → BytesIn p → {t : NarrowTable} → endsIn Narrow b1 b2 b3 p ≡ Filled t
+      → SamePlans b1 b2 b3 g p t
+  unfolding endedOfIn
+  narrow-plan-is-wide p y {t} ran =
+      let d = filled-table b1 b2 b3 e p y ran in
+      let bytes = leaves-bytes p y in
+      rw (d .1)
+      (record {
+        fits = record {
+          lent = table-holds-in Narrow g (leaves p) .lent;
+          under = rw (table-total-in Narrow g (chose b1 b2 b3 g e .accepted) (leaves p) bytes) (d .0);
+        };
+        runs =
+            ends-is-in Wide b1 b2 b3 e p y (omega (arith, d .0))
+            ∙ ap (λ (n : ℕ). endedOf n (tableIn Wide g (leaves p))) (filled-formed b1 b2 b3 e p y ran)
+            ∙ ap Filled (sym (widened-table (leaves p)));
       })

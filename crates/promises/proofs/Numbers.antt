@@ -9,8 +9,8 @@ use mathlib.Core.List.{List, [], _∷_}
 use Prim.Native.Nat.{ℕ, zero, suc, _+_, _*_, _/_, _%_, _≤_, _<_}
 use native.Mathlib.Nat.{eq-or-lt-of-le}
 use native.Mathlib.Omega.{arith}
-use borrow.Author.Tests.{eqb-true, eq-eqb, ne-eqb, leb-true, leb-false, le-leb, lt-leb}
-use lib.Dec.{eqb, leb, ltb}
+use borrow.Author.Tests.{eqb-true, eq-eqb, ne-eqb, leb-true, leb-false, le-leb, lt-leb, ltb-true, not-false}
+use lib.Dec.{eqb, leb, ltb, lit<}
 use lib.IntN.{ℤ}
 use lib.ListN.{length}
 use Rattle.grid.specs.declared.place.Chosen.{Chosen}
@@ -21,13 +21,15 @@ use Rattle.grid.proofs.Ends.{call-done}
 use Rattle.basics.proofs.Range.{and-left, and-right}
 use Rattle.table.specs.declared.layout.Layout.{Layout}
 use Rattle.table.specs.declared.layout.Layout.the-variants.{Wide, Narrow}
-use Rattle.table.specs.Narrow.{NarrowTable}
+use Rattle.table.specs.Narrow.{NarrowTable, narrowView}
 use Rattle.table.specs.Table.{Table, tableLen, isSized, viewOf}
 use Rattle.table.specs.Layout.{TableIn, isSizedIn, viewIn}
 use Rattle.table.specs.Sound.{limit, limitOf, total, sound, unsoundNumber}
+use Rattle.table.proofs.NarrowTables.{test-narrow}
+use Rattle.adder.specs.Batch.{weightOf, batchOf}
 use Rattle.loader.specs.Load.{loadNumber, loadNumberIn, loadLaterIn}
 use Rattle.loader.specs.Merge.{mergeNumber, mergeNumberIn, mergeLaterIn}
-use Rattle.loader.proofs.Calls.{load-no-grid-in, merge-no-grid-in}
+use Rattle.loader.proofs.Calls.{load-no-grid-in, load-over, pairs, merge-no-grid-in, merge-over}
 use Rattle.loader.proofs.Laws.{load-refused-in, load-tests-in, load-says-in, load-accepts-in, merge-refused-in}
 use Rattle.loader.proofs.Laws.{merge-tests-in, merge-says-in, merge-accepts-in}
 use Rattle.compare.specs.declared.call.Compared.{Compared}
@@ -56,7 +58,8 @@ use Rattle.promises.specs.Numbers.{Tests, applies, chain, ascends, lowes
 use Rattle.promises.specs.Numbers.{loadTests, loadApplies}
 use Rattle.promises.specs.Numbers.{mergeTests, mergeApplies, cutTests, cutApplies, callApplies, bandTests}
 use Rattle.promises.specs.Numbers.{compareTests, compareApplies, mapApplies, paintApplies, OnGrid, CanLoad}
-use Rattle.promises.specs.Numbers.{CanMerge, CanCompare, rescueTests, rescueApplies, CanRescue}
+use Rattle.promises.specs.Numbers.{CanMerge, PassesLoad, PassesMerge, CanCompare}
+use Rattle.promises.specs.Numbers.{rescueTests, rescueApplies, CanRescue}
 
 -- ---- a chain of refusals whose answers do not descend gives the lowest that applies
 none-applies : (more n : ℕ) → lowestFrom n more (λ m. false) ≡ 0
@@ -336,6 +339,17 @@ module _ (b1 b2 b3 : ℕ) where
             go true e = λ i. (least n i && most n (eqb-true (n % 3) 0 e) i) && true
             go false e = nothing (leb 1 (n / 3) && leb (n / 3) 256) (leb 3 n && leb n 768)
 
+-- a chain that answers 15 is past each lower answer's test, and the last test holds
+past-test : (b : Bool) (n rest : ℕ) → n < 15 → refuse b n rest ≡ 15 → (b ≡ false) × (rest ≡ 15)
+unfolding refuse
+past-test true n rest h e = absurd (omega (arith, h, e))
+past-test false n rest h e = (refl, e)
+
+last-test : (b : Bool) → refuse b 15 0 ≡ 15 → b ≡ true
+unfolding refuse
+last-test true e = refl
+last-test false e = absurd (omega (arith, e))
+
 -- ---- a call is done exactly where it is given this
 module _ (b1 b2 b3 : ℕ) where
   pub load-exactly : (l : Layout) (t : TableIn l) (colours : List ℕ) (weighted : Bool) (weights : List ℕ)
@@ -449,6 +463,71 @@ module _ (b1 b2 b3 : ℕ) where
         record { g = d .g; chosen = d .chosen; can = d .can },
     λ o. paint-accepts b1 b2 b3 map palette frame first pixels (o .chosen) (o .can) .0,
   )
+
+  -- ---- a narrow load and a narrow merge give 15 exactly where they are given this
+  pub narrow-load-15 : (t : NarrowTable) (colours : List ℕ) (weighted : Bool) (weights : List ℕ)
+      → (loadNumberIn Narrow b1 b2 b3 t colours weighted weights ≡ 15)
+      ↔ OnGrid b1 b2 b3 (PassesLoad t colours weighted weights)
+  narrow-load-15 t colours weighted weights = (
+    λ n. says (gridOf b1 b2 b3) refl n,
+    λ o. let c = o .can in
+        sym (load-over Narrow b1 b2 b3 t colours weighted weights (o .chosen) (c .threes)
+        (pairs weighted (length weights) (length colours / 3) (c .paired)) (c .lent) (c .is-sound) (c .past) .0),
+  )
+    where
+      says : (c : Chosen) → gridOf b1 b2 b3 ≡ c → loadNumberIn Narrow b1 b2 b3 t colours weighted weights ≡ 15
+          → OnGrid b1 b2 b3 (PassesLoad t colours weighted weights)
+      says (chosen.Accepted g) e n =
+          let tests = load-tests-in Narrow b1 b2 b3 t colours weighted weights e in
+          let three = past-test _ 3 _ (lit< tt) (sym tests ∙ n) in
+          let four = past-test _ 4 _ (lit< tt) (three .1) in
+          let five = past-test _ 5 _ (lit< tt) (four .1) in
+          let six = past-test _ 6 _ (lit< tt) (five .1) in
+          record {
+            g = g;
+            chosen = e;
+            can = record {
+              threes = eqb-true (length colours % 3) 0 (not-false _ (three .0));
+              paired = λ y. eqb-true (length weights) (length colours / 3) (not-false _ (sym (rw y refl) ∙ four .0));
+              lent = test-narrow (not-false _ (five .0));
+              is-sound = not-false _ (six .0);
+              past = ltb-true (limitOf Narrow) (total g (narrowView t) + weightOf (batchOf colours weighted weights))
+                  (last-test _ (six .1));
+            };
+          }
+      says chosen.Refused e n =
+          absurd (omega (arith, load-no-grid-in Narrow b1 b2 b3 t colours weighted weights e .0, n))
+
+  pub narrow-merge-15 : (t s : NarrowTable)
+      → (mergeNumberIn Narrow b1 b2 b3 t s ≡ 15) ↔ OnGrid b1 b2 b3 (PassesMerge t s)
+  narrow-merge-15 t s = (
+    λ n. says (gridOf b1 b2 b3) refl n,
+    λ o. let c = o .can in
+        sym (merge-over Narrow b1 b2 b3 t s (o .chosen) (c .lent .0) (c .lent .1) (c .are-sound .0) (c .are-sound .1)
+        (c .past) .0),
+  )
+    where
+      says : (c : Chosen) → gridOf b1 b2 b3 ≡ c → mergeNumberIn Narrow b1 b2 b3 t s ≡ 15
+          → OnGrid b1 b2 b3 (PassesMerge t s)
+      says (chosen.Accepted g) e n =
+          let five = past-test _ 5 _ (lit< tt) (sym (merge-tests-in Narrow b1 b2 b3 t s e) ∙ n) in
+          let six = past-test _ 6 _ (lit< tt) (five .1) in
+          let sized : Bool = isSizedIn Narrow t (binsOf g) in
+          let good : Bool = sound (limitOf Narrow) g (narrowView t) in
+          record {
+            g = g;
+            chosen = e;
+            can = record {
+              lent = (
+                test-narrow (and-left sized _ (not-false _ (five .0))),
+                test-narrow (and-right sized _ (not-false _ (five .0))),
+              );
+              are-sound = (and-left good _ (not-false _ (six .0)), and-right good _ (not-false _ (six .0)));
+              past = ltb-true (limitOf Narrow) (total g (narrowView t) + total g (narrowView s))
+                  (last-test _ (six .1));
+            };
+          }
+      says chosen.Refused e n = absurd (omega (arith, merge-no-grid-in Narrow b1 b2 b3 t s e .0, n))
 
   -- ---- a refusal writes nothing
   module _ {n : ℕ} where

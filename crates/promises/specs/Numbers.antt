@@ -2,7 +2,7 @@
 use mathlib.Core.Path.{_≡_}
 use mathlib.Core.Bool.{Bool, true, false, not, _&&_, _||_, cond}
 use mathlib.Core.List.{List, [], _∷_}
-use Prim.Native.Nat.{ℕ, zero, suc, _+_, _*_, _/_, _%_, _≤_}
+use Prim.Native.Nat.{ℕ, zero, suc, _+_, _*_, _/_, _%_, _≤_, _<_}
 use lib.Dec.{eqb, leb, ltb}
 use lib.IntN.{ℤ}
 use lib.ListN.{length}
@@ -12,7 +12,9 @@ use Rattle.grid.specs.declared.place.Chosen.{Chosen}
 use Rattle.grid.specs.declared.place.Chosen.the-variants as chosen
 use Rattle.grid.specs.Grid.{gridOf, gridAnswer, onGrid, binsOf}
 use Rattle.table.specs.declared.layout.Layout.{Layout}
+use Rattle.table.specs.declared.layout.Layout.the-variants.{Narrow}
 use Rattle.table.specs.Table.{tableLen, Sized, isSized, viewOf}
+use Rattle.table.specs.Narrow.{NarrowTable, NarrowSized, narrowView}
 use Rattle.table.specs.Layout.{TableIn, SizedIn, isSizedIn, viewIn}
 use Rattle.table.specs.Sound.{limit, limitOf, total, sound}
 use Rattle.adder.specs.Batch.{weightOf, batchOf}
@@ -186,6 +188,21 @@ pub record CanMerge (l : Layout) (t s : TableIn l) (g : Grid) : Type 0 where
   pub lent : SizedIn l t (binsOf g) × SizedIn l s (binsOf g)
   pub are-sound : (sound (limitOf l) g (viewIn l t) ≡ true) × (sound (limitOf l) g (viewIn l s) ≡ true)
   pub fits : total g (viewIn l t) + total g (viewIn l s) ≤ limitOf l
+
+-- of a narrow load that is refused with 15: no 3, 4, 5, 6, and the total would pass the limit
+pub record PassesLoad (t : NarrowTable) (colours : List ℕ) (weighted : Bool) (weights : List ℕ) (g : Grid)
+    : Type 0 where
+  pub threes : length colours % 3 ≡ 0
+  pub paired : weighted ≡ true → length weights ≡ length colours / 3
+  pub lent : NarrowSized t (binsOf g)
+  pub is-sound : sound (limitOf Narrow) g (narrowView t) ≡ true
+  pub past : limitOf Narrow < total g (narrowView t) + weightOf (batchOf colours weighted weights)
+
+-- and of such a merge: no 5, 6
+pub record PassesMerge (t s : NarrowTable) (g : Grid) : Type 0 where
+  pub lent : NarrowSized t (binsOf g) × NarrowSized s (binsOf g)
+  pub are-sound : (sound (limitOf Narrow) g (narrowView t) ≡ true) × (sound (limitOf Narrow) g (narrowView s) ≡ true)
+  pub past : limitOf Narrow < total g (narrowView t) + total g (narrowView s)
 
 -- of a comparison, no 5, 6
 pub record CanCompare (t s : List ℕ) (l : List ℤ) (g : Grid) : Type 0 where
