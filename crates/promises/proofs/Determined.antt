@@ -1,6 +1,6 @@
 -- For every public function of every crate: any two results, and any two later contents of what it was lent, that its
 -- contract allows are equal. `Learnt` is what a contract tells its caller of the arguments a, the result r and the
--- parameters at exit e.
+-- parameters at exit e. What is lent in a layout is seen by `lentLists`: a wide table has no small list.
 -- Assumes nothing.
 use mathlib.Core.Path.{_≡_, ap}
 use mathlib.Core.List.{List}
@@ -32,7 +32,8 @@ use Rattle.table.proofs.layout.cell_in as cell-in
 use Rattle.table.proofs.layout.put_cell as put-cell
 use Rattle.table.proofs.cell.plus as plus
 use Rattle.table.proofs.cell.minus as minus
-use Rattle.table.proofs.sound.row_squares as row-squares
+use Rattle.table.proofs.spans.row_spans as row-spans
+use Rattle.table.proofs.spans.fill_spans as fill-spans
 use Rattle.table.proofs.sound.keeps_bounds as keeps-bounds
 use Rattle.table.proofs.sound.limit_of as limit-of
 use Rattle.table.proofs.sound.total_in as total-in
@@ -217,11 +218,14 @@ plus-determined κs a r s x y p q = determined p q
 pub minus-determined : Determines 0 minus.Kinds.ps minus.Kinds.r minus.Reads.Learnt (λ κs r e. r)
 minus-determined κs a r s x y p q = determined p q
 
-pub row-squares-determined : Determines 0 row-squares.Kinds.ps row-squares.Kinds.r row-squares.Reads.Learnt
-    (λ κs r e. r)
-row-squares-determined κs a r s x y p q = determined p q
+pub row-spans-determined : Determines 0 row-spans.Kinds.ps row-spans.Kinds.r row-spans.Reads.Learnt (λ κs r e. r)
+row-spans-determined κs a r s x y p q = determined p q
 
-pub keeps-bounds-determined : Determines 0 keeps-bounds.Kinds.ps keeps-bounds.Kinds.r keeps-bounds.Reads.Learnt
+pub fill-spans-determined : Determines 1 fill-spans.Kinds.ps fill-spans.Kinds.r fill-spans.Reads.Learnt
+    (λ κs r e. now (e .0))
+fill-spans-determined κs a r s x y p q = determined p q
+
+pub keeps-bounds-determined : Determines 1 keeps-bounds.Kinds.ps keeps-bounds.Kinds.r keeps-bounds.Reads.Learnt
     (λ κs r e. r)
 keeps-bounds-determined κs a r s x y p q = determined p q
 

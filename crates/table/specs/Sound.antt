@@ -87,9 +87,3 @@ pub record Row (l : Layout) (g : Grid) (t : TableIn l) (r gr had : ℕ) : Type 0
 pub record SpanBelow (most : ℕ) (s : Span) : Type 0 where
   pub low : s .low ≤ s .high
   pub high : s .high ≤ most
-
--- the spans of a row's bins in the first two dimensions, and their squares added
-pub record RowSpans (s1 s2 row : Span) : Type 0 where
-  pub one : SpanBelow 255 s1
-  pub two : SpanBelow 255 s2
-  pub squares : row ≡ plusSpan (squaredSpan s1) (squaredSpan s2)

@@ -4,4 +4,5 @@ pub mod layout;
 mod narrow;
 mod rows;
 pub mod sound;
+pub mod spans;
 pub mod wide;

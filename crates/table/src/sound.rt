@@ -2,20 +2,20 @@
 use crate::cell::Cell;
 use crate::layout::Layout;
 use crate::rows::row_total;
-use grid::dimension::Span;
+use crate::spans::RowSpans;
+use crate::spans::fill_spans;
 use grid::place::Grid;
 use std::num::wrapping_sub_u64;
 ghost use mathlib.Core.Path.{_≡_};
 ghost use mathlib.Core.Bool.{_&&_};
 ghost use Prim.Native.Nat.{_*_, _≤_};
 ghost use lib.Dec.{leb};
-ghost use Rattle.basics.specs.Dimension.{choose};
-ghost use Rattle.grid.specs.Grid.{placeOf};
+ghost use Rattle.grid.specs.Grid.{placeOf, Inside};
 ghost use Rattle.table.specs.Cell.{numberOf};
 ghost use Rattle.table.specs.Table.{viewOf};
 ghost use Rattle.table.specs.Layout.{laid, laidView, TableOfIn, TableOf};
-ghost use Rattle.table.specs.Sound.{limit, limitOf, between, squaredSpan, plusSpan, inBounds, soundTotal};
-ghost use Rattle.table.specs.Sound.{Row, SpanBelow, RowSpans};
+ghost use Rattle.table.specs.Sound.{limit, limitOf, between, inBounds, soundTotal, Row, SpanBelow};
+ghost use Rattle.table.specs.Spans.{unpacked, spansOf, rowSpans, SpanTable};
 ghost use Rattle.table.specs.Inner.{scanned};
 
 // The largest total of a table in the wide layout.
@@ -40,38 +40,26 @@ pub enum SoundTotal {
     Unsound,
 }
 
-// Whether the sum of n values lies in its bounds. A sum below n·low wraps to more than any difference of the bounds, so
-// that one comparison does for both.
-fn lies_between(s: Span, n: u64, sum: u64) -> bool
-    requires { ⌜ SpanBelow 195075 s × (n ≤ limit) ⌝ }
-    ensures { λ r. ⌜ r ≡ between s n sum ⌝ }
+// Whether the sum of n values lies in its bounds, by the span of the values. A sum below n·low wraps to more than any
+// difference of the bounds, so that one comparison does for both. Up to the narrow limit one multiplication gives both
+// bounds: n times a byte stays below 2^32.
+fn lies_between(span: u64, n: u64, sum: u64) -> bool
+    requires { ⌜ SpanBelow 255 (unpacked span) × (n ≤ limit) ⌝ }
+    ensures { λ r. ⌜ r ≡ between (unpacked span) n sum ⌝ }
 {
-    wrapping_sub_u64(sum, n * s.low) <= n * (s.high - s.low)
+    if NARROW_LIMIT < n {
+        return lies_far_between(span, n, sum);
+    }
+    let both = n * span;
+    wrapping_sub_u64(sum, both % 4294967296) <= both / 4294967296
 }
 
-// The squares of the first two spans, which a row has in common.
-pub fn row_squares(s1: Span, s2: Span) -> Span
-    requires { ⌜ SpanBelow 255 s1 × SpanBelow 255 s2 ⌝ }
-    ensures { λ r. ⌜ r ≡ plusSpan (squaredSpan s1) (squaredSpan s2) ⌝ }
+// The same of any span and weight, by two multiplications.
+fn lies_far_between(span: u64, n: u64, sum: u64) -> bool
+    requires { ⌜ SpanBelow 195075 (unpacked span) × (n ≤ limit) ⌝ }
+    ensures { λ r. ⌜ r ≡ between (unpacked span) n sum ⌝ }
 {
-    Span {
-        low: s1.low * s1.low + s2.low * s2.low,
-        high: s1.high * s1.high + s2.high * s2.high,
-    }
-}
-
-// And those of the third added. The high end is told by what it has more than the low one, which grows by the same from
-// bin to bin, so that the compiler needs no multiplication for it.
-fn with_squares(row: Span, s3: Span) -> Span
-    requires { ⌜ SpanBelow 130050 row × SpanBelow 255 s3 ⌝ }
-    ensures { λ r. ⌜ r ≡ plusSpan row (squaredSpan s3) ⌝ }
-{
-    let low = row.low + s3.low * s3.low;
-    let more = (s3.high - s3.low) * (s3.high + s3.low);
-    Span {
-        low,
-        high: low + ((row.high - row.low) + more),
-    }
+    wrapping_sub_u64(sum, n * (span % 4294967296)) <= n * (span / 4294967296)
 }
 
 // Whether all but the weight are zeros.
@@ -90,11 +78,21 @@ fn is_bare(c: Cell) -> bool
     c.squares <= 0
 }
 
-// Whether a bin keeps its own bounds, with a weight that is not past the limit by itself. The squares of the first two
-// spans are those of its row.
-pub fn keeps_bounds(s1: Span, s2: Span, row: Span, s3: Span, c: Cell) -> bool
-    requires { ⌜ RowSpans s1 s2 row × SpanBelow 255 s3 ⌝ }
-    ensures { λ r. ⌜ r ≡ (leb (c .weight) limit && inBounds (λ d. choose d s1 s2 s3) (numberOf c)) ⌝ }
+// Whether a bin keeps its own bounds, with a weight that is not past the limit by itself: by the spans of its row and
+// those of the third dimension. The contract alone names the bin's row.
+pub fn keeps_bounds(
+    g: Grid,
+    row: RowSpans,
+    spans: &[u64; 256],
+    r: usize,
+    gr: usize,
+    b: usize,
+    c: Cell,
+) -> bool
+    requires inside { ⌜ Inside g r gr b ⌝ }
+    requires row { ⌜ row ≡ rowSpans g r gr ⌝ }
+    requires spans { ⌜ SpanTable g (now spans) ⌝ }
+    ensures { λ x. ⌜ x ≡ (leb (c .weight) limit && inBounds (spansOf g r gr b) (numberOf c)) ⌝ }
 {
     let n = c.weight;
     if n == 0 {
@@ -103,16 +101,17 @@ pub fn keeps_bounds(s1: Span, s2: Span, row: Span, s3: Span, c: Cell) -> bool
     if LIMIT < n {
         return false;
     }
-    if !lies_between(s1, n, c.sum1) {
+    if !lies_between(row.one, n, c.sum1) {
         return false;
     }
-    if !lies_between(s2, n, c.sum2) {
+    if !lies_between(row.two, n, c.sum2) {
         return false;
     }
-    if !lies_between(s3, n, c.sum3) {
+    let at = 2 * b;
+    if !lies_between(spans[at], n, c.sum3) {
         return false;
     }
-    lies_between(with_squares(row, s3), n, c.squares)
+    lies_far_between(row.squares + spans[at + 1], n, c.squares)
 }
 
 // The total with one plane of rows.
@@ -121,10 +120,12 @@ fn plane_total(
     small: &[u32],
     large: &[u64],
     g: Grid,
+    spans: &[u64; 256],
     r: usize,
     had: u64,
 ) -> SoundTotal
-    requires { ⌜ Row layout g (laid layout (now small) (now large)) r 0 had ⌝ }
+    requires row { ⌜ Row layout g (laid layout (now small) (now large)) r 0 had ⌝ }
+    requires spans { ⌜ SpanTable g (now spans) ⌝ }
     ensures { λ w. ⌜ w
         ≡ scanned (limitOf layout) g (laidView layout (now (small .entry)) (now (large .entry)))
         (placeOf g r 0 0) (g .size2 * g .size3) had ⌝ }
@@ -132,7 +133,7 @@ fn plane_total(
     let mut total = had;
     let mut gr = 0;
     while gr < g.size2 {
-        match row_total(layout, small, large, g, r, gr, total) {
+        match row_total(layout, small, large, g, spans, r, gr, total) {
             SoundTotal::Total(x) => total = x,
             SoundTotal::Unsound => return SoundTotal::Unsound,
         }
@@ -147,10 +148,12 @@ pub fn total_in(layout: Layout, small: &[u32], large: &[u64], g: Grid) -> SoundT
     ensures { λ w. ⌜ w
         ≡ soundTotal (limitOf layout) g (laidView layout (now (small .entry)) (now (large .entry))) ⌝ }
 {
+    let mut spans = [0u64; 256];
+    fill_spans(&mut spans, g);
     let mut total = 0;
     let mut r = 0;
     while r < g.size1 {
-        match plane_total(layout, small, large, g, r, total) {
+        match plane_total(layout, small, large, g, &spans, r, total) {
             SoundTotal::Total(x) => total = x,
             SoundTotal::Unsound => return SoundTotal::Unsound,
         }

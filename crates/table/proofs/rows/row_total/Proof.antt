@@ -17,9 +17,11 @@ enum-told c = search needs
 wide-row-total-requires : tie.Need-wide-row-total-requires
 wide-row-total-requires c κs =
     let s = c .before .before .before .before in
-    let a = s .args in
-    subst (λ (l : Layout). Row l (a .g) (laid l (now (a .small)) (now (a .large))) (a .r) (a .gr) (a .had))
-    (c .enum-told .given .1) (s .pre)
+    let a = s .args in (
+      subst (λ (l : Layout). Row l (a .g) (laid l (now (a .small)) (now (a .large))) (a .r) (a .gr) (a .had))
+          (c .enum-told .given .1) (s .pre .0),
+      s .pre .1,
+    )
 
 enum-told-2 : tie.Need-enum-told-2
 enum-told-2 c = search needs
@@ -27,9 +29,11 @@ enum-told-2 c = search needs
 narrow-row-total-requires : tie.Need-narrow-row-total-requires
 narrow-row-total-requires c κs =
     let s = c .before .before .before .before in
-    let a = s .args in
-    subst (λ (l : Layout). Row l (a .g) (laid l (now (a .small)) (now (a .large))) (a .r) (a .gr) (a .had))
-    (c .enum-told2 .given .1) (s .pre)
+    let a = s .args in (
+      subst (λ (l : Layout). Row l (a .g) (laid l (now (a .small)) (now (a .large))) (a .r) (a .gr) (a .had))
+          (c .enum-told2 .given .1) (s .pre .0),
+      s .pre .1,
+    )
 
 returns : tie.Need-returns
 returns c =

@@ -20,108 +20,85 @@ use Rattle.table.specs.Inner.{scanned}
 use Rattle.table.specs.Sound.{limit, binSound}
 use Rattle.table.specs.Table.{viewOf}
 use Rattle.table.specs.Cell.{cellOf, View}
-use Rattle.table.proofs.Scans.{row-place, row-cell, row-one, row-two, row-three, row-bin, byte-span, scan-bad}
+use Rattle.table.proofs.Scans.{inside, row-place, row-cell, row-bin, scan-bad}
 use Rattle.table.proofs.Scans.{scan-over, scan-total}
 use Rattle.table.proofs.rows.wide_row_total.Statement.{statement}
 use Rattle.table.proofs.rows.wide_row_total.Tie as tie
 
 abbrev Inv-loop : tie.InvT-loop
-Inv-loop table g r gr had s1 s2 row start total₀ b₀ total b =
+Inv-loop table g spans r gr had row start total₀ b₀ total b =
     (b ≤ g .size3)
     × (total ≡ had + sumFrom start b (λ q. viewOf table q 0))
     × (allFrom start b (binSound g (viewOf table)) ≡ true)
     × (total ≤ limit + b * limit)
 
 abbrev μ-loop : tie.MeasureT-loop
-μ-loop table g r gr had s1 s2 row start total₀ b₀ total b = g .size3 - b
+μ-loop table g spans r gr had row start total₀ b₀ total b = g .size3 - b
 
-span-of-requires : tie.Need-span-of-requires Inv-loop μ-loop
-span-of-requires c κs = row-one (c .before .pre)
-
-span-of-requires-2 : tie.Need-span-of-requires-2 Inv-loop μ-loop
-span-of-requires-2 c κs = row-two (c .before .before .pre)
-
-row-squares-requires : tie.Need-row-squares-requires Inv-loop μ-loop
-row-squares-requires c κs =
-    let s = c .before .before .before in (
-      byte-span (row-one (s .pre)) (c .before .span-of .ensures),
-      byte-span (row-two (s .pre)) (c .span-of2 .ensures),
-    )
+row-spans-requires : tie.Need-row-spans-requires Inv-loop μ-loop
+row-spans-requires c κs = c .before .pre .0 .inside
 
 place-requires : tie.Need-place-requires Inv-loop μ-loop
-place-requires c κs = c .before .before .before .before .pre .inside
+place-requires c κs = c .before .before .pre .0 .inside
+
+-- on entry, from where the row's first place is known, and from a bin of the row
+abbrev entry : tie.After-place Inv-loop μ-loop → tie.Start Inv-loop μ-loop
+entry k = k .before .before .before
+
+abbrev of-bin : tie.Then1 Inv-loop μ-loop → tie.After-place Inv-loop μ-loop
+of-bin t = t .before .before .before
 
 loop-holds : tie.Need-loop-holds Inv-loop μ-loop
 unfolding sumFrom allFrom
-loop-holds c = (omega arith, sym (add-zero _), refl, c .before .before .before .before .before .pre .under)
+loop-holds c = (omega arith, sym (add-zero _), refl, entry c .pre .0 .under)
 
 add-cell-at : tie.Need-add-cell-at Inv-loop μ-loop
 add-cell-at c =
-    let s = c .before .before .before .before .before .before .before .before in
+    let s = entry (of-bin c) in
     omega (
       arith,
-      row-place (s .pre) (c .before .before .loop .b) (c .if1 .taken)
-          (c .before .before .before .place .ensures),
-      bins-high (s .pre .table .accepted),
+      row-place (s .pre .0) (c .before .before .loop .b) (c .if1 .taken) (of-bin c .place .ensures),
+      bins-high (s .pre .0 .table .accepted),
     )
 
 cell-at-requires : tie.Need-cell-at-requires Inv-loop μ-loop
 cell-at-requires c κs =
-    row-cell (c .before .before .before .before .before .before .before .before .pre) (c .before .before .loop .b)
-    (c .if1 .taken) (c .before .before .before .place .ensures)
-
-span-of-requires-3 : tie.Need-span-of-requires-3 Inv-loop μ-loop
-span-of-requires-3 c κs =
-    row-three (c .before .before .before .before .before .before .before .before .before .pre)
-    (c .before .before .before .loop .b) (c .before .if1 .taken)
+    row-cell (entry (of-bin c) .pre .0) (c .before .before .loop .b) (c .if1 .taken) (of-bin c .place .ensures)
 
 keeps-bounds-requires : tie.Need-keeps-bounds-requires Inv-loop μ-loop
 keeps-bounds-requires c κs =
-    let f = c .before .before .before .before .before .before in
-    let s = f .before .before .before .before in
-    let l = c .before .before .before .before .loop in (
-      record {
-        one = byte-span (row-one (s .pre)) (f .before .before .span-of .ensures);
-        two = byte-span (row-two (s .pre)) (f .before .span-of2 .ensures);
-        squares = f .row-squares .ensures;
-      },
-      byte-span (row-three (s .pre) (l .b) (c .before .before .if1 .taken)) (c .span-of3 .ensures),
-    )
+    let t = c .before in
+    let s = entry (of-bin t) in
+    (inside (s .pre .0) (t .before .before .loop .b) (t .if1 .taken), (of-bin t .before .row-spans .ensures, s .pre .1))
 
--- on entry
-abbrev entry : tie.After-keeps-bounds Inv-loop μ-loop → tie.Start Inv-loop μ-loop
-entry k = k .before .before .before .before .before .before .before .before .before .before .before
+-- the bin at hand, once it is tested
+abbrev bin : tie.After-keeps-bounds Inv-loop μ-loop → tie.Then1 Inv-loop μ-loop
+bin k = k .before .before
 
--- the bin at hand
 abbrev grid : tie.After-keeps-bounds Inv-loop μ-loop → Grid
-grid k = entry k .args .g
+grid k = entry (of-bin (bin k)) .args .g
 
 abbrev view : tie.After-keeps-bounds Inv-loop μ-loop → View
-view k = viewOf (now (entry k .args .table))
+view k = viewOf (now (entry (of-bin (bin k)) .args .table))
 
 abbrev here : tie.After-keeps-bounds Inv-loop μ-loop → ℕ
-here k =
-    k .before .before .before .before .before .before .place .result
-    + k .before .before .before .before .before .loop .b
+here k = of-bin (bin k) .place .result + bin k .before .before .loop .b
 
 tested : (k : tie.After-keeps-bounds Inv-loop μ-loop)
     → (leb (view k (here k) 0) limit && binSound (grid k) (view k) (here k)) ≡ k .keeps-bounds .result
 tested k =
-    row-bin (entry k .pre) (view k) (k .before .before .before .before .before .loop .b)
-    (k .before .before .before .if1 .taken) (k .before .before .before .before .before .before .place .ensures)
-    (k .before .before .before .before .before .before .before .before .before .span-of .ensures)
-    (k .before .before .before .before .before .before .before .before .span-of2 .ensures) (k .before .span-of3 .ensures)
-    (k .before .before .cell-at .ensures) (k .keeps-bounds .ensures)
+    row-bin (entry (of-bin (bin k)) .pre .0) (view k) (bin k .before .before .loop .b) (bin k .if1 .taken)
+    (of-bin (bin k) .place .ensures) (k .before .cell-at .ensures) (k .keeps-bounds .ensures)
 
-weighs : (k : tie.After-keeps-bounds Inv-loop μ-loop) → k .before .before .cell-at .result .weight ≡ view k (here k) 0
+weighs : (k : tie.After-keeps-bounds Inv-loop μ-loop) → k .before .cell-at .result .weight ≡ view k (here k) 0
 unfolding cellOf
-weighs k = ap (λ (x : Cell). x .weight) (k .before .before .cell-at .ensures)
+weighs k = ap (λ (x : Cell). x .weight) (k .before .cell-at .ensures)
 
 -- what holds of it where it passed
 record Passed (k : tie.After-keeps-bounds Inv-loop μ-loop) : Type 0 where
   bounds : binSound (grid k) (view k) (here k) ≡ true
-  light : k .before .before .cell-at .result .weight ≤ limit
-  room : k .before .before .before .before .before .loop .b < 128
+  light : k .before .cell-at .result .weight ≤ limit
+  room : bin k .before .before .loop .b < 128
 
 passed : (k : tie.After-keeps-bounds Inv-loop μ-loop) → k .keeps-bounds .result ≡ true → Passed k
 passed k e =
@@ -130,23 +107,23 @@ passed k e =
     record {
       bounds = and-right within kept (tested k ∙ e);
       light = rw (weighs k) (leb-true (view k (here k) 0) limit (and-left within kept (tested k ∙ e)));
-      room = lt-of-lt-of-le (k .before .before .before .if1 .taken) (size-high (three (entry k .pre .table .accepted)));
+      room = lt-of-lt-of-le (bin k .if1 .taken) (size-high (three (entry (of-bin (bin k)) .pre .0 .table .accepted)));
     }
 
 returns : tie.Need-returns Inv-loop μ-loop
 returns c =
     let k = c .before in
-    rw (← k .before .before .before .before .before .before .place .ensures)
+    let p = of-bin (bin k) in
+    rw (← p .place .ensures)
     (sym
-    (scan-bad limit (grid k) (view k) (k .before .before .before .before .before .before .place .result) (grid k .size3)
-    (entry k .args .had)
-    (here k) (omega arith) (omega (arith, k .before .before .before .if1 .taken))
-    (tested k ∙ not-true _ (c .if2 .taken))))
+    (scan-bad limit (grid k) (view k) (p .place .result) (grid k .size3) (entry p .args .had)
+    (here k) (omega arith) (omega (arith, bin k .if1 .taken)) (tested k ∙ not-true _ (c .if2 .taken))))
 
 add-total : tie.Need-add-total Inv-loop μ-loop
 add-total c =
-    let f = passed (c .before .before) (not-false _ (c .before .if2 .left)) in
-    omega (arith, f .light, f .room, c .before .before .before .before .before .before .before .loop .inv .3)
+    let k = c .before .before in
+    let f = passed k (not-false _ (c .before .if2 .left)) in
+    omega (arith, f .light, f .room, bin k .before .before .loop .inv .3)
 
 add-b : tie.Need-add-b Inv-loop μ-loop
 add-b c =
@@ -159,36 +136,39 @@ loop-less c = omega arith
 loop-again : tie.Need-loop-again Inv-loop μ-loop
 loop-again c =
     let k = c .before .before in
-    let l = k .before .before .before .before .before .loop in
+    let l = bin k .before .before .loop in
     let f = passed k (not-false _ (c .before .if2 .left)) in (
-      omega (arith, k .before .before .before .if1 .taken),
+      omega (arith, bin k .if1 .taken),
       (λ i. l .inv .1 i + weighs k i) ∙ add-assoc _ _ _
-          ∙ ap (λ (n : ℕ). entry k .args .had + n) (sym (sum-last _ (l .b) _)),
+          ∙ ap (λ (n : ℕ). entry (of-bin (bin k)) .args .had + n) (sym (sum-last _ (l .b) _)),
       all-last _ (l .b) _ ∙ (λ i. l .inv .2 i && f .bounds i),
       omega (arith, f .light, l .inv .3),
     )
 
 returns-2 : tie.Need-returns-2 Inv-loop μ-loop
 returns-2 c =
-    let s = c .before .before .before .before .before .before .before .before .before in
+    let p = c .before .before .before .before in
+    let s = entry p in
     let l = c .before .before .before .loop in
     let v = viewOf (now (s .args .table)) in
-    let from = c .before .before .before .before .place .result in
+    let from = p .place .result in
     let all : l .b ≡ s .args .g .size3 = omega arith in
-    rw (← c .before .before .before .before .place .ensures)
-    (sym (scan-over limit (s .args .g) v from (l .b) (s .args .had) (omega (arith, l .inv .1)))
+    rw (← p .place .ensures)
+    (sym (scan-over limit (s .args .g) v from (l .b) (s .args .had) (omega (arith, l .inv .1, c .if3 .taken)))
     ∙ ap (λ (n : ℕ). scanned limit (s .args .g) v from n (s .args .had)) all)
 
 returns-3 : tie.Need-returns-3 Inv-loop μ-loop
 returns-3 c =
-    let s = c .before .before .before .before .before .before .before .before .before in
+    let p = c .before .before .before .before in
+    let s = entry p in
     let l = c .before .before .before .loop in
     let v = viewOf (now (s .args .table)) in
-    let from = c .before .before .before .before .place .result in
+    let from = p .place .result in
     let all : l .b ≡ s .args .g .size3 = omega arith in
-    rw (← c .before .before .before .before .place .ensures)
+    rw (← p .place .ensures)
     (ap Total (l .inv .1)
-    ∙ sym (scan-total limit (s .args .g) v from (l .b) (s .args .had) (l .inv .2) (omega (arith, l .inv .1)))
+    ∙ sym (scan-total limit (s .args .g) v from (l .b) (s .args .had) (l .inv .2)
+    (omega (arith, l .inv .1, c .if3 .left)))
     ∙ ap (λ (n : ℕ). scanned limit (s .args .g) v from n (s .args .had)) all)
 
 pub wide-row-total-spec : {M : Type 1} → statement M
@@ -197,14 +177,11 @@ wide-row-total-spec =
     (tie.spec
     Inv-loop
     μ-loop
-    span-of-requires
-    span-of-requires-2
-    row-squares-requires
+    row-spans-requires
     place-requires
     loop-holds
     add-cell-at
     cell-at-requires
-    span-of-requires-3
     keeps-bounds-requires
     returns
     add-total

@@ -18,11 +18,11 @@ use Rattle.table.proofs.sound.plane_total.Statement.{statement}
 use Rattle.table.proofs.sound.plane_total.Tie as tie
 
 abbrev Inv-loop : tie.InvT-loop
-Inv-loop layout small large g r had total₀ gr₀ total gr =
+Inv-loop layout small large g spans r had total₀ gr₀ total gr =
     (gr ≤ g .size2) × (scanned (limitOf layout) g (laidView layout small large) (placeOf g r 0 0) (gr * g .size3) had ≡ Total total)
 
 abbrev μ-loop : tie.MeasureT-loop
-μ-loop layout small large g r had total₀ gr₀ total gr = g .size2 - gr
+μ-loop layout small large g spans r had total₀ gr₀ total gr = g .size2 - gr
 
 loop-holds : tie.Need-loop-holds Inv-loop μ-loop
 loop-holds c =
@@ -30,25 +30,27 @@ loop-holds c =
       omega arith,
       ap (λ (n : ℕ). scanned (limitOf (s .args .layout)) (s .args .g) (laidView (s .args .layout) (now (s .args .small)) (now (s .args .large)))
           (placeOf (s .args .g) (s .args .r) 0 0) n (s .args .had)) (zero-mul (s .args .g .size3))
-          ∙ scan-none (limitOf (s .args .layout)) (s .args .g) (laidView (s .args .layout) (now (s .args .small)) (now (s .args .large))) _ (s .args .had) (s .pre .under),
+          ∙ scan-none (limitOf (s .args .layout)) (s .args .g) (laidView (s .args .layout) (now (s .args .small)) (now (s .args .large))) _ (s .args .had) (s .pre .0 .under),
     )
 
 row-total-requires : tie.Need-row-total-requires Inv-loop μ-loop
 row-total-requires c κs =
     let s = c .before .before .before .before .before in
-    let l = c .before .before .loop in
-    record {
-      table = s .pre .table;
-      inside =
-          record {
-            accepted = s .pre .table .accepted;
-            one = s .pre .inside .one;
-            two = c .if1 .taken;
-            three =
-                s .pre .inside .three;
-          };
-      under = scan-under (limitOf (s .args .layout)) (s .args .g) (laidView (s .args .layout) (now (s .args .small)) (now (s .args .large))) _ _ _ (l .total) (l .inv .1);
-    }
+    let l = c .before .before .loop in (
+      record {
+        table = s .pre .0 .table;
+        inside =
+            record {
+              accepted = s .pre .0 .table .accepted;
+              one = s .pre .0 .inside .one;
+              two = c .if1 .taken;
+              three =
+                  s .pre .0 .inside .three;
+            };
+        under = scan-under (limitOf (s .args .layout)) (s .args .g) (laidView (s .args .layout) (now (s .args .small)) (now (s .args .large))) _ _ _ (l .total) (l .inv .1);
+      },
+      s .pre .1,
+    )
 
 enum-known-x : tie.Need-enum-known-x Inv-loop μ-loop
 enum-known-x c = search needs
@@ -72,7 +74,7 @@ returns c =
 add-gr : tie.Need-add-gr Inv-loop μ-loop
 add-gr c =
     let s = c .before .before .before .before .before .before .before .before .before in
-    omega (arith, c .before .before .before .before .if1 .taken, size-high (two (s .pre .table .accepted)))
+    omega (arith, c .before .before .before .before .if1 .taken, size-high (two (s .pre .0 .table .accepted)))
 
 loop-less : tie.Need-loop-less Inv-loop μ-loop
 loop-less c = omega arith
