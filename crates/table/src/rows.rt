@@ -51,7 +51,7 @@ fn wide_row_total(
     SoundTotal::Total(total)
 }
 
-// In the narrow layout. No bin is heavier than the limit, so that the compiler leaves out what heavy bins take.
+// In the narrow layout.
 fn narrow_row_total(
     sums: &[u32],
     squares: &[u64],
@@ -73,9 +73,6 @@ fn narrow_row_total(
     let mut b = 0;
     while b < g.size3 {
         let c = cell_in(Layout::Narrow, sums, squares, start + b);
-        if NARROW_LIMIT < c.weight {
-            return SoundTotal::Unsound;
-        }
         if !keeps_bounds(g, row, spans, r, gr, b, c) {
             return SoundTotal::Unsound;
         }

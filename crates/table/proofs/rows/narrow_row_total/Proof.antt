@@ -6,7 +6,7 @@ use mathlib.Core.Path.{_≡_, refl, sym, ap, _∙_}
 use Prim.Native.Nat.{ℕ, _+_, _≤_, _-_, _*_, _<_}
 use native.Mathlib.Nat.{add-zero, add-assoc, lt-of-lt-of-le}
 use native.Mathlib.Omega.{arith}
-use borrow.Author.Tests.{lt-leb, leb-true, not-true, not-false}
+use borrow.Author.Tests.{leb-true, not-true, not-false}
 use denote.Ref.{now}
 use lib.Dec.{leb}
 use Rattle.grid.specs.declared.place.Grid.{Grid}
@@ -22,7 +22,7 @@ use Rattle.table.specs.declared.layout.Layout.the-variants.{Narrow}
 use Rattle.table.specs.Narrow.{narrowTable, narrowView}
 use Rattle.table.specs.Cell.{cellOf, View}
 use Rattle.table.proofs.Scans.{inside, row-place, row-cell, row-bin}
-use Rattle.table.proofs.Scans.{scan-bad, scan-worse, scan-over, scan-total}
+use Rattle.table.proofs.Scans.{scan-worse, scan-over, scan-total}
 use Rattle.table.proofs.Soundness.{limit-high}
 use Rattle.table.proofs.rows.narrow_row_total.Statement.{statement}
 use Rattle.table.proofs.rows.narrow_row_total.Tie as tie
@@ -67,38 +67,15 @@ cell-in-requires : tie.Need-cell-in-requires Inv-loop μ-loop
 cell-in-requires c κs =
     row-cell (entry (of-bin c) .pre .0) (c .before .before .loop .b) (c .if1 .taken) (of-bin c .place .ensures)
 
--- the weight of the bin that was read
-weight-of : (k : tie.After-cell-in Inv-loop μ-loop)
-    → let s = entry (of-bin (k .before)) in
-    k .cell-in .result .weight
-    ≡ narrowView (narrowTable (now (s .args .sums)) (now (s .args .squares)))
-    (of-bin (k .before) .place .result + k .before .before .before .loop .b) 0
-unfolding cellOf
-weight-of k = ap (λ (x : Cell). x .weight) (k .cell-in .ensures)
-
--- a bin that is too heavy by itself
-returns : tie.Need-returns Inv-loop μ-loop
-returns c =
-    let k = c .before .before in
-    let p = of-bin (k .before) in
-    let s = entry p in
-    let v = narrowView (narrowTable (now (s .args .sums)) (now (s .args .squares))) in
-    let here = p .place .result + k .before .before .before .loop .b in
-    let heavy : limitOf Narrow < v here 0 = rw (← weight-of k) (c .if2 .taken) in
-    rw (← p .place .ensures)
-    (sym
-    (scan-bad (limitOf Narrow) (s .args .g) v (p .place .result) (s .args .g .size3) (s .args .had) here (omega arith)
-    (omega (arith, k .before .if1 .taken)) (rw (lt-leb (v here 0) (limitOf Narrow) heavy) refl)))
-
 keeps-bounds-requires : tie.Need-keeps-bounds-requires Inv-loop μ-loop
 keeps-bounds-requires c κs =
-    let t = c .before .before .before in
+    let t = c .before in
     let s = entry (of-bin t) in
     (inside (s .pre .0) (t .before .before .loop .b) (t .if1 .taken), (of-bin t .before .row-spans .ensures, s .pre .1))
 
 -- the bin at hand, once it is tested
 abbrev bin : tie.After-keeps-bounds Inv-loop μ-loop → tie.Then1 Inv-loop μ-loop
-bin k = k .before .before .before .before
+bin k = k .before .before
 
 abbrev grid : tie.After-keeps-bounds Inv-loop μ-loop → Grid
 grid k = entry (of-bin (bin k)) .args .g
@@ -113,15 +90,16 @@ tested : (k : tie.After-keeps-bounds Inv-loop μ-loop)
     → (leb (view k (here k) 0) limit && binSound (grid k) (view k) (here k)) ≡ k .keeps-bounds .result
 tested k =
     row-bin (entry (of-bin (bin k)) .pre .0) (view k) (bin k .before .before .loop .b) (bin k .if1 .taken)
-    (of-bin (bin k) .place .ensures) (k .before .before .before .cell-in .ensures) (k .keeps-bounds .ensures)
+    (of-bin (bin k) .place .ensures) (k .before .cell-in .ensures) (k .keeps-bounds .ensures)
 
-weighs : (k : tie.After-keeps-bounds Inv-loop μ-loop) → k .before .before .before .cell-in .result .weight ≡ view k (here k) 0
-weighs k = weight-of (k .before .before .before)
+weighs : (k : tie.After-keeps-bounds Inv-loop μ-loop) → k .before .cell-in .result .weight ≡ view k (here k) 0
+unfolding cellOf
+weighs k = ap (λ (x : Cell). x .weight) (k .before .cell-in .ensures)
 
 -- what holds of it where it passed
 record Passed (k : tie.After-keeps-bounds Inv-loop μ-loop) : Type 0 where
   bounds : binSound (grid k) (view k) (here k) ≡ true
-  light : k .before .before .before .cell-in .result .weight ≤ limit
+  light : k .before .cell-in .result .weight ≤ limit
   room : bin k .before .before .loop .b < 128
 
 passed : (k : tie.After-keeps-bounds Inv-loop μ-loop) → k .keeps-bounds .result ≡ true → Passed k
@@ -134,24 +112,24 @@ passed k e =
       room = lt-of-lt-of-le (bin k .if1 .taken) (size-high (three (entry (of-bin (bin k)) .pre .0 .table .accepted)));
     }
 
-returns-2 : tie.Need-returns-2 Inv-loop μ-loop
-returns-2 c =
+returns : tie.Need-returns Inv-loop μ-loop
+returns c =
     let k = c .before in
     let p = of-bin (bin k) in
     rw (← p .place .ensures)
     (sym
     (scan-worse (limitOf Narrow) (grid k) (view k) (limit-high Narrow) (p .place .result) (grid k .size3) (entry p .args .had)
-    (here k) (omega arith) (omega (arith, bin k .if1 .taken)) (tested k ∙ not-true _ (c .if3 .taken))))
+    (here k) (omega arith) (omega (arith, bin k .if1 .taken)) (tested k ∙ not-true _ (c .if2 .taken))))
 
 add-total : tie.Need-add-total Inv-loop μ-loop
 add-total c =
     let k = c .before .before in
-    let f = passed k (not-false _ (c .before .if3 .left)) in
+    let f = passed k (not-false _ (c .before .if2 .left)) in
     omega (arith, f .light, f .room, bin k .before .before .loop .inv .3)
 
 add-b : tie.Need-add-b Inv-loop μ-loop
 add-b c =
-    let f = passed (c .before .before) (not-false _ (c .before .if3 .left)) in
+    let f = passed (c .before .before) (not-false _ (c .before .if2 .left)) in
     omega (arith, f .room)
 
 loop-less : tie.Need-loop-less Inv-loop μ-loop
@@ -161,13 +139,25 @@ loop-again : tie.Need-loop-again Inv-loop μ-loop
 loop-again c =
     let k = c .before .before in
     let l = bin k .before .before .loop in
-    let f = passed k (not-false _ (c .before .if3 .left)) in (
+    let f = passed k (not-false _ (c .before .if2 .left)) in (
       omega (arith, bin k .if1 .taken),
       (λ i. l .inv .1 i + weighs k i) ∙ add-assoc _ _ _
           ∙ ap (λ (n : ℕ). entry (of-bin (bin k)) .args .had + n) (sym (sum-last _ (l .b) _)),
       all-last _ (l .b) _ ∙ (λ i. l .inv .2 i && f .bounds i),
       omega (arith, f .light, l .inv .3),
     )
+
+returns-2 : tie.Need-returns-2 Inv-loop μ-loop
+returns-2 c =
+    let p = c .before .before .before .before in
+    let s = entry p in
+    let l = c .before .before .before .loop in
+    let v = narrowView (narrowTable (now (s .args .sums)) (now (s .args .squares))) in
+    let from = p .place .result in
+    let all : l .b ≡ s .args .g .size3 = omega arith in
+    rw (← p .place .ensures)
+    (sym (scan-over (limitOf Narrow) (s .args .g) v from (l .b) (s .args .had) (omega (arith, l .inv .1, c .if3 .taken)))
+    ∙ ap (λ (n : ℕ). scanned (limitOf Narrow) (s .args .g) v from n (s .args .had)) all)
 
 returns-3 : tie.Need-returns-3 Inv-loop μ-loop
 returns-3 c =
@@ -178,21 +168,9 @@ returns-3 c =
     let from = p .place .result in
     let all : l .b ≡ s .args .g .size3 = omega arith in
     rw (← p .place .ensures)
-    (sym (scan-over (limitOf Narrow) (s .args .g) v from (l .b) (s .args .had) (omega (arith, l .inv .1, c .if4 .taken)))
-    ∙ ap (λ (n : ℕ). scanned (limitOf Narrow) (s .args .g) v from n (s .args .had)) all)
-
-returns-4 : tie.Need-returns-4 Inv-loop μ-loop
-returns-4 c =
-    let p = c .before .before .before .before in
-    let s = entry p in
-    let l = c .before .before .before .loop in
-    let v = narrowView (narrowTable (now (s .args .sums)) (now (s .args .squares))) in
-    let from = p .place .result in
-    let all : l .b ≡ s .args .g .size3 = omega arith in
-    rw (← p .place .ensures)
     (ap Total (l .inv .1)
     ∙ sym (scan-total (limitOf Narrow) (s .args .g) v from (l .b) (s .args .had) (l .inv .2)
-    (omega (arith, l .inv .1, c .if4 .left)))
+    (omega (arith, l .inv .1, c .if3 .left)))
     ∙ ap (λ (n : ℕ). scanned (limitOf Narrow) (s .args .g) v from n (s .args .had)) all)
 
 pub narrow-row-total-spec : {M : Type 1} → statement M
@@ -206,12 +184,11 @@ narrow-row-total-spec =
     loop-holds
     add-cell-in
     cell-in-requires
-    returns
     keeps-bounds-requires
-    returns-2
+    returns
     add-total
     add-b
     loop-less
     loop-again
-    returns-3
-    returns-4)
+    returns-2
+    returns-3)
