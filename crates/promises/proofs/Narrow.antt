@@ -4,7 +4,7 @@
 -- Assumes nothing.
 use mathlib.Core.Path.{_≡_, refl, sym, ap, subst, _∙_}
 use mathlib.Core.Bool.{Bool, true, not, _&&_}
-use mathlib.Core.List.{List}
+use mathlib.Core.List.{List, Perm·refl}
 use Prim.Native.Nat.{ℕ, zero, suc, _+_, _*_, _/_, _%_, _≤_, _<_}
 use native.Mathlib.Omega.{arith}
 use borrow.Author.Tests.{le-ltb}
@@ -30,12 +30,12 @@ use Rattle.table.proofs.NarrowTables.{narrow-test, wide-view}
 use Rattle.table.proofs.Layouts.{holds-list-in, narrow-wide}
 use Rattle.table.proofs.Soundness.{Sound, sound-in, sound-limit, total-high, numbers-high, number-below}
 use Rattle.adder.specs.Batch.{Weighted, weightOf, loaded, batchOf}
-use Rattle.loader.specs.Load.{tableIn, loadNumber, loadLater, loadNumberIn, loadLaterIn}
+use Rattle.loader.specs.Load.{tableIn, tableOf, loadNumber, loadLater, loadNumberIn, loadLaterIn}
 use Rattle.loader.specs.Merge.{merged, mergeNumber, mergeLater, mergeNumberIn, mergeLaterIn}
-use Rattle.loader.specs.Plan.{Plan, Filled, endedOf, endedOfIn, endsIn, leaves, BytesIn}
+use Rattle.loader.specs.Plan.{Plan, Filled, endsIn, leaves, BytesIn}
 use Rattle.loader.proofs.Laws.{load-refused-in, load-tests-in, load-says-in, merge-refused-in, merge-tests-in}
 use Rattle.loader.proofs.Laws.{merge-says-in}
-use Rattle.loader.proofs.Order.{table-holds-in, table-total-in, leaves-bytes, ends-is-in}
+use Rattle.loader.proofs.Order.{table-holds-in, table-total-in, leaves-bytes, any-order}
 use Rattle.loader.proofs.Plans.{filled-table, filled-formed}
 use Rattle.widen.specs.Widen.{widened, widenNumber, widenLater}
 use Rattle.widen.proofs.Laws.{widened-holds, widened-same, widen-says}
@@ -104,7 +104,7 @@ module _ {g : Grid} {t : NarrowTable} (f : Fits g t) where
 
   -- and is sound for the wide limit just where the narrow one is for its own
   same-sound : sound (limitOf Narrow) g (narrowView t) ≡ sound limit g (narrowView t)
-  same-sound = sound-limit g (narrowView t) (f .under) (lit≤ tt)
+  same-sound = sound-limit {few = limitOf Narrow} g (narrowView t) (omega (arith, f .under)) (lit≤ tt)
 
 -- three sizes have one grid
 same-grid : {c : Chosen} {g h : Grid} → c ≡ chosen.Accepted g → c ≡ chosen.Accepted h → g ≡ h
@@ -355,31 +355,29 @@ module _ (b1 b2 b3 : ℕ) {g : Grid} (e : gridOf b1 b2 b3 ≡ chosen.Accepted g)
         total-is = ap (λ (v : View). total g v) (same-view f);
       })
 
--- ---- what is promised of tables from plans
-module _ (b1 b2 b3 : ℕ) {g : Grid} (e : gridOf b1 b2 b3 ≡ chosen.Accepted g) where
-  -- the table of some colours, widened, is the wide one
-  widened-table : (cs : List Weighted) → widened (binsOf g) (tableIn Narrow g cs) ≡ tableIn Wide g cs
-  unfolding tableIn
-  widened-table cs =
-      holds-list-in Wide
-      (widened-same (binsOf g) (tableIn Narrow g cs) (loaded g cs zeros) (table-holds-in Narrow g cs))
+-- ---- plans of loads and merges
+-- the table of some colours, widened, is the wide one
+widened-table : (g : Grid) (cs : List Weighted) → widened (binsOf g) (tableIn Narrow g cs) ≡ tableOf g cs
+widened-table g cs =
+    holds-list-in Wide
+    (widened-same (binsOf g) (tableIn Narrow g cs) (loaded g cs zeros) (table-holds-in Narrow g cs))
+    ∙ sym (holds-list-in Wide (table-holds-in Wide g cs))
 
-  -- a plan that ran in the narrow layout runs in the wide one, and so what is promised of tables from wide plans, as
-  -- Full and Tiling do, is promised of its table widened
-  pub narrow-plan-is-wide : (p : Plan) → BytesIn p → {t : NarrowTable} → endsIn Narrow b1 b2 b3 p ≡ Filled t
-      → SamePlans b1 b2 b3 g p t
-  unfolding endedOfIn
-  narrow-plan-is-wide p y {t} ran =
-      let d = filled-table b1 b2 b3 e p y ran in
-      let bytes = leaves-bytes p y in
-      rw (d .1)
-      (record {
-        fits = record {
-          lent = table-holds-in Narrow g (leaves p) .lent;
-          under = rw (table-total-in Narrow g (chose b1 b2 b3 g e .accepted) (leaves p) bytes) (d .0);
-        };
-        runs =
-            ends-is-in Wide b1 b2 b3 e p y (omega (arith, d .0))
-            ∙ ap (λ (n : ℕ). endedOf n (tableIn Wide g (leaves p))) (filled-formed b1 b2 b3 e p y ran)
-            ∙ ap Filled (sym (widened-table (leaves p)));
-      })
+-- a plan that ran to a narrow table runs in the wide layout to the widened one; so with `narrow-cut-is-wide` what Full
+-- and Tiling say of the tables that plans ran to is true of narrow ones
+pub narrow-plan-is-wide : (b1 b2 b3 : ℕ) {g : Grid} → gridOf b1 b2 b3 ≡ chosen.Accepted g → (p : Plan) → BytesIn p
+    → {t : NarrowTable} → endsIn Narrow b1 b2 b3 p ≡ Filled t → SamePlans b1 b2 b3 g p t
+narrow-plan-is-wide b1 b2 b3 {g} e p y ran =
+    let d = filled-table b1 b2 b3 e p y ran in
+    let formed = filled-formed b1 b2 b3 e p y ran in
+    let a = chose b1 b2 b3 g e .accepted in
+    rw (d .1)
+    (record {
+      fits = record {
+        lent = table-holds-in Narrow g (leaves p) .lent;
+        under = rw (table-total-in Narrow g a (leaves p) (leaves-bytes p y)) (d .0);
+      };
+      runs =
+          any-order b1 b2 b3 e p p y y formed formed (Perm·refl (leaves p)) (omega (arith, d .0)) .0
+          ∙ ap Filled (sym (widened-table g (leaves p)));
+    })

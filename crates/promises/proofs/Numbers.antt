@@ -468,16 +468,20 @@ module _ (b1 b2 b3 : ℕ) where
   pub narrow-load-15 : (t : NarrowTable) (colours : List ℕ) (weighted : Bool) (weights : List ℕ)
       → (loadNumberIn Narrow b1 b2 b3 t colours weighted weights ≡ 15)
       ↔ OnGrid b1 b2 b3 (PassesLoad t colours weighted weights)
-  narrow-load-15 t colours weighted weights = (
-    λ n. says (gridOf b1 b2 b3) refl n,
-    λ o. let c = o .can in
-        sym (load-over Narrow b1 b2 b3 t colours weighted weights (o .chosen) (c .threes)
-        (pairs weighted (length weights) (length colours / 3) (c .paired)) (c .lent) (c .is-sound) (c .past) .0),
-  )
+  narrow-load-15 t colours weighted weights = (says (gridOf b1 b2 b3) refl, gives)
     where
+      gives : OnGrid b1 b2 b3 (PassesLoad t colours weighted weights)
+          → loadNumberIn Narrow b1 b2 b3 t colours weighted weights ≡ 15
+      gives o =
+          let c = o .can in
+          sym (load-over Narrow b1 b2 b3 t colours weighted weights (o .chosen) (c .threes)
+          (pairs weighted (length weights) (length colours / 3) (c .paired)) (c .lent) (c .is-sound)
+          (omega (arith, c .past)) .0)
+
       says : (c : Chosen) → gridOf b1 b2 b3 ≡ c → loadNumberIn Narrow b1 b2 b3 t colours weighted weights ≡ 15
           → OnGrid b1 b2 b3 (PassesLoad t colours weighted weights)
       says (chosen.Accepted g) e n =
+          let added = weightOf (batchOf colours weighted weights) in
           let tests = load-tests-in Narrow b1 b2 b3 t colours weighted weights e in
           let three = past-test _ 3 _ (lit< tt) (sym tests ∙ n) in
           let four = past-test _ 4 _ (lit< tt) (three .1) in
@@ -491,8 +495,7 @@ module _ (b1 b2 b3 : ℕ) where
               paired = λ y. eqb-true (length weights) (length colours / 3) (not-false _ (sym (rw y refl) ∙ four .0));
               lent = test-narrow (not-false _ (five .0));
               is-sound = not-false _ (six .0);
-              past = ltb-true (limitOf Narrow) (total g (narrowView t) + weightOf (batchOf colours weighted weights))
-                  (last-test _ (six .1));
+              past = omega (arith, ltb-true (limitOf Narrow) (total g (narrowView t) + added) (last-test _ (six .1)));
             };
           }
       says chosen.Refused e n =
@@ -500,13 +503,14 @@ module _ (b1 b2 b3 : ℕ) where
 
   pub narrow-merge-15 : (t s : NarrowTable)
       → (mergeNumberIn Narrow b1 b2 b3 t s ≡ 15) ↔ OnGrid b1 b2 b3 (PassesMerge t s)
-  narrow-merge-15 t s = (
-    λ n. says (gridOf b1 b2 b3) refl n,
-    λ o. let c = o .can in
-        sym (merge-over Narrow b1 b2 b3 t s (o .chosen) (c .lent .0) (c .lent .1) (c .are-sound .0) (c .are-sound .1)
-        (c .past) .0),
-  )
+  narrow-merge-15 t s = (says (gridOf b1 b2 b3) refl, gives)
     where
+      gives : OnGrid b1 b2 b3 (PassesMerge t s) → mergeNumberIn Narrow b1 b2 b3 t s ≡ 15
+      gives o =
+          let c = o .can in
+          sym (merge-over Narrow b1 b2 b3 t s (o .chosen) (c .lent .0) (c .lent .1) (c .are-sound .0) (c .are-sound .1)
+          (omega (arith, c .past)) .0)
+
       says : (c : Chosen) → gridOf b1 b2 b3 ≡ c → mergeNumberIn Narrow b1 b2 b3 t s ≡ 15
           → OnGrid b1 b2 b3 (PassesMerge t s)
       says (chosen.Accepted g) e n =
@@ -523,8 +527,11 @@ module _ (b1 b2 b3 : ℕ) where
                 test-narrow (and-right sized _ (not-false _ (five .0))),
               );
               are-sound = (and-left good _ (not-false _ (six .0)), and-right good _ (not-false _ (six .0)));
-              past = ltb-true (limitOf Narrow) (total g (narrowView t) + total g (narrowView s))
-                  (last-test _ (six .1));
+              past = omega (
+                arith,
+                ltb-true (limitOf Narrow) (total g (narrowView t) + total g (narrowView s))
+                    (last-test _ (six .1)),
+              );
             };
           }
       says chosen.Refused e n = absurd (omega (arith, merge-no-grid-in Narrow b1 b2 b3 t s e .0, n))
