@@ -77,8 +77,8 @@
  *
  * The lowest answer from 1 to 9 that applies is given; where none applies, the answer is 0. 10, 11 and 12 come before
  * 1, in that order, and so do 13 and 14, which no call answers that answers one of these. 15 stands in the place of 7:
- * the calls that answer it do not answer 7. Any answer but 0 is a refusal, which writes nothing: every lent byte stays
- * as it was.
+ * the calls that answer it do not answer 7, and they answer it where none of 1 to 9 applies. Any answer but 0 is a
+ * refusal, which writes nothing: every lent byte stays as it was.
  */
 #ifndef SELUVAVA_H
 #define SELUVAVA_H
