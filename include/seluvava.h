@@ -30,14 +30,14 @@
  * squares lie between n times the sum of the three squared lows and n times that of the three squared highs, and all
  * weights total at most 4,294,967,295. What load and merge make of sound tables is sound.
  *
- * NARROW TABLE. The same five numbers per bin in two lists, 24 bytes a bin in place of 40: the sums, four 32-bit numbers
- * per bin from 4 * place on, weight n and the three component sums; and the squares, one 64-bit number per bin, at its
- * place. An empty narrow table is all zeros in both. Its total is at most 16,843,008, up to which no sum reaches 2^32:
- * this is the limit of a sound narrow table, and all else of it is as above. Two 4K frames fit, pixel by pixel, or eight
- * of 1920 by 1080. Take it where it is known that the total stays below: with its work table a cut needs 48 bytes a bin
- * in place of 80; docs/SPEED.md has its times. Take the table of five numbers per bin, the wide one, where weights or
- * merges may carry the total further, and for load_ppm, compare, rescue, batch and replay, which have no narrow form. A
- * narrow table that gets too heavy is widened and goes on from there.
+ * NARROW TABLE. The same five numbers per bin in two lists, 24 bytes a bin in place of 40: the sums, four 32-bit
+ * numbers per bin from 4 * place on, weight n and the three component sums; and the squares, one 64-bit number per bin,
+ * at its place. An empty narrow table is all zeros in both. Its total is at most 16,843,008, up to which no sum reaches
+ * 2^32: this is the limit of a sound narrow table, and all else of it is as above. Two 4K frames fit, pixel by pixel,
+ * or eight of 1920 by 1080. Take it where it is known that the total stays at or below that: with its work table a cut
+ * needs 48 bytes a bin in place of 80; docs/SPEED.md has its times. Take the table of five numbers per bin, the wide
+ * one, where weights or merges may carry the total further, and for load_ppm, compare, rescue, batch and replay, which
+ * have no narrow form. A narrow table that gets too heavy is widened and goes on from there.
  *
  * LENT BUFFERS. A buffer is a pointer and, right after it, its length in elements (not in bytes). A caller sees to
  * three things, and no call can test them: a pointer is aligned for its type and has that many elements behind it;
@@ -77,8 +77,8 @@
  *
  * The lowest answer from 1 to 9 that applies is given; where none applies, the answer is 0. 10, 11 and 12 come before
  * 1, in that order, and so do 13 and 14, which no call answers that answers one of these. 15 stands in the place of 7:
- * the calls that answer it do not answer 7. Any answer but 0 is a refusal, which writes nothing: every lent byte stays
- * as it was.
+ * the calls that answer it do not answer 7, and they answer it where none of 1 to 9 applies. Any answer but 0 is a
+ * refusal, which writes nothing: every lent byte stays as it was.
  */
 #ifndef SELUVAVA_H
 #define SELUVAVA_H
@@ -100,7 +100,7 @@ extern "C" {
 /* The three sizes for RGB, as every call takes them: 8,192 bins. */
 #define SELUVAVA_RGB 16, 32, 16
 
-/* The largest total of a narrow table, up to which it is sound and loads and merges are not refused with 15. */
+/* The largest total of a sound narrow table; a load or a merge that would pass it is refused with 15. */
 #define SELUVAVA_NARROW_TOTAL 16843008
 
 /* How many bins a grid has: b1 * b2 * b3, or 0 where a size is not among the seven. */

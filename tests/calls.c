@@ -2,8 +2,8 @@
  * Every call of seluvava.h, held to docs/RULES.md: the cases P1 to P10, every number of every call, alone and two
  * at a time, lengths one off, NULL with length 0, bands, batches and frames of every length up to 200, every
  * recorded list of up to three entries out of ten, PPM files cut at every byte and with every byte in the place of
- * each of their headers, palettes of every length, and all cuts of the same tables, fast and slow, wide and narrow, which
- * have to leave the same; and all of it once more with the processor's flush modes set.
+ * each of their headers, palettes of every length, and all cuts of the same tables, fast and slow, wide and narrow,
+ * which have to leave the same; and all of it once more with the processor's flush modes set.
  * What a lent buffer must hold afterwards is said here once more, in C, by the same rules.
  */
 #define _DEFAULT_SOURCE
@@ -16,7 +16,7 @@
 #include <sys/mman.h>
 
 #define LIMIT UINT64_C(4294967295)
-#define NARROW UINT64_C(16843008)
+#define NARROW_LIMIT UINT64_C(16843008)
 #define PIXELS 200
 
 /* ---- What a call is asked with */
@@ -74,8 +74,8 @@ enum call {
     NARROW_LOAD, NARROW_MERGE, NARROW_CUT, NARROW_CUT_SLOWLY, WIDEN, CALLS
 };
 #define BIT(n) (1u << (n))
-#define SLIM (BIT(SUMS) | BIT(SQUARES))
-#define SLIM_WORK (BIT(WORK_SUMS) | BIT(WORK_SQUARES))
+#define NARROW_TABLE (BIT(SUMS) | BIT(SQUARES))
+#define NARROW_WORK (BIT(WORK_SUMS) | BIT(WORK_SQUARES))
 #define RESULTS (BIT(PALETTE) | BIT(COUNTS) | BIT(REMAINDERS) | BIT(MAP) | BIT(BOXES) | BIT(SPREADS))
 
 static const struct {
@@ -96,11 +96,11 @@ static const struct {
     [PAINT] = {"paint", BIT(MAP) | BIT(PALETTE) | BIT(FRAME), BIT(FRAME)},
     [HEADER] = {"ppm_header", BIT(PPM), 0},
     [NEAREST] = {"nearest", BIT(PALETTE) | BIT(ANSWERS), BIT(ANSWERS)},
-    [NARROW_LOAD] = {"narrow_load", SLIM | BIT(COLOURS) | BIT(WEIGHTS), SLIM},
-    [NARROW_MERGE] = {"narrow_merge", SLIM | BIT(SECOND_SUMS) | BIT(SECOND_SQUARES), SLIM},
-    [NARROW_CUT] = {"narrow_cut", SLIM | SLIM_WORK | RESULTS, SLIM_WORK | RESULTS},
-    [NARROW_CUT_SLOWLY] = {"narrow_cut_slowly", SLIM | RESULTS, RESULTS},
-    [WIDEN] = {"widen", SLIM | BIT(TABLE), BIT(TABLE)},
+    [NARROW_LOAD] = {"narrow_load", NARROW_TABLE | BIT(COLOURS) | BIT(WEIGHTS), NARROW_TABLE},
+    [NARROW_MERGE] = {"narrow_merge", NARROW_TABLE | BIT(SECOND_SUMS) | BIT(SECOND_SQUARES), NARROW_TABLE},
+    [NARROW_CUT] = {"narrow_cut", NARROW_TABLE | NARROW_WORK | RESULTS, NARROW_WORK | RESULTS},
+    [NARROW_CUT_SLOWLY] = {"narrow_cut_slowly", NARROW_TABLE | RESULTS, RESULTS},
+    [WIDEN] = {"widen", NARROW_TABLE | BIT(TABLE), BIT(TABLE)},
 };
 
 /* What a call hands back, of whatever it has. */
@@ -640,7 +640,7 @@ static bool lay_narrow(struct asked *q)
     narrowed(q->table, bins, q->sums, q->squares);
     q->length[SUMS] = q->length[WORK_SUMS] = 4 * bins;
     q->length[SQUARES] = q->length[WORK_SQUARES] = bins;
-    return total <= NARROW;
+    return total <= NARROW_LIMIT;
 }
 
 /* Asks all cuts, which have to tell and to leave the same, but for what is left in work tables: the narrow ones where
@@ -836,9 +836,9 @@ static struct asked good(void)
 #define NARROW_CUTS (BIT(NARROW_CUT) | BIT(NARROW_CUT_SLOWLY))
 #define CUTS (WIDE_CUTS | NARROW_CUTS)
 #define TABLES (LOADS | BIT(LOAD_PPM) | TWO | BIT(RESCUE) | BIT(REPLAY) | WIDE_CUTS)
-#define NARROWS (BIT(NARROW_LOAD) | BIT(NARROW_MERGE) | NARROW_CUTS | BIT(WIDEN))
+#define NARROW_CALLS (BIT(NARROW_LOAD) | BIT(NARROW_MERGE) | NARROW_CUTS | BIT(WIDEN))
 #define FRAMES (BIT(MAPPING) | BIT(PAINT))
-#define GRIDS (TABLES | FRAMES | NARROWS)
+#define GRIDS (TABLES | FRAMES | NARROW_CALLS)
 #define FILES (BIT(LOAD_PPM) | BIT(HEADER))
 
 /* Who looks at 32 bits alone takes it for n. */
@@ -908,12 +908,12 @@ static const struct change {
     {TABLES | BIT(WIDEN), 5, "table one short", PUT(length[TABLE], 319)},
     {TABLES | BIT(WIDEN), 5, "table one long", PUT(length[TABLE], 321)},
     {TABLES | BIT(WIDEN), 5, "no table", PUT(length[TABLE], 0)},
-    {NARROWS, 5, "sums one short", PUT(length[SUMS], 255)},
-    {NARROWS, 5, "sums one long", PUT(length[SUMS], 257)},
-    {NARROWS, 5, "no sums", PUT(length[SUMS], 0)},
-    {NARROWS, 5, "squares one short", PUT(length[SQUARES], 63)},
-    {NARROWS, 5, "squares one long", PUT(length[SQUARES], 65)},
-    {NARROWS, 5, "no squares", PUT(length[SQUARES], 0)},
+    {NARROW_CALLS, 5, "sums one short", PUT(length[SUMS], 255)},
+    {NARROW_CALLS, 5, "sums one long", PUT(length[SUMS], 257)},
+    {NARROW_CALLS, 5, "no sums", PUT(length[SUMS], 0)},
+    {NARROW_CALLS, 5, "squares one short", PUT(length[SQUARES], 63)},
+    {NARROW_CALLS, 5, "squares one long", PUT(length[SQUARES], 65)},
+    {NARROW_CALLS, 5, "no squares", PUT(length[SQUARES], 0)},
     {BIT(NARROW_MERGE), 5, "second sums one short", PUT(length[SECOND_SUMS], 255)},
     {BIT(NARROW_MERGE), 5, "second sums one long", PUT(length[SECOND_SUMS], 257)},
     {BIT(NARROW_MERGE), 5, "no second sums", PUT(length[SECOND_SUMS], 0)},
@@ -1002,21 +1002,21 @@ static const struct change {
     {TABLES, 6, "empty bin with a sum", PUT(table[6], 1)},
     {TABLES, 6, "weights past the limit", PUT(table[0], LIMIT - 9)},
     {TABLES, 6, "weight far too large", PUT(table[0], UINT64_MAX)},
-    {NARROWS, 6, "sum below n * low", PUT(sums[65], 127)},
-    {NARROWS, 6, "sum above n * high", PUT(sums[65], 255)},
-    {NARROWS, 6, "second sum above n * high", PUT(sums[66], 255)},
-    {NARROWS, 6, "third sum above n * high", PUT(sums[67], 63)},
-    {NARROWS, 6, "squares above n * the squared highs", PUT(squares[16], 66439)},
-    {NARROWS, 6, "squares below n * the squared lows", PUT(squares[16], 8191)},
-    {NARROWS, 6, "squares 0 beside a weight", PUT(squares[16], 0)},
-    {NARROWS, 6, "squares far too large", PUT(squares[16], UINT64_MAX)},
-    {NARROWS, 6, "empty bin with a sum", PUT(sums[5], 1)},
-    {NARROWS, 6, "empty bin with squares", PUT(squares[1], 1)},
-    {NARROWS, 6, "weights one past the narrow limit", PUT(sums[0], NARROW - 9)},
-    {NARROWS, 6, "weights that are 0 when added up in 32 bits", PUT(sums[0], UINT32_MAX - 9)},
+    {NARROW_CALLS, 6, "sum below n * low", PUT(sums[65], 127)},
+    {NARROW_CALLS, 6, "sum above n * high", PUT(sums[65], 255)},
+    {NARROW_CALLS, 6, "second sum above n * high", PUT(sums[66], 255)},
+    {NARROW_CALLS, 6, "third sum above n * high", PUT(sums[67], 63)},
+    {NARROW_CALLS, 6, "squares above n * the squared highs", PUT(squares[16], 66439)},
+    {NARROW_CALLS, 6, "squares below n * the squared lows", PUT(squares[16], 8191)},
+    {NARROW_CALLS, 6, "squares 0 beside a weight", PUT(squares[16], 0)},
+    {NARROW_CALLS, 6, "squares far too large", PUT(squares[16], UINT64_MAX)},
+    {NARROW_CALLS, 6, "empty bin with a sum", PUT(sums[5], 1)},
+    {NARROW_CALLS, 6, "empty bin with squares", PUT(squares[1], 1)},
+    {NARROW_CALLS, 6, "weights one past the narrow limit", PUT(sums[0], NARROW_LIMIT - 9)},
+    {NARROW_CALLS, 6, "weights that are 0 when added up in 32 bits", PUT(sums[0], UINT32_MAX - 9)},
     {BIT(NARROW_MERGE), 6, "sum of the second table above n * high", PUT(second_sums[65], 255)},
     {BIT(NARROW_MERGE), 6, "squares of the second table 0 beside a weight", PUT(second_squares[16], 0)},
-    {BIT(NARROW_MERGE), 6, "weights of the second table past the narrow limit", PUT(second_sums[0], NARROW - 9)},
+    {BIT(NARROW_MERGE), 6, "weights of the second table past the narrow limit", PUT(second_sums[0], NARROW_LIMIT - 9)},
     {TWO, 6, "sum of the second table above n * high", PUT(second[81], 255)},
     {TWO, 6, "squares of the second table 0 beside a weight", PUT(second[84], 0)},
     {TWO, 6, "weights of the second table past the limit", PUT(second[0], LIMIT - 9)},
@@ -1028,11 +1028,11 @@ static const struct change {
     {LOADS | BIT(LOAD_PPM) | BIT(MERGE), 7, "full table", PUT(table[0], LIMIT - 10)},
     {BIT(LOAD_PPM), 7, "total one past the limit", PUT(table[0], LIMIT - 15)},
     {BIT(MERGE), 7, "total one past the limit", PUT(second[0], LIMIT - 22)},
-    {BIT(NARROW_LOAD), 15, "total one past the narrow limit", PUT(weights[2], NARROW - 18)},
+    {BIT(NARROW_LOAD), 15, "total one past the narrow limit", PUT(weights[2], NARROW_LIMIT - 18)},
     {BIT(NARROW_LOAD), 15, "weight that is the limit", PUT(weights[4], LIMIT)},
-    {BIT(NARROW_LOAD) | BIT(NARROW_MERGE), 15, "full narrow table", PUT(sums[0], NARROW - 10)},
-    {BIT(NARROW_MERGE), 15, "total one past the narrow limit", PUT(second_sums[0], NARROW - 22)},
-    {BIT(NARROW_MERGE), 15, "full second table", PUT(second_sums[0], NARROW - 10)},
+    {BIT(NARROW_LOAD) | BIT(NARROW_MERGE), 15, "full narrow table", PUT(sums[0], NARROW_LIMIT - 10)},
+    {BIT(NARROW_MERGE), 15, "total one past the narrow limit", PUT(second_sums[0], NARROW_LIMIT - 22)},
+    {BIT(NARROW_MERGE), 15, "full second table", PUT(second_sums[0], NARROW_LIMIT - 10)},
     {FRAMES, 9, "the map's first entry the palette's length", PUT(map[0], 3)},
     {FRAMES, 9, "the map's last entry 255", PUT(map[63], 255)},
     {BIT(PAINT), 9, "palette of one colour", PUT(length[PALETTE], 3)},
@@ -1041,14 +1041,14 @@ static const struct change {
     {TABLES, 0, "sum at n * high", PUT(table[81], 254)},
     {TABLES, 0, "squares at n * the squared lows", PUT(table[84], 8192)},
     {TABLES, 0, "squares at n * the squared highs", PUT(table[84], 66438)},
-    {NARROWS, 0, "sum at n * low", PUT(sums[65], 128)},
-    {NARROWS, 0, "sum at n * high", PUT(sums[65], 254)},
-    {NARROWS, 0, "squares at n * the squared lows", PUT(squares[16], 8192)},
-    {NARROWS, 0, "squares at n * the squared highs", PUT(squares[16], 66438)},
-    {NARROW_CUTS | BIT(WIDEN), 0, "full narrow table", PUT(sums[0], NARROW - 10)},
-    {BIT(NARROW_LOAD), 0, "total at the narrow limit", PUT(weights[2], NARROW - 19)},
-    {BIT(NARROW_LOAD), 0, "total at the narrow limit with the table's", PUT(sums[0], NARROW - 23)},
-    {BIT(NARROW_MERGE), 0, "total at the narrow limit", PUT(second_sums[0], NARROW - 23)},
+    {NARROW_CALLS, 0, "sum at n * low", PUT(sums[65], 128)},
+    {NARROW_CALLS, 0, "sum at n * high", PUT(sums[65], 254)},
+    {NARROW_CALLS, 0, "squares at n * the squared lows", PUT(squares[16], 8192)},
+    {NARROW_CALLS, 0, "squares at n * the squared highs", PUT(squares[16], 66438)},
+    {NARROW_CUTS | BIT(WIDEN), 0, "full narrow table", PUT(sums[0], NARROW_LIMIT - 10)},
+    {BIT(NARROW_LOAD), 0, "total at the narrow limit", PUT(weights[2], NARROW_LIMIT - 19)},
+    {BIT(NARROW_LOAD), 0, "total at the narrow limit with the table's", PUT(sums[0], NARROW_LIMIT - 23)},
+    {BIT(NARROW_MERGE), 0, "total at the narrow limit", PUT(second_sums[0], NARROW_LIMIT - 23)},
     {BIT(WIDEN), 0, "no sound table in the wide list", PUT(table[0], UINT64_MAX)},
     {BIT(COMPARE) | BIT(RESCUE) | BIT(REPLAY) | WIDE_CUTS, 0, "full table", PUT(table[0], LIMIT - 10)},
     {BIT(RESCUE), 0, "no room for a bin, and room for a lighter one after it", PUT(table[0], LIMIT - 1)},
@@ -1165,7 +1165,7 @@ static void ask_all_cuts(void)
     for (size_t i = 0; i < COUNT(grids); i++) {
         const size_t bins = grids[i][0] * grids[i][1] * grids[i][2];
         static const char *const words_of[] = {"", "equal weights", "a large total", "a large narrow total"};
-        static const uint64_t scales[] = {1, 1, LIMIT / (15 * PIXELS), NARROW / (15 * PIXELS)};
+        static const uint64_t scales[] = {1, 1, LIMIT / (15 * PIXELS), NARROW_LIMIT / (15 * PIXELS)};
         for (unsigned weights = 0; weights < COUNT(scales); weights++) {
             for (size_t k = 1; k <= bins + 2; k++) {
                 struct asked q = good();
@@ -1191,7 +1191,7 @@ static void ask_white(void)
 {
     for (uint32_t past = 0; past < 2; past++) {
         struct asked q = good();
-        const uint32_t total = (uint32_t)NARROW + past;
+        const uint32_t total = (uint32_t)NARROW_LIMIT + past;
         const char *const words = past ? "white once too often" : "white as often as can be";
         memset(q.table, 0, sizeof q.table);
         memset(q.sums, 0, sizeof q.sums);
@@ -1551,7 +1551,7 @@ static void ask_plain(void)
         q.length[WEIGHTS] = lent;
         memset(q.weights, 0xff, sizeof q.weights);
         ask(NARROW_LOAD, &q, 0, "no weights given", "some lent");
-        q.sums[0] += (uint32_t)(NARROW - 18 - q.length[COLOURS] / 3);
+        q.sums[0] += (uint32_t)(NARROW_LIMIT - 18 - q.length[COLOURS] / 3);
         ask(NARROW_LOAD, &q, 0, "no weights given", "total at the narrow limit");
         q.length[COLOURS] = 3;
         ask(NARROW_LOAD, &q, 15, "no weights given", "total one past the narrow limit");

@@ -1,5 +1,5 @@
-//! Narrow tables beside the wide ones of the same numbers (Rules, Layouts; Rules, Answers): a whole input, and the calls
-//! one by one, good or damaged.
+//! Narrow tables beside the wide ones of the same numbers (Rules, Layouts; Rules, Answers): a whole input, and the
+//! calls one by one, good or damaged.
 use crate::{
     PaletteSize,
     answer::{Answer, Original, Told, original},
@@ -22,15 +22,27 @@ struct Lists {
 }
 
 impl Lists {
-    /// Those of a table of five numbers a bin, as far as 32 bits hold them.
-    fn of(table: &[u64]) -> Self {
+    /// Those of a table of five numbers a bin, whose weights and sums are turned into 32 bits one by one.
+    fn by(table: &[u64], turned: impl Fn(u64) -> u32) -> Self {
         let bins = || table.chunks_exact(5);
         Self {
             sums: bins()
-                .flat_map(|five| [0, 1, 2, 3].map(|j| five[j] as u32))
+                .flat_map(|five| [0, 1, 2, 3].map(|j| turned(five[j])))
                 .collect(),
             squares: bins().map(|five| five[4]).collect(),
         }
+    }
+
+    /// Those of a table that a narrow one can hold.
+    fn of(table: &[u64]) -> Self {
+        Self::by(table, |n| {
+            u32::try_from(n).expect("no weight and no sum of a narrow table reaches 2^32")
+        })
+    }
+
+    /// Something to lend, of any table: where a sum needs more than 32 bits, what they leave of it stands there.
+    fn to_lend(table: &[u64]) -> Self {
+        Self::by(table, |n| n as u32)
     }
 
     fn see(&self) -> Narrow<'_> {
@@ -270,8 +282,8 @@ impl Calls {
         Self {
             grid: case.grid,
             k: case.k,
-            table: Lists::of(&table_of(case.grid, first, first_weights)),
-            second: Lists::of(&table_of(case.grid, second, weights)),
+            table: Lists::to_lend(&table_of(case.grid, first, first_weights)),
+            second: Lists::to_lend(&table_of(case.grid, second, weights)),
             colours: second.as_flattened().to_vec(),
             weights: weights.to_vec(),
             weighted: true,

@@ -7,10 +7,10 @@ use std::fmt;
 /// much for the work table of a cut. In return a narrow table takes totals up to 16,843,008 alone. Up to there loading,
 /// merging and cutting give exactly what a [`Table`] gives.
 ///
-/// Take it for what is known to stay below, as single screens do: two 4K frames fit, pixel by pixel, or eight of 1920 by
-/// 1080. Where a load or a merge would pass the limit it is refused with [`Refused::NarrowTotal`] and nothing changed,
-/// and [`widen`](NarrowTable::widen) makes a [`Table`] to go on with. Files, recorders, comparisons and rescues are for
-/// a [`Table`] alone.
+/// Take it for what is known to stay at or below that, as single screens do: two 4K frames fit, pixel by pixel, or
+/// eight of 1920 by 1080. Where a load or a merge would pass the limit it is refused with [`Refused::NarrowTotal`] and
+/// nothing changed, and [`widen`](NarrowTable::widen) makes a [`Table`] to go on with. Files, recorders, comparisons
+/// and rescues are for a [`Table`] alone.
 ///
 /// ```
 /// use seluvava::{Grid, NarrowTable, Refused};
@@ -268,7 +268,8 @@ impl NarrowTable {
 
 /// The narrow table of the same numbers.
 ///
-/// There is no call of the archive for it: that the table is sound is asked of a merge into an empty one.
+/// There is no call of the archive for it: whether the table is sound is asked of a slow cut into one colour. So no
+/// second table is made for that, but only a map, a byte a bin, which is dropped again.
 ///
 /// ```
 /// use seluvava::{Grid, NarrowTable, Refused, Table};
@@ -290,7 +291,10 @@ impl TryFrom<&Table> for NarrowTable {
     /// [`Refused::Unsound`] where the table is; [`Refused::NarrowTotal`] where its total is above
     /// [`LARGEST_TOTAL`](NarrowTable::LARGEST_TOTAL).
     fn try_from(table: &Table) -> Result<NarrowTable, Refused> {
-        Table::new(table.grid()).merge(table)?;
+        match table.cut_slowly(1) {
+            Ok(_) | Err(Refused::Empty) => {}
+            Err(refused) => return Err(refused),
+        }
         if table.total() > NarrowTable::LARGEST_TOTAL {
             return Err(Refused::NarrowTotal);
         }
@@ -299,7 +303,8 @@ impl TryFrom<&Table> for NarrowTable {
         let places = narrow.sums.chunks_exact_mut(4).zip(&mut narrow.squares);
         for (five, (sums, squares)) in bins.zip(places) {
             for (sum, &number) in sums.iter_mut().zip(five) {
-                *sum = u32::try_from(number).expect("no sum reaches 2^32 up to that total");
+                // No sum reaches 2^32 up to that total, so this refuses nothing.
+                *sum = u32::try_from(number).map_err(|_| Refused::NarrowTotal)?;
             }
             *squares = five[4];
         }

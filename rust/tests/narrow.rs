@@ -1,5 +1,6 @@
 //! Narrow tables beside tables of the same colours: they give the same, up to the total at which they are refused.
 use seluvava::{Cut, Grid, NarrowTable, Refused, Table, WorkTable};
+use seluvava_sys::seluvava_narrow_cut;
 
 mod common;
 
@@ -26,17 +27,57 @@ fn tables(grid: Grid, pixels: &[[u8; 3]]) -> Result<(NarrowTable, Table), Refuse
     Ok((narrow, wide))
 }
 
+/// The five numbers of each bin, from the lists of a narrow table.
+fn five_each(sums: &[u32], squares: &[u64]) -> Vec<u64> {
+    assert_eq!(sums.len(), 4 * squares.len());
+    let bins = sums.chunks_exact(4).zip(squares);
+    bins.flat_map(|(sums, &squares)| sums.iter().map(|&n| u64::from(n)).chain([squares]))
+        .collect()
+}
+
 /// Whether a narrow table has the numbers of a table, bin by bin.
 fn same(narrow: &NarrowTable, wide: &Table) -> bool {
-    let sums = narrow.sums().chunks_exact(4).zip(narrow.squares());
-    let mut bins = sums.zip(wide.numbers().chunks_exact(5));
-    let numbers = |sums: &[u32], squares| {
-        let sums = sums.iter().map(|&sum| u64::from(sum));
-        sums.chain([squares]).collect::<Vec<_>>()
+    narrow.grid() == wide.grid() && five_each(narrow.sums(), narrow.squares()) == wide.numbers()
+}
+
+/// What a cut leaves in a narrow work table, five numbers a bin. The crate shows no work table, so the call is made as
+/// a C program makes it.
+fn moments(table: &NarrowTable, k: usize) -> Vec<u64> {
+    let ([b1, b2, b3], bins) = (table.grid().sizes(), table.grid().bins());
+    let (mut sums, mut squares) = (vec![6; 4 * bins], vec![6; bins]);
+    let (mut palette, mut counts, mut remainders) = (vec![0; 3 * k], vec![0; k], vec![0; 3 * k]);
+    let (mut map, mut boxes, mut spreads) = (vec![0; bins], vec![0; 6 * k], vec![0.0; k]);
+    // SAFETY: pointers and lengths are those of lists, and each that is written is one of its own.
+    let answer = unsafe {
+        seluvava_narrow_cut(
+            b1,
+            b2,
+            b3,
+            k,
+            table.sums().as_ptr(),
+            table.sums().len(),
+            table.squares().as_ptr(),
+            table.squares().len(),
+            sums.as_mut_ptr(),
+            sums.len(),
+            squares.as_mut_ptr(),
+            squares.len(),
+            palette.as_mut_ptr(),
+            palette.len(),
+            counts.as_mut_ptr(),
+            counts.len(),
+            remainders.as_mut_ptr(),
+            remainders.len(),
+            map.as_mut_ptr(),
+            map.len(),
+            boxes.as_mut_ptr(),
+            boxes.len(),
+            spreads.as_mut_ptr(),
+            spreads.len(),
+        )
     };
-    narrow.grid() == wide.grid()
-        && narrow.squares().len() == wide.grid().bins()
-        && bins.all(|((sums, &squares), five)| numbers(sums, squares) == five)
+    assert_eq!(answer.number, 0);
+    five_each(&sums, &squares)
 }
 
 /// A narrow table whose only bin with weight has this one, of black.
@@ -219,6 +260,8 @@ fn at_the_limit() -> Result<(), Refused> {
 
 #[test]
 fn narrowing() -> Result<(), Refused> {
+    let empty = Table::new(grid());
+    assert_eq!(NarrowTable::try_from(&empty)?, NarrowTable::new(grid()));
     let wide = of_total(LIMIT).widen()?;
     assert_eq!(NarrowTable::try_from(&wide)?, of_total(LIMIT));
     let mut more = wide.clone();
@@ -254,7 +297,7 @@ fn numbers(words: &[&str]) -> Vec<u64> {
     words.iter().flat_map(run).collect()
 }
 
-/// Reads a case, whose loads may be several. What is after its cut's lists is not looked at.
+/// Reads a case, whose loads may be several. What is after its cut's lists, the next frame, is not looked at.
 fn recorded(case: &str) -> Recorded {
     let mut read = Recorded::default();
     let (mut frame, mut weights, mut cut) = (Vec::new(), Vec::new(), false);
@@ -288,8 +331,9 @@ fn recorded(case: &str) -> Recorded {
     read
 }
 
-/// Holds what a cut says to a recorded line. Behind what a cut writes the lists of the script have other numbers.
-fn holds(cut: &Cut, (words, told): &(String, Vec<u64>)) {
+/// Holds what a cut says, and the tables after it by their names in the script, to a recorded line. Behind what a cut
+/// writes the lists of the script have other numbers; map and tables are written whole. How many lines were of tables.
+fn holds(cut: &Cut, tables: &[(&str, &[u64])], (words, told): &(String, Vec<u64>)) -> usize {
     let colours = cut.palette().len();
     let of_boxes = || {
         let sides = |i: usize| {
@@ -305,20 +349,32 @@ fn holds(cut: &Cut, (words, told): &(String, Vec<u64>)) {
     };
     let numbers = |list: &[u32]| list.iter().map(|&n| u64::from(n)).collect();
     let bytes = |list: &[u8]| list.iter().map(|&n| u64::from(n)).collect();
-    let said: Vec<u64> = match words.as_str() {
-        "is record" => of_boxes(),
-        "is palette" => bytes(cut.palette().as_flattened()),
-        "is counts" => numbers(cut.counts()),
-        "is left" => numbers(cut.remainders().as_flattened()),
-        "is map" => bytes(cut.colour_map().entries()),
-        "sums map" => {
-            let entries = cut.colour_map().entries().iter().map(|&n| u64::from(n));
-            let (sum, sums) = entries.fold((0, 0), |(sum, sums), n| (sum + n, sums + sum + n));
-            vec![sum, sums]
+    let (how, list) = words.split_once(' ').expect("two words");
+    let table = tables.iter().find(|(name, _)| *name == list);
+    let said: Vec<u64> = match (how, list) {
+        (_, "map") => bytes(cut.colour_map().entries()),
+        ("is", "record") => of_boxes(),
+        ("is", "palette") => bytes(cut.palette().as_flattened()),
+        ("is", "counts") => numbers(cut.counts()),
+        ("is", "left") => numbers(cut.remainders().as_flattened()),
+        _ => table.map_or(Vec::new(), |(_, numbers)| numbers.to_vec()),
+    };
+    if said.is_empty() {
+        return 0;
+    }
+    let said = if how == "sums" {
+        assert_eq!(told[0], said.len() as u64, "{words}");
+        let (mut sum, mut sums) = (0_u64, 0_u64);
+        for n in said {
+            sum = sum.wrapping_add(n);
+            sums = sums.wrapping_add(sum);
         }
-        _ => return,
+        vec![sum, sums]
+    } else {
+        said
     };
     assert_eq!(told[1..=said.len()], said, "{words}");
+    usize::from(table.is_some())
 }
 
 /// The original's answers at the last total of a narrow table and at the first that is none, as they were recorded.
@@ -344,7 +400,14 @@ fn recorded_answers() -> Result<(), Refused> {
                 assert_eq!(loaded, Ok(()));
                 assert!(same(&narrow, &wide));
                 let cut = narrow.cut(case.k)?;
-                case.left.iter().for_each(|line| holds(&cut, line));
+                // The script has the table after a cut, and the moments in its second table.
+                let (table, second) = (
+                    five_each(narrow.sums(), narrow.squares()),
+                    moments(&narrow, case.k),
+                );
+                let tables = [("table", &table[..]), ("second", &second)];
+                let lines = case.left.iter().map(|line| holds(&cut, &tables, line));
+                assert_eq!(lines.sum::<usize>(), 2);
                 if grid.bins() <= 4_096 {
                     assert_eq!(narrow.cut_slowly(case.k)?, cut);
                 }
@@ -355,7 +418,9 @@ fn recorded_answers() -> Result<(), Refused> {
                 assert_eq!(loaded, Err(Refused::NarrowTotal));
                 assert_eq!(narrow, NarrowTable::new(grid));
                 let cut = wide.cut(case.k)?;
-                case.left.iter().for_each(|line| holds(&cut, line));
+                let tables = [("table", wide.numbers())];
+                let lines = case.left.iter().map(|line| holds(&cut, &tables, line));
+                assert_eq!(lines.sum::<usize>(), 1);
             }
         }
     }

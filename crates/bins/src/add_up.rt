@@ -26,7 +26,9 @@ fn add_row(
     gr: usize,
 ) -> Cell
     requires { ⌜ InRow layout limit g (laid layout (now small) (now large)) x r gr ⌝ }
-    ensures { λ c. ⌜ c ≡ cellOf (rowSum g (laidView layout (now (small .entry)) (now (large .entry))) r gr (x .b0) (x .b1 - x .b0)) ⌝ }
+    ensures { λ c. ⌜ c
+        ≡ cellOf
+        (rowSum g (laidView layout (now (small .entry)) (now (large .entry))) r gr (x .b0) (x .b1 - x .b0)) ⌝ }
 {
     let end = x.b1 as usize;
     let mut sum = ZEROS;
@@ -41,7 +43,9 @@ fn add_row(
 // The rows of one plane of a box.
 fn add_plane(layout: Layout, small: &[u32], large: &[u64], g: Grid, x: Bounds, r: usize) -> Cell
     requires { ⌜ InPlane layout limit g (laid layout (now small) (now large)) x r ⌝ }
-    ensures { λ c. ⌜ c ≡ cellOf (planeSum g (laidView layout (now (small .entry)) (now (large .entry))) x r (x .g0) (x .g1 - x .g0)) ⌝ }
+    ensures { λ c. ⌜ c
+        ≡ cellOf
+        (planeSum g (laidView layout (now (small .entry)) (now (large .entry))) x r (x .g0) (x .g1 - x .g0)) ⌝ }
 {
     let end = x.g1 as usize;
     let mut sum = ZEROS;

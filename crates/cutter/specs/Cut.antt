@@ -138,8 +138,8 @@ noWorkIn l = laid l [] []
 abbrev pub noWork : Table
 noWork = noWorkIn Wide
 
--- "table and work table exactly 5·bins; map exactly bins", "palette at least 3·k bytes, counts (u32) at least k,
--- remainders (u32) at least 3·k"; in the narrow layout "both lists of exact length"
+-- "table and work table exactly 5·bins", or in the narrow layout "both lists of exact length"; "map exactly bins",
+-- "palette at least 3·k bytes, counts (u32) at least k, remainders (u32) at least 3·k"
 pub record LengthsFit (source : Source) (g : Grid) (k : ℕ) (table : Bool) (l : Lengths) : Type 0 where
   pub sized : table ≡ true
   pub work : workFits source (l .work) ≡ true

@@ -22,7 +22,8 @@ ghost use Rattle.sums.specs.declared.source.Source.the-variants.{Moments, Bins}
 ghost use Rattle.rounds.specs.Loop.{boxesOf};
 ghost use Rattle.cutter.specs.Cut.{buffersIn, buffers, lengthsOf, CanCut, LengthsFit};
 ghost use Rattle.cutter.specs.Cut.{workFits, workLater, noWork};
-ghost use Rattle.cutter.specs.Cut.{refusedRecord, doneRecord, laterOn, cutRecordIn, cutLaterIn, cutRecord, cutLater};
+ghost use Rattle.cutter.specs.Cut.{refusedRecord, doneRecord, laterOn};
+ghost use Rattle.cutter.specs.Cut.{cutRecordIn, cutLaterIn, cutRecord, cutLater};
 
 // What a cut hands back: its answer, the number of boxes, the number of rounds, and a place for each box with its
 // spread.
@@ -114,8 +115,8 @@ fn cut_on(
         (lengthsOf layout g (buffersIn layout (laid layout (now smallwork) (now largework)) (now palette) (now counts)
         (now remainders) (now map))) ⌝ }
     ensures answer { λ r. ⌜ r ≡ doneRecord (boxesOf g (laidView layout (now (small .entry)) (now (large .entry))) k) ⌝ }
-    ensures later { λ r. ⌜ buffersIn layout (laid layout (now (smallwork .exit)) (now (largework .exit))) (now (palette .exit))
-        (now (counts .exit)) (now (remainders .exit)) (now (map .exit))
+    ensures later { λ r. ⌜ buffersIn layout (laid layout (now (smallwork .exit)) (now (largework .exit)))
+        (now (palette .exit)) (now (counts .exit)) (now (remainders .exit)) (now (map .exit))
         ≡ laterOn layout source g (laidView layout (now (small .entry)) (now (large .entry))) k
         (buffersIn layout (laid layout (now (smallwork .entry)) (now (largework .entry))) (now (palette .entry))
         (now (counts .entry)) (now (remainders .entry)) (now (map .entry))) ⌝ }
@@ -162,8 +163,8 @@ pub fn cut_from(
         ≡ cutRecordIn layout source b1 b2 b3 k (laid layout (now (small .entry)) (now (large .entry)))
         (buffersIn layout (laid layout (now (smallwork .entry)) (now (largework .entry))) (now (palette .entry))
         (now (counts .entry)) (now (remainders .entry)) (now (map .entry))) ⌝ }
-    ensures later { λ r. ⌜ buffersIn layout (laid layout (now (smallwork .exit)) (now (largework .exit))) (now (palette .exit))
-        (now (counts .exit)) (now (remainders .exit)) (now (map .exit))
+    ensures later { λ r. ⌜ buffersIn layout (laid layout (now (smallwork .exit)) (now (largework .exit)))
+        (now (palette .exit)) (now (counts .exit)) (now (remainders .exit)) (now (map .exit))
         ≡ cutLaterIn layout source b1 b2 b3 k (laid layout (now (small .entry)) (now (large .entry)))
         (buffersIn layout (laid layout (now (smallwork .entry)) (now (largework .entry))) (now (palette .entry))
         (now (counts .entry)) (now (remainders .entry)) (now (map .entry))) ⌝ }
@@ -221,8 +222,8 @@ pub fn cut(
         ≡ cutRecord Moments b1 b2 b3 k (now (table .entry))
         (buffers (now (work .entry)) (now (palette .entry)) (now (counts .entry)) (now (remainders .entry))
         (now (map .entry))) ⌝ }
-    ensures later { λ r. ⌜ buffers (now (work .exit)) (now (palette .exit)) (now (counts .exit)) (now (remainders .exit))
-        (now (map .exit))
+    ensures later { λ r. ⌜ buffers (now (work .exit)) (now (palette .exit)) (now (counts .exit))
+        (now (remainders .exit)) (now (map .exit))
         ≡ cutLater Moments b1 b2 b3 k (now (table .entry))
         (buffers (now (work .entry)) (now (palette .entry)) (now (counts .entry)) (now (remainders .entry))
         (now (map .entry))) ⌝ }

@@ -85,15 +85,18 @@ pub(crate) fn put_result(
     counts: &mut [u32],
     remainders: &mut [u32],
 )
-    requires { ⌜ CanSum layout limit source g (laid layout (now small) (now large)) (laid layout (now smallwork) (now largework)) × Occupied g (laidView layout (now small) (now large)) x ⌝ }
+    requires { ⌜ CanSum layout limit source g (laid layout (now small) (now large))
+        (laid layout (now smallwork) (now largework)) × Occupied g (laidView layout (now small) (now large)) x ⌝ }
     requires { ⌜ (3 * i + 2 < length (now palette)) × (i < length (now counts))
         × (3 * i + 2 < length (now remainders)) ⌝ }
     ensures palette { λ r. ⌜ now (palette .exit)
-        ≡ withColourAt (now (palette .entry)) i (colourOf g (laidView layout (now (small .entry)) (now (large .entry))) x) ⌝ }
+        ≡ withColourAt (now (palette .entry)) i
+        (colourOf g (laidView layout (now (small .entry)) (now (large .entry))) x) ⌝ }
     ensures counts { λ r. ⌜ now (counts .exit)
         ≡ set (now (counts .entry)) i (countOf g (laidView layout (now (small .entry)) (now (large .entry))) x) ⌝ }
     ensures remainders { λ r. ⌜ now (remainders .exit)
-        ≡ withThreeAt (now (remainders .entry)) i (itsRemainders g (laidView layout (now (small .entry)) (now (large .entry))) x) ⌝ }
+        ≡ withThreeAt (now (remainders .entry)) i
+        (itsRemainders g (laidView layout (now (small .entry)) (now (large .entry))) x) ⌝ }
 {
     let s = box_sum(layout, small, large, smallwork, largework, source, g, x);
     put_colour(palette, i, s);

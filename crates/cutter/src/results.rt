@@ -30,15 +30,19 @@ pub(crate) fn put_results(
     counts: &mut [u32],
     remainders: &mut [u32],
 )
-    requires { ⌜ CanSum layout limit source g (laid layout (now small) (now large)) (laid layout (now smallwork) (now largework)) × Found g (laidView layout (now small) (now large)) b ⌝ }
+    requires { ⌜ CanSum layout limit source g (laid layout (now small) (now large))
+        (laid layout (now smallwork) (now largework)) × Found g (laidView layout (now small) (now large)) b ⌝ }
     requires { ⌜ (3 * b .boxes ≤ length (now palette)) × (b .boxes ≤ length (now counts))
         × (3 * b .boxes ≤ length (now remainders)) ⌝ }
     ensures palette { λ r. ⌜ now (palette .exit)
-        ≡ paletteLater g (laidView layout (now (small .entry)) (now (large .entry))) (listOf (b .boxes) (b .places)) (now (palette .entry)) ⌝ }
+        ≡ paletteLater g (laidView layout (now (small .entry)) (now (large .entry))) (listOf (b .boxes) (b .places))
+        (now (palette .entry)) ⌝ }
     ensures counts { λ r. ⌜ now (counts .exit)
-        ≡ countsLater g (laidView layout (now (small .entry)) (now (large .entry))) (listOf (b .boxes) (b .places)) (now (counts .entry)) ⌝ }
+        ≡ countsLater g (laidView layout (now (small .entry)) (now (large .entry))) (listOf (b .boxes) (b .places))
+        (now (counts .entry)) ⌝ }
     ensures remainders { λ r. ⌜ now (remainders .exit)
-        ≡ remaindersLater g (laidView layout (now (small .entry)) (now (large .entry))) (listOf (b .boxes) (b .places)) (now (remainders .entry)) ⌝ }
+        ≡ remaindersLater g (laidView layout (now (small .entry)) (now (large .entry))) (listOf (b .boxes) (b .places))
+        (now (remainders .entry)) ⌝ }
 {
     let places = b.places;
     let n = b.boxes;

@@ -63,7 +63,8 @@ pub fn cut_boxes(
     g: Grid,
     k: usize,
 ) -> Boxes
-    requires { ⌜ CanSum layout limit source g (laid layout (now small) (now large)) (laid layout (now smallwork) (now largework)) × (k ≤ 256) ⌝ }
+    requires { ⌜ CanSum layout limit source g (laid layout (now small) (now large))
+        (laid layout (now smallwork) (now largework)) × (k ≤ 256) ⌝ }
     ensures { λ r. ⌜ r ≡ boxesOf g (laidView layout (now (small .entry)) (now (large .entry))) k ⌝ }
 {
     let mut spreads = [0.0; 256];

@@ -51,7 +51,8 @@ pub(crate) fn put_with_spread(
     len: usize,
     x: Bounds,
 )
-    requires { ⌜ CanSum layout limit source g (laid layout (now small) (now large)) (laid layout (now smallwork) (now largework)) × Within g x ⌝ }
+    requires { ⌜ CanSum layout limit source g (laid layout (now small) (now large))
+        (laid layout (now smallwork) (now largework)) × Within g x ⌝ }
     requires { ⌜ TwoArrays (now spreads) (now boxes) × (len < 256) ⌝ }
     ensures room { λ r. ⌜ roomIn (now (spreads .exit)) (now (boxes .exit))
         ≡ putIn bySpread noItem (roomIn (now (spreads .entry)) (now (boxes .entry))) len

@@ -37,11 +37,14 @@ fn cut_top(
     left: usize,
     x: Bounds,
 ) -> usize
-    requires { ⌜ CanSum layout limit source g (laid layout (now small) (now large)) (laid layout (now smallwork) (now largework)) × Within g x ⌝ }
+    requires { ⌜ CanSum layout limit source g (laid layout (now small) (now large))
+        (laid layout (now smallwork) (now largework)) × Within g x ⌝ }
     requires { ⌜ TwoArrays (now spreads) (now boxes) × (left + 1 < 256) ⌝ }
-    ensures number { λ r. ⌜ r ≡ boxesAfter left (bestCut g (laidView layout (now (small .entry)) (now (large .entry))) x) ⌝ }
+    ensures number { λ r. ⌜ r
+        ≡ boxesAfter left (bestCut g (laidView layout (now (small .entry)) (now (large .entry))) x) ⌝ }
     ensures room { λ r. ⌜ roomIn (now (spreads .exit)) (now (boxes .exit))
-        ≡ roomAfter g (laidView layout (now (small .entry)) (now (large .entry))) (roomIn (now (spreads .entry)) (now (boxes .entry))) left x
+        ≡ roomAfter g (laidView layout (now (small .entry)) (now (large .entry)))
+        (roomIn (now (spreads .entry)) (now (boxes .entry))) left x
         (bestCut g (laidView layout (now (small .entry)) (now (large .entry))) x) ⌝ }
     ensures arrays { λ r. ⌜ TwoArrays (now (spreads .exit)) (now (boxes .exit)) ⌝ }
 {
@@ -98,13 +101,16 @@ fn round(
     boxes: &mut [u64; 256],
     len: usize,
 ) -> usize
-    requires { ⌜ CanSum layout limit source g (laid layout (now small) (now large)) (laid layout (now smallwork) (now largework)) ⌝ }
+    requires { ⌜ CanSum layout limit source g (laid layout (now small) (now large))
+        (laid layout (now smallwork) (now largework)) ⌝ }
     requires { ⌜ TwoArrays (now spreads) (now boxes) × (0 < len) × (len < 256)
         × Within g (item noItem (roomIn (now spreads) (now boxes)) 0 .bounds) ⌝ }
     ensures number { λ r. ⌜ r
-        ≡ roundBoxes g (laidView layout (now (small .entry)) (now (large .entry))) (roomIn (now (spreads .entry)) (now (boxes .entry))) len ⌝ }
+        ≡ roundBoxes g (laidView layout (now (small .entry)) (now (large .entry)))
+        (roomIn (now (spreads .entry)) (now (boxes .entry))) len ⌝ }
     ensures room { λ r. ⌜ roomIn (now (spreads .exit)) (now (boxes .exit))
-        ≡ roundRoom g (laidView layout (now (small .entry)) (now (large .entry))) (roomIn (now (spreads .entry)) (now (boxes .entry))) len ⌝ }
+        ≡ roundRoom g (laidView layout (now (small .entry)) (now (large .entry)))
+        (roomIn (now (spreads .entry)) (now (boxes .entry))) len ⌝ }
     ensures arrays { λ r. ⌜ TwoArrays (now (spreads .exit)) (now (boxes .exit)) ⌝ }
 {
     let s = spreads[0];
@@ -149,10 +155,12 @@ pub(crate) fn all_rounds(
     spreads: &mut [f64; 256],
     boxes: &mut [u64; 256],
 ) -> Ended
-    requires { ⌜ CanSum layout limit source g (laid layout (now small) (now large)) (laid layout (now smallwork) (now largework)) × (k ≤ 256) ⌝ }
+    requires { ⌜ CanSum layout limit source g (laid layout (now small) (now large))
+        (laid layout (now smallwork) (now largework)) × (k ≤ 256) ⌝ }
     requires { ⌜ TwoArrays (now spreads) (now boxes) × (roomIn (now spreads) (now boxes) ≡ startRoom g) ⌝ }
     ensures boxes { λ r. ⌜ r .boxes ≡ heapOf g (laidView layout (now (small .entry)) (now (large .entry))) k .boxes ⌝ }
-    ensures rounds { λ r. ⌜ r .rounds ≡ heapOf g (laidView layout (now (small .entry)) (now (large .entry))) k .rounds ⌝ }
+    ensures rounds { λ r. ⌜ r .rounds
+        ≡ heapOf g (laidView layout (now (small .entry)) (now (large .entry))) k .rounds ⌝ }
     ensures room { λ r. ⌜ roomIn (now (spreads .exit)) (now (boxes .exit))
         ≡ heapOf g (laidView layout (now (small .entry)) (now (large .entry))) k .room ⌝ }
     ensures arrays { λ r. ⌜ TwoArrays (now (spreads .exit)) (now (boxes .exit)) ⌝ }

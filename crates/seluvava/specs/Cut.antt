@@ -84,9 +84,6 @@ callLaterIn l source b1 b2 b3 k t e =
     e
 
 -- ---- the same of a table in the wide layout
-abbrev pub callNumber : Source → ℕ → ℕ → ℕ → ℕ → Table → Lent → ℕ
-callNumber source b1 b2 b3 k t l = callNumberIn Wide source b1 b2 b3 k t l
-
 abbrev pub cutAnswer : Source → ℕ → ℕ → ℕ → ℕ → Table → Lent → CutAnswer
 cutAnswer source b1 b2 b3 k t l = cutAnswerIn Wide source b1 b2 b3 k t l
 

@@ -39,14 +39,17 @@ pub(crate) fn cut_and_write(
 ) -> CutAnswer
     ensures answer { λ r. ⌜ r
         ≡ cutAnswerIn layout source b1 b2 b3 k (laid layout (now (small .entry)) (now (large .entry)))
-        (lentIn layout (buffersIn layout (laid layout (now (smallwork .entry)) (now (largework .entry))) (now (palette .entry))
+        (lentIn layout
+        (buffersIn layout (laid layout (now (smallwork .entry)) (now (largework .entry))) (now (palette .entry))
         (now (counts .entry)) (now (remainders .entry)) (now (map .entry)))
         (now (boxes .entry)) (now (spreads .entry))) ⌝ }
-    ensures later { λ r. ⌜ lentIn layout (buffersIn layout (laid layout (now (smallwork .exit)) (now (largework .exit))) (now (palette .exit))
+    ensures later { λ r. ⌜ lentIn layout
+        (buffersIn layout (laid layout (now (smallwork .exit)) (now (largework .exit))) (now (palette .exit))
         (now (counts .exit)) (now (remainders .exit)) (now (map .exit)))
         (now (boxes .exit)) (now (spreads .exit))
         ≡ callLaterIn layout source b1 b2 b3 k (laid layout (now (small .entry)) (now (large .entry)))
-        (lentIn layout (buffersIn layout (laid layout (now (smallwork .entry)) (now (largework .entry))) (now (palette .entry))
+        (lentIn layout
+        (buffersIn layout (laid layout (now (smallwork .entry)) (now (largework .entry))) (now (palette .entry))
         (now (counts .entry)) (now (remainders .entry)) (now (map .entry)))
         (now (boxes .entry)) (now (spreads .entry))) ⌝ }
 {

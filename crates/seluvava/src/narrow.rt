@@ -96,17 +96,17 @@ pub extern "C" fn seluvava_narrow_cut(
     ensures answer { λ r. ⌜ r
         ≡ cutAnswerIn Narrow Moments b1 b2 b3 k (narrowTable (now (sums .entry)) (now (squares .entry)))
         (lentIn Narrow
-        (buffersIn Narrow (narrowTable (now (worksums .entry)) (now (worksquares .entry))) (now (palette .entry)) (now (counts .entry))
-        (now (remainders .entry)) (now (map .entry)))
+        (buffersIn Narrow (narrowTable (now (worksums .entry)) (now (worksquares .entry))) (now (palette .entry))
+        (now (counts .entry)) (now (remainders .entry)) (now (map .entry)))
         (now (boxes .entry)) (now (spreads .entry))) ⌝ }
     ensures later { λ r. ⌜ lentIn Narrow
-        (buffersIn Narrow (narrowTable (now (worksums .exit)) (now (worksquares .exit))) (now (palette .exit)) (now (counts .exit))
-        (now (remainders .exit)) (now (map .exit)))
+        (buffersIn Narrow (narrowTable (now (worksums .exit)) (now (worksquares .exit))) (now (palette .exit))
+        (now (counts .exit)) (now (remainders .exit)) (now (map .exit)))
         (now (boxes .exit)) (now (spreads .exit))
         ≡ callLaterIn Narrow Moments b1 b2 b3 k (narrowTable (now (sums .entry)) (now (squares .entry)))
         (lentIn Narrow
-        (buffersIn Narrow (narrowTable (now (worksums .entry)) (now (worksquares .entry))) (now (palette .entry)) (now (counts .entry))
-        (now (remainders .entry)) (now (map .entry)))
+        (buffersIn Narrow (narrowTable (now (worksums .entry)) (now (worksquares .entry))) (now (palette .entry))
+        (now (counts .entry)) (now (remainders .entry)) (now (map .entry)))
         (now (boxes .entry)) (now (spreads .entry))) ⌝ }
 {
     cut_and_write(

@@ -87,10 +87,11 @@ pub(crate) fn narrow_before(
     walk: Walk,
     bin: u8,
 ) -> Stats
-    requires { ⌜ CanSum Narrow limit Moments g (laid Narrow (now small) (now large)) (laid Narrow (now smallwork) (now largework))
-        × Within g x × (bin ≤ maxAt x dimension) ⌝ }
+    requires { ⌜ CanSum Narrow limit Moments g (laid Narrow (now small) (now large))
+        (laid Narrow (now smallwork) (now largework)) × Within g x × (bin ≤ maxAt x dimension) ⌝ }
     requires { ⌜ walk ≡ walkOf g x dimension ⌝ }
-    ensures { λ r. ⌜ r ≡ statsOf g (laidView Narrow (now (small .entry)) (now (large .entry))) (slabTo x dimension bin) ⌝ }
+    ensures { λ r. ⌜ r
+        ≡ statsOf g (laidView Narrow (now (small .entry)) (now (large .entry))) (slabTo x dimension bin) ⌝ }
 {
     let none = stats_of(ZEROS);
     if bin == 0 {

@@ -27,7 +27,8 @@ fn position_by_bins(
     dimension: u8,
     bin: u8,
 ) -> Position
-    requires { ⌜ TableOfIn layout g (laid layout (now small) (now large)) × CutsAt g (laidView layout (now small) (now large)) x dimension bin ⌝ }
+    requires { ⌜ TableOfIn layout g (laid layout (now small) (now large))
+        × CutsAt g (laidView layout (now small) (now large)) x dimension bin ⌝ }
     ensures { λ r. ⌜ r ≡ positionAt g (laidView layout (now (small .entry)) (now (large .entry))) x dimension bin ⌝ }
 {
     let low = sum_of_bins(layout, small, large, g, low_side(x, dimension, bin));

@@ -46,7 +46,8 @@ pub(crate) fn low_side_sums(
     base: Stats,
 ) -> Stats
     requires { ⌜ Slabs g (laidView layout (now small) (now large)) x dimension bin before base ⌝ }
-    ensures { λ r. ⌜ r ≡ statsOf g (laidView layout (now (small .entry)) (now (large .entry))) (lowSide x dimension bin) ⌝ }
+    ensures { λ r. ⌜ r
+        ≡ statsOf g (laidView layout (now (small .entry)) (now (large .entry))) (lowSide x dimension bin) ⌝ }
 {
     less(before, base)
 }

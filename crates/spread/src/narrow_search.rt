@@ -1,4 +1,5 @@
-// The same from the moments of a narrow table.
+// The best position of a box in one dimension, from the moments of a narrow table. The layout is a constant here, so
+// that the loop does not ask for it.
 use crate::before::narrow_before;
 use crate::by_moments::position_at;
 use crate::low_side::low_side_sums;
@@ -36,7 +37,8 @@ pub(crate) fn best_narrow(
     all: Stats,
     walk: Walk,
 ) -> Position
-    requires { ⌜ CanSum Narrow limit Moments g (laid Narrow (now small) (now large)) (laid Narrow (now smallwork) (now largework)) × Within g x ⌝ }
+    requires { ⌜ CanSum Narrow limit Moments g (laid Narrow (now small) (now large))
+        (laid Narrow (now smallwork) (now largework)) × Within g x ⌝ }
     requires { ⌜ all ≡ statsOf g (laidView Narrow (now small) (now large)) x ⌝ }
     requires { ⌜ walk ≡ walkOf g x dimension ⌝ }
     ensures { λ r. ⌜ r ≡ bestIn g (laidView Narrow (now (small .entry)) (now (large .entry))) x dimension ⌝ }

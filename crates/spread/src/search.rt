@@ -34,7 +34,8 @@ pub fn best_cut(
     g: Grid,
     x: Bounds,
 ) -> Position
-    requires { ⌜ CanSum layout limit source g (laid layout (now small) (now large)) (laid layout (now smallwork) (now largework)) × Within g x ⌝ }
+    requires { ⌜ CanSum layout limit source g (laid layout (now small) (now large))
+        (laid layout (now smallwork) (now largework)) × Within g x ⌝ }
     ensures { λ r. ⌜ r ≡ bestCut g (laidView layout (now (small .entry)) (now (large .entry))) x ⌝ }
 {
     match source {

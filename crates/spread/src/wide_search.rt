@@ -37,7 +37,8 @@ pub(crate) fn best_wide(
     all: Stats,
     walk: Walk,
 ) -> Position
-    requires { ⌜ CanSum Wide limit Moments g (laid Wide (now small) (now large)) (laid Wide (now smallwork) (now largework)) × Within g x ⌝ }
+    requires { ⌜ CanSum Wide limit Moments g (laid Wide (now small) (now large))
+        (laid Wide (now smallwork) (now largework)) × Within g x ⌝ }
     requires { ⌜ all ≡ statsOf g (laidView Wide (now small) (now large)) x ⌝ }
     requires { ⌜ walk ≡ walkOf g x dimension ⌝ }
     ensures { λ r. ⌜ r ≡ bestIn g (laidView Wide (now (small .entry)) (now (large .entry))) x dimension ⌝ }

@@ -88,7 +88,8 @@ pub fn box_sum(
     g: Grid,
     x: Bounds,
 ) -> Stats
-    requires { ⌜ CanSum layout limit source g (laid layout (now small) (now large)) (laid layout (now smallwork) (now largework)) × Within g x ⌝ }
+    requires { ⌜ CanSum layout limit source g (laid layout (now small) (now large))
+        (laid layout (now smallwork) (now largework)) × Within g x ⌝ }
     ensures { λ r. ⌜ r ≡ statsOf g (laidView layout (now (small .entry)) (now (large .entry))) x ⌝ }
 {
     match source {

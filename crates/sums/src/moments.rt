@@ -39,7 +39,8 @@ fn moment_at(
     b: usize,
     line: Cell,
 ) -> Cell
-    requires { ⌜ Ready layout g (laid layout (now small) (now large)) (laid layout (now smallwork) (now largework)) r gr b ⌝ }
+    requires { ⌜ Ready layout g (laid layout (now small) (now large))
+        (laid layout (now smallwork) (now largework)) r gr b ⌝ }
     requires { ⌜ line ≡ lineCell g (laidView layout (now small) (now large)) r gr (b + 1) ⌝ }
     ensures { λ c. ⌜ c ≡ momentCell g (laidView layout (now (small .entry)) (now (large .entry))) (placeOf g r gr b) ⌝ }
 {
@@ -76,11 +77,13 @@ fn next_bin(
     b: usize,
     line: Cell,
 ) -> Cell
-    requires { ⌜ Ready layout g (laid layout (now small) (now large)) (laid layout (now smallwork) (now largework)) r gr b ⌝ }
+    requires { ⌜ Ready layout g (laid layout (now small) (now large))
+        (laid layout (now smallwork) (now largework)) r gr b ⌝ }
     requires { ⌜ line ≡ lineCell g (laidView layout (now small) (now large)) r gr b ⌝ }
     ensures sums { λ c. ⌜ c ≡ lineCell g (laidView layout (now (small .entry)) (now (large .entry))) r gr (b + 1) ⌝ }
     ensures later { λ c. ⌜ laid layout (now (smallwork .exit)) (now (largework .exit))
-        ≡ withMoment layout g (laidView layout (now (small .entry)) (now (large .entry))) (laid layout (now (smallwork .entry)) (now (largework .entry))) (placeOf g r gr b) ⌝ }
+        ≡ withMoment layout g (laidView layout (now (small .entry)) (now (large .entry)))
+        (laid layout (now (smallwork .entry)) (now (largework .entry))) (placeOf g r gr b) ⌝ }
 {
     let p = place(g, r, gr, b);
     let sum = plus(line, cell_in(layout, small, large, p));
@@ -132,7 +135,8 @@ fn narrow_row(
     r: usize,
     gr: usize,
 )
-    requires { ⌜ Ready Narrow g (laid Narrow (now small) (now large)) (laid Narrow (now smallwork) (now largework)) r gr 0 ⌝ }
+    requires { ⌜ Ready Narrow g (laid Narrow (now small) (now large))
+        (laid Narrow (now smallwork) (now largework)) r gr 0 ⌝ }
     ensures { λ c. ⌜ Before Narrow g (laid Narrow (now (small .entry)) (now (large .entry)))
         (laid Narrow (now (smallwork .exit)) (now (largework .exit))) (placeOf g r gr 0 + g .size3) ⌝ }
 {
@@ -166,7 +170,8 @@ fn next_row(
     r: usize,
     gr: usize,
 )
-    requires { ⌜ Ready layout g (laid layout (now small) (now large)) (laid layout (now smallwork) (now largework)) r gr 0 ⌝ }
+    requires { ⌜ Ready layout g (laid layout (now small) (now large))
+        (laid layout (now smallwork) (now largework)) r gr 0 ⌝ }
     ensures { λ c. ⌜ Before layout g (laid layout (now (small .entry)) (now (large .entry)))
         (laid layout (now (smallwork .exit)) (now (largework .exit))) (placeOf g r gr 0 + g .size3) ⌝ }
 {
@@ -186,8 +191,10 @@ fn next_plane(
     g: Grid,
     r: usize,
 )
-    requires { ⌜ Ready layout g (laid layout (now small) (now large)) (laid layout (now smallwork) (now largework)) r 0 0 ⌝ }
-    ensures { λ c. ⌜ Before layout g (laid layout (now (small .entry)) (now (large .entry))) (laid layout (now (smallwork .exit)) (now (largework .exit))) (placeOf g r 0 0 + g .size2 * g .size3) ⌝ }
+    requires { ⌜ Ready layout g (laid layout (now small) (now large))
+        (laid layout (now smallwork) (now largework)) r 0 0 ⌝ }
+    ensures { λ c. ⌜ Before layout g (laid layout (now (small .entry)) (now (large .entry)))
+        (laid layout (now (smallwork .exit)) (now (largework .exit))) (placeOf g r 0 0 + g .size2 * g .size3) ⌝ }
 {
     let mut gr = 0;
     while gr < g.size2 {
@@ -205,8 +212,10 @@ pub fn moments(
     smallwork: &mut [u32],
     largework: &mut [u64],
 )
-    requires { ⌜ ForMoments layout g (laid layout (now small) (now large)) (laid layout (now smallwork) (now largework)) ⌝ }
-    ensures { λ c. ⌜ laid layout (now (smallwork .exit)) (now (largework .exit)) ≡ writtenIn layout (binsOf g) (momentsOf g (laidView layout (now (small .entry)) (now (large .entry)))) ⌝ }
+    requires { ⌜ ForMoments layout g (laid layout (now small) (now large))
+        (laid layout (now smallwork) (now largework)) ⌝ }
+    ensures { λ c. ⌜ laid layout (now (smallwork .exit)) (now (largework .exit))
+        ≡ writtenIn layout (binsOf g) (momentsOf g (laidView layout (now (small .entry)) (now (large .entry)))) ⌝ }
 {
     let mut r = 0;
     while r < g.size1 {

@@ -1,4 +1,5 @@
-// The same from the moments of a narrow table.
+// The five sums of a box, from the moments of a narrow table. The layout is a constant here, so that it is not asked
+// for at each place.
 use boxes::sides::Bounds;
 use grid::place::Grid;
 use grid::place::place;
@@ -28,7 +29,8 @@ fn narrow_corner(
     gr: usize,
     b: usize,
 ) -> Cell
-    requires { ⌜ Corner Narrow g (laid Narrow (now small) (now large)) (laid Narrow (now smallwork) (now largework)) r gr b ⌝ }
+    requires { ⌜ Corner Narrow g (laid Narrow (now small) (now large))
+        (laid Narrow (now smallwork) (now largework)) r gr b ⌝ }
     ensures { λ c. ⌜ c ≡ binCell g (laidView Narrow (now (small .entry)) (now (large .entry))) 0 r 0 gr 0 b ⌝ }
 {
     cell_in(
@@ -51,7 +53,8 @@ fn narrow_bins_from(
     b0: usize,
     b1: usize,
 ) -> Cell
-    requires { ⌜ Corner Narrow g (laid Narrow (now small) (now large)) (laid Narrow (now smallwork) (now largework)) r gr b1 × (b0 ≤ b1) ⌝ }
+    requires { ⌜ Corner Narrow g (laid Narrow (now small) (now large))
+        (laid Narrow (now smallwork) (now largework)) r gr b1 × (b0 ≤ b1) ⌝ }
     ensures { λ c. ⌜ c ≡ binCell g (laidView Narrow (now (small .entry)) (now (large .entry))) 0 r 0 gr b0 (b1 - b0) ⌝ }
 {
     let upper = narrow_corner(small, large, smallwork, largework, g, r, gr, b1);
@@ -74,8 +77,11 @@ fn narrow_slab(
     r: usize,
     x: Bounds,
 ) -> Cell
-    requires { ⌜ Corner Narrow g (laid Narrow (now small) (now large)) (laid Narrow (now smallwork) (now largework)) r (x .g1) (x .b1) × (x .g0 ≤ x .g1) × (x .b0 ≤ x .b1) ⌝ }
-    ensures { λ c. ⌜ c ≡ binCell g (laidView Narrow (now (small .entry)) (now (large .entry))) 0 r (x .g0) (x .g1 - x .g0) (x .b0) (x .b1 - x .b0) ⌝ }
+    requires { ⌜ Corner Narrow g (laid Narrow (now small) (now large))
+        (laid Narrow (now smallwork) (now largework)) r (x .g1) (x .b1) × (x .g0 ≤ x .g1) × (x .b0 ≤ x .b1) ⌝ }
+    ensures { λ c. ⌜ c
+        ≡ binCell g (laidView Narrow (now (small .entry)) (now (large .entry))) 0 r
+        (x .g0) (x .g1 - x .g0) (x .b0) (x .b1 - x .b0) ⌝ }
 {
     let b0 = x.b0 as usize;
     let b1 = x.b1 as usize;
@@ -118,7 +124,8 @@ pub(crate) fn narrow_box(
     g: Grid,
     x: Bounds,
 ) -> Cell
-    requires { ⌜ CanSum Narrow limit Moments g (laid Narrow (now small) (now large)) (laid Narrow (now smallwork) (now largework)) × Within g x ⌝ }
+    requires { ⌜ CanSum Narrow limit Moments g (laid Narrow (now small) (now large))
+        (laid Narrow (now smallwork) (now largework)) × Within g x ⌝ }
     ensures { λ c. ⌜ c ≡ boxCell g (laidView Narrow (now (small .entry)) (now (large .entry))) x ⌝ }
 {
     let upper = narrow_slab(small, large, smallwork, largework, g, x.r1 as usize, x);

@@ -1,5 +1,5 @@
-// The five sums of a box, from the moments of a wide table. The layout is a constant here, so that no place is asked for
-// it.
+// The five sums of a box, from the moments of a wide table. The layout is a constant here, so that it is not asked for
+// at each place.
 use boxes::sides::Bounds;
 use grid::place::Grid;
 use grid::place::place;

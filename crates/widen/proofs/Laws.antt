@@ -12,14 +12,13 @@ use Rattle.grid.specs.Grid.{gridOf, onGrid, numberOn, binsOf}
 use Rattle.basics.proofs.Ends.{passed}
 use Rattle.basics.proofs.Range.{and-left, and-right}
 use Rattle.grid.proofs.Ends.{call-refused, call-done}
-use Rattle.table.specs.declared.layout.Layout.the-variants.{Wide, Narrow}
-use Rattle.table.specs.Cell.{View}
+use Rattle.table.specs.declared.layout.Layout.the-variants.{Narrow}
 use Rattle.table.specs.Table.{Table, Sized, isSized, viewOf}
 use Rattle.table.specs.Narrow.{NarrowTable, narrowView}
-use Rattle.table.specs.Layout.{SizedIn, isSizedIn, viewIn, writtenIn}
+use Rattle.table.specs.Layout.{SizedIn, isSizedIn}
 use Rattle.table.specs.Sound.{limit, limitOf, total, sound}
 use Rattle.table.proofs.Tables.{Holds, test-sized, list-holds}
-use Rattle.table.proofs.Layouts.{sized-in, HoldsIn, holds-list-in, holds-same-in}
+use Rattle.table.proofs.Layouts.{sized-in}
 use Rattle.table.proofs.Soundness.{Sound, sound-same, total-same, sound-in}
 use Rattle.widen.specs.Widen.{widened, widenNumberOn, widenOn, widenNumber, widenLater}
 use Rattle.widen.proofs.Calls.{widen-after, all-done}
@@ -29,15 +28,6 @@ use Rattle.widen.proofs.Calls.{widen-after, all-done}
 pub widened-holds : (n : ℕ) (t : NarrowTable) → Holds n (widened n t) (narrowView t)
 unfolding widened
 widened-holds n t = list-holds n (narrowView t)
-
--- and so what the narrow one holds, where that is a table of as many bins
-pub widened-same : (n : ℕ) (t : NarrowTable) (v : View) → HoldsIn Narrow n t v → Holds n (widened n t) v
-widened-same n t v h = holds-same-in (widened-holds n t) (h .at)
-
--- back again: written in the narrow layout, it is the narrow table
-pub narrowed : (n : ℕ) (t : NarrowTable) → SizedIn Narrow t n → t ≡ writtenIn Narrow n (viewOf (widened n t))
-narrowed n t s =
-    holds-list-in Narrow (record { lent = s; at = λ p j h k. sym (widened-holds n t .at p j h k) })
 
 module _ (g : Grid) (t : NarrowTable) where
   -- the same total
@@ -96,9 +86,3 @@ module _ (b1 b2 b3 : ℕ) (t : NarrowTable) (old : Table) where
   pub widen-accepts : {g : Grid} → gridOf b1 b2 b3 ≡ chosen.Accepted g → SizedIn Narrow t (binsOf g)
       → Sized old (binsOf g) → sound (limitOf Narrow) g (narrowView t) ≡ true → widenNumber b1 b2 b3 t old ≡ 0
   widen-accepts e lent list is-sound = sym (all-done b1 b2 b3 t old e lent list is-sound refl .0)
-
-  -- then the wide list has the widened table, whatever it held
-  pub widen-leaves : {g : Grid} → gridOf b1 b2 b3 ≡ chosen.Accepted g → SizedIn Narrow t (binsOf g)
-      → Sized old (binsOf g) → sound (limitOf Narrow) g (narrowView t) ≡ true
-      → widenLater b1 b2 b3 t old ≡ widened (binsOf g) t
-  widen-leaves e lent list is-sound = sym (all-done b1 b2 b3 t old e lent list is-sound refl .1)
