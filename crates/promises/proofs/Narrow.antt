@@ -53,12 +53,12 @@ use Rattle.promises.specs.Narrow.{SamePlans, Widening}
 
 -- ---- what fits 32 bits
 -- "No weight, no component sum and no moment of these reaches 2^32", of any view that is sound for the narrow limit
-pub narrow-below : (b1 b2 b3 : ℕ) {g : Grid} → gridOf b1 b2 b3 ≡ chosen.Accepted g → (v : View)
-    → sound (limitOf Narrow) g v ≡ true → (p : ℕ) → p < binsOf g → Below g v p
+pub narrow-below : (b1 b2 b3 : ℕ) {g : Grid} → gridOf b1 b2 b3 ≡ chosen.Accepted g → (u : View)
+    → sound (limitOf Narrow) g u ≡ true → (p : ℕ) → p < binsOf g → Below g u p
 unfolding momentsOf
-narrow-below b1 b2 b3 {g} e v is-sound p h =
+narrow-below b1 b2 b3 {g} e u is-sound p h =
     record {
-      numbers = λ j l. omega (arith, term-le 0 (binsOf g) (λ q. v q j) p (omega arith) (omega arith), all j l);
+      numbers = λ j l. omega (arith, term-le 0 (binsOf g) (λ q. u q j) p (omega arith) (omega arith), all j l);
       moments = λ j l. omega (arith, below-high a s r gr b j one two three l, total-high s);
       squares = number-below a s p h (lit≤ tt) 4 (lit< tt);
       square-moments = below-small a (sound-in Narrow s) r gr b 4 one two three (lit< tt);
@@ -67,10 +67,10 @@ narrow-below b1 b2 b3 {g} e v is-sound p h =
     a : Accepted g
     a = chose b1 b2 b3 g e .accepted
 
-    s : Sound (limitOf Narrow) g v
+    s : Sound (limitOf Narrow) g u
     s = record { holds = is-sound }
 
-    all : (j : ℕ) → j < 4 → sumFrom 0 (binsOf g) (λ q. v q j) ≤ 255 * limitOf Narrow
+    all : (j : ℕ) → j < 4 → sumFrom 0 (binsOf g) (λ q. u q j) ≤ 255 * limitOf Narrow
     all j l = omega (arith, numbers-high a s j l, total-high s)
 
     -- the moments at a place are sums over the bins below these

@@ -22,7 +22,7 @@ use Rattle.grid.proofs.Size.{in-size, span-byte, size-high}
 use Rattle.grid.proofs.Places.{one, two, three}
 use Rattle.table.specs.declared.spans.RowSpans.{RowSpans}
 use Rattle.table.specs.Sound.{between, squaredSpan, plusSpan, inBounds, SpanBelow}
-use Rattle.table.specs.Spans.{packed, unpacked, spansOf, rowSpans, spanNumber, filledSpans, SpanTable}
+use Rattle.table.specs.Spans.{packedSpan, toldSpan, spansOf, rowSpans, spanNumber, filledSpans, SpanTable}
 
 -- ---- spans of bytes
 pub byte-span : {shift bin : ℕ} → InSize shift bin → SpanBelow 255 (spanOf shift bin)
@@ -46,8 +46,8 @@ plus-below a b = record { low = omega (arith, a .low, b .low); high = omega (ari
 
 -- ---- in one number
 -- it tells the span again
-pub unpack-pack : {most : ℕ} {s : Span} → SpanBelow most s → most < 4294967296 → unpacked (packed s) ≡ s
-unfolding packed unpacked
+pub unpack-pack : {most : ℕ} {s : Span} → SpanBelow most s → most < 4294967296 → toldSpan (packedSpan s) ≡ s
+unfolding packedSpan toldSpan
 unpack-pack {most} {s} b h =
     λ i. record { low = low-is (s .low) (s .high) under i; high = high-is (s .low) (s .high) (b .low) under i }
   where
@@ -63,12 +63,12 @@ unpack-pack {most} {s} b h =
 
 -- two of them added tell the spans added
 pub pack-plus : {few most : ℕ} {s t : Span} → SpanBelow few s → SpanBelow most t
-    → packed s + packed t ≡ packed (plusSpan s t)
-unfolding packed plusSpan
+    → packedSpan s + packedSpan t ≡ packedSpan (plusSpan s t)
+unfolding packedSpan plusSpan
 pack-plus a b = omega (arith, a .low, b .low)
 
-pub pack-fits : {most : ℕ} {s : Span} → SpanBelow most s → most < 4294967296 → packed s < 2 ^ 64
-unfolding packed
+pub pack-fits : {most : ℕ} {s : Span} → SpanBelow most s → most < 4294967296 → packedSpan s < 2 ^ 64
+unfolding packedSpan
 pack-fits b h = omega (arith, b .low, b .high)
 
 -- ---- a weight times a span
@@ -97,23 +97,23 @@ wrapped x least width sum h l e = go (leb x width) refl
             sym (lt-leb sum (least + width) (omega (arith, whole)))
 
 -- both bounds of a sum, by two products
-module _ (n span : ℕ) (b : SpanBelow 195075 (unpacked span)) (h : n ≤ 4294967295) where
+module _ (n span : ℕ) (b : SpanBelow 195075 (toldSpan span)) (h : n ≤ 4294967295) where
   pub low-fits : n * (span % 4294967296) + n * (span / 4294967296) < 2 ^ 64
-  unfolding unpacked
+  unfolding toldSpan
   low-fits =
       rw (← mul-add n (span % 4294967296) (span / 4294967296))
       (lt-of-le-of-lt (mul-le-mul {n₂ = 4294967295} {m₂ = 195075} h (b .high)) (lit< tt))
 
   pub far-between : {x sum : ℕ} → x < 2 ^ 64 → (x + n * (span % 4294967296)) % 2 ^ 64 ≡ sum
-      → leb x (n * (span / 4294967296)) ≡ between (unpacked span) n sum
-  unfolding between unpacked
+      → leb x (n * (span / 4294967296)) ≡ between (toldSpan span) n sum
+  unfolding between toldSpan
   far-between {x} {sum} f e =
       wrapped x (n * (span % 4294967296)) (n * (span / 4294967296)) sum f low-fits e
       ∙ ap (λ (k : ℕ). leb (n * (span % 4294967296)) sum && leb sum k)
       (sym (mul-add n (span % 4294967296) (span / 4294967296)))
 
 -- and by one, where the weight is light and the span one of bytes
-module _ (n span : ℕ) (b : SpanBelow 255 (unpacked span)) (h : n ≤ 16843008) where
+module _ (n span : ℕ) (b : SpanBelow 255 (toldSpan span)) (h : n ≤ 16843008) where
   split : n * span ≡ n * (span / 4294967296) * 4294967296 + n * (span % 4294967296)
   split =
       ap (λ (k : ℕ). n * k) (sym (div-add-mod' span 4294967296))
@@ -121,7 +121,7 @@ module _ (n span : ℕ) (b : SpanBelow 255 (unpacked span)) (h : n ≤ 16843008)
       ∙ ap (λ (k : ℕ). k + n * (span % 4294967296)) (sym (mul-assoc n (span / 4294967296) 4294967296))
 
   small : n * (span % 4294967296) + n * (span / 4294967296) ≤ 4294967040
-  unfolding unpacked
+  unfolding toldSpan
   small =
       rw (← mul-add n (span % 4294967296) (span / 4294967296)) (mul-le-mul {n₂ = 16843008} {m₂ = 255} h (b .high))
 
@@ -135,11 +135,11 @@ module _ (n span : ℕ) (b : SpanBelow 255 (unpacked span)) (h : n ≤ 16843008)
   width-part = omega (arith, split, small)
 
 -- ---- the third spans of a grid
-even-number : (g : Grid) (b : ℕ) → spanNumber g (2 * b) ≡ packed (spanOf (g .shift3) b)
+even-number : (g : Grid) (b : ℕ) → spanNumber g (2 * b) ≡ packedSpan (spanOf (g .shift3) b)
 unfolding spanNumber
 even-number g b =
-    λ i. cond (eq-eqb (2 * b % 2) 0 (even b) i) (packed (spanOf (g .shift3) (half b i)))
-    (packed (squaredSpan (spanOf (g .shift3) (half b i))))
+    λ i. cond (eq-eqb (2 * b % 2) 0 (even b) i) (packedSpan (spanOf (g .shift3) (half b i)))
+    (packedSpan (squaredSpan (spanOf (g .shift3) (half b i))))
   where
     even : (b : ℕ) → 2 * b % 2 ≡ 0
     even b = omega arith
@@ -147,11 +147,11 @@ even-number g b =
     half : (b : ℕ) → 2 * b / 2 ≡ b
     half b = omega arith
 
-odd-number : (g : Grid) (b : ℕ) → spanNumber g (2 * b + 1) ≡ packed (squaredSpan (spanOf (g .shift3) b))
+odd-number : (g : Grid) (b : ℕ) → spanNumber g (2 * b + 1) ≡ packedSpan (squaredSpan (spanOf (g .shift3) b))
 unfolding spanNumber
 odd-number g b =
-    λ i. cond (ne-eqb ((2 * b + 1) % 2) 0 (odd b) i) (packed (spanOf (g .shift3) (half b i)))
-    (packed (squaredSpan (spanOf (g .shift3) (half b i))))
+    λ i. cond (ne-eqb ((2 * b + 1) % 2) 0 (odd b) i) (packedSpan (spanOf (g .shift3) (half b i)))
+    (packedSpan (squaredSpan (spanOf (g .shift3) (half b i))))
   where
     odd : (b : ℕ) → (2 * b + 1) % 2 ≡ 0 → ⊥
     odd b e = omega arith
@@ -169,7 +169,7 @@ pub spans-none : (g : Grid) (old : List ℕ) → length old ≡ 256 → SpansTo 
 spans-none g old e = record { long = e; front = λ i l. absurd (omega arith); behind = λ i l. refl }
 
 pub spans-more : {g : Grid} {old : List ℕ} {n : ℕ} {new : List ℕ} → SpansTo g old n new → n < 128
-    → {x y : ℕ} → x ≡ packed (spanOf (g .shift3) n) → y ≡ packed (squaredSpan (spanOf (g .shift3) n))
+    → {x y : ℕ} → x ≡ packedSpan (spanOf (g .shift3) n) → y ≡ packedSpan (squaredSpan (spanOf (g .shift3) n))
     → SpansTo g old (n + 1) (set (set new (2 * n) x) (2 * n + 1) y)
 spans-more {g} {old} {n} {new} s h {x} {y} ex ey =
     record {
@@ -244,20 +244,20 @@ module _ {g : Grid} {r gr b : ℕ} (i : Inside g r gr b) where
   row-below = plus-below (squares-below first-below) (squares-below second-below)
 
   module _ {row : RowSpans} (e : row ≡ rowSpans g r gr) where
-    pub first-is : unpacked (row .one) ≡ spanOf (g .shift1) r
+    pub first-is : toldSpan (row .one) ≡ spanOf (g .shift1) r
     unfolding rowSpans
-    first-is = ap (λ (x : RowSpans). unpacked (x .one)) e ∙ unpack-pack first-below (lit< tt)
+    first-is = ap (λ (x : RowSpans). toldSpan (x .one)) e ∙ unpack-pack first-below (lit< tt)
 
-    pub second-is : unpacked (row .two) ≡ spanOf (g .shift2) gr
+    pub second-is : toldSpan (row .two) ≡ spanOf (g .shift2) gr
     unfolding rowSpans
-    second-is = ap (λ (x : RowSpans). unpacked (x .two)) e ∙ unpack-pack second-below (lit< tt)
+    second-is = ap (λ (x : RowSpans). toldSpan (x .two)) e ∙ unpack-pack second-below (lit< tt)
 
     module _ {t : List ℕ} (s : SpanTable g t) where
-      pub third-is : unpacked (getD t (2 * b) 0) ≡ spanOf (g .shift3) b
-      third-is = ap unpacked (s .at (2 * b) (omega (arith, i .three)) ∙ even-number g b) ∙ unpack-pack third-below (lit< tt)
+      pub third-is : toldSpan (getD t (2 * b) 0) ≡ spanOf (g .shift3) b
+      third-is = ap toldSpan (s .at (2 * b) (omega (arith, i .three)) ∙ even-number g b) ∙ unpack-pack third-below (lit< tt)
 
       all-squares : row .squares + getD t (2 * b + 1) 0
-          ≡ packed (plusSpan (plusSpan (squaredSpan (spanOf (g .shift1) r)) (squaredSpan (spanOf (g .shift2) gr)))
+          ≡ packedSpan (plusSpan (plusSpan (squaredSpan (spanOf (g .shift1) r)) (squaredSpan (spanOf (g .shift2) gr)))
           (squaredSpan (spanOf (g .shift3) b)))
       unfolding rowSpans
       all-squares =
@@ -271,10 +271,10 @@ module _ {g : Grid} {r gr b : ℕ} (i : Inside g r gr b) where
       pub squares-fit : row .squares + getD t (2 * b + 1) 0 < 2 ^ 64
       squares-fit = rw all-squares (pack-fits all-below (lit< tt))
 
-      pub squares-are : unpacked (row .squares + getD t (2 * b + 1) 0)
+      pub squares-are : toldSpan (row .squares + getD t (2 * b + 1) 0)
           ≡ plusSpan (plusSpan (squaredSpan (spanOf (g .shift1) r)) (squaredSpan (spanOf (g .shift2) gr)))
           (squaredSpan (spanOf (g .shift3) b))
-      squares-are = ap unpacked all-squares ∙ unpack-pack all-below (lit< tt)
+      squares-are = ap toldSpan all-squares ∙ unpack-pack all-below (lit< tt)
 
-      pub squares-under : SpanBelow 195075 (unpacked (row .squares + getD t (2 * b + 1) 0))
+      pub squares-under : SpanBelow 195075 (toldSpan (row .squares + getD t (2 * b + 1) 0))
       squares-under = rw squares-are all-below

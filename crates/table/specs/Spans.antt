@@ -15,12 +15,12 @@ use Rattle.table.specs.declared.spans.RowSpans.{RowSpans}
 use Rattle.table.specs.Sound.{squaredSpan, plusSpan}
 
 -- a span in one number: its low, and 2^32 times what its high has more
-unfoldable pub packed : Span → ℕ
-packed s = s .low + 4294967296 * (s .high - s .low)
+unfoldable pub packedSpan : Span → ℕ
+packedSpan s = s .low + 4294967296 * (s .high - s .low)
 
 -- the span that a number tells
-unfoldable pub unpacked : ℕ → Span
-unpacked k = record { low = k % 4294967296; high = k % 4294967296 + k / 4294967296 }
+unfoldable pub toldSpan : ℕ → Span
+toldSpan k = record { low = k % 4294967296; high = k % 4294967296 + k / 4294967296 }
 
 -- the spans of a bin
 unfoldable pub spansOf : Grid → ℕ → ℕ → ℕ → ℕ → Span
@@ -31,13 +31,13 @@ unfoldable pub rowSpans : Grid → ℕ → ℕ → RowSpans
 rowSpans g r gr =
     let s1 = spanOf (g .shift1) r in
     let s2 = spanOf (g .shift2) gr in
-    record { one = packed s1; two = packed s2; squares = packed (plusSpan (squaredSpan s1) (squaredSpan s2)) }
+    record { one = packedSpan s1; two = packedSpan s2; squares = packedSpan (plusSpan (squaredSpan s1) (squaredSpan s2)) }
 
 -- the third spans of a grid, two numbers for each bin: its span and the squares of that
 unfoldable pub spanNumber : Grid → ℕ → ℕ
 spanNumber g i =
     let s = spanOf (g .shift3) (i / 2) in
-    cond (eqb (i % 2) 0) (packed s) (packed (squaredSpan s))
+    cond (eqb (i % 2) 0) (packedSpan s) (packedSpan (squaredSpan s))
 
 -- a list of 256 with these numbers, for as many bins as the grid has, and behind them what was there
 unfoldable pub filledSpans : Grid → List ℕ → List ℕ

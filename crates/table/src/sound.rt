@@ -15,7 +15,7 @@ ghost use Rattle.table.specs.Cell.{numberOf};
 ghost use Rattle.table.specs.Table.{viewOf};
 ghost use Rattle.table.specs.Layout.{laid, laidView, TableOfIn, TableOf};
 ghost use Rattle.table.specs.Sound.{limit, limitOf, between, inBounds, soundTotal, Row, SpanBelow};
-ghost use Rattle.table.specs.Spans.{unpacked, spansOf, rowSpans, SpanTable};
+ghost use Rattle.table.specs.Spans.{toldSpan, spansOf, rowSpans, SpanTable};
 ghost use Rattle.table.specs.Inner.{scanned};
 
 // The largest total of a table in the wide layout.
@@ -44,8 +44,8 @@ pub enum SoundTotal {
 // difference of the bounds, so that one comparison does for both. Up to the narrow limit one multiplication gives both
 // bounds: n times a byte stays below 2^32.
 fn lies_between(span: u64, n: u64, sum: u64) -> bool
-    requires { ⌜ SpanBelow 255 (unpacked span) × (n ≤ limit) ⌝ }
-    ensures { λ r. ⌜ r ≡ between (unpacked span) n sum ⌝ }
+    requires { ⌜ SpanBelow 255 (toldSpan span) × (n ≤ limit) ⌝ }
+    ensures { λ r. ⌜ r ≡ between (toldSpan span) n sum ⌝ }
 {
     if NARROW_LIMIT < n {
         return lies_far_between(span, n, sum);
@@ -56,8 +56,8 @@ fn lies_between(span: u64, n: u64, sum: u64) -> bool
 
 // The same of any span and weight, by two multiplications.
 fn lies_far_between(span: u64, n: u64, sum: u64) -> bool
-    requires { ⌜ SpanBelow 195075 (unpacked span) × (n ≤ limit) ⌝ }
-    ensures { λ r. ⌜ r ≡ between (unpacked span) n sum ⌝ }
+    requires { ⌜ SpanBelow 195075 (toldSpan span) × (n ≤ limit) ⌝ }
+    ensures { λ r. ⌜ r ≡ between (toldSpan span) n sum ⌝ }
 {
     wrapping_sub_u64(sum, n * (span % 4294967296)) <= n * (span / 4294967296)
 }

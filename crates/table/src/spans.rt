@@ -7,12 +7,12 @@ ghost use mathlib.Core.Path.{_≡_};
 ghost use lib.ListN.{length};
 ghost use Rattle.grid.specs.Grid.{Accepted, Inside};
 ghost use Rattle.table.specs.Sound.{squaredSpan, SpanBelow};
-ghost use Rattle.table.specs.Spans.{packed, rowSpans, filledSpans};
+ghost use Rattle.table.specs.Spans.{packedSpan, rowSpans, filledSpans};
 
 // A span in one number.
 fn pack(s: Span) -> u64
     requires { ⌜ SpanBelow 195075 s ⌝ }
-    ensures { λ r. ⌜ r ≡ packed s ⌝ }
+    ensures { λ r. ⌜ r ≡ packedSpan s ⌝ }
 {
     s.low + 4294967296 * (s.high - s.low)
 }

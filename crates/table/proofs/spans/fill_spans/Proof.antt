@@ -9,7 +9,7 @@ use lib.Dec.{lit≤}
 use Rattle.grid.proofs.Size.{in-size, size-high}
 use Rattle.grid.proofs.Places.{three}
 use Rattle.table.specs.Sound.{squaredSpan, SpanBelow}
-use Rattle.table.specs.Spans.{packed}
+use Rattle.table.specs.Spans.{packedSpan}
 use Rattle.table.proofs.Packed.{byte-span, wider, squares-below, SpansTo, spans-none, spans-more, spans-all}
 use Rattle.table.proofs.spans.fill_spans.Statement.{statement}
 use Rattle.table.proofs.spans.fill_spans.Tie as tie
@@ -72,8 +72,8 @@ loop-again : tie.Need-loop-again Inv-loop μ-loop
 loop-again c =
     let k = c .before .before .before in (
       omega (arith, k .before .if1 .taken),
-      spans-more (k .before .before .before .loop .inv .1) (few k) (c .before .before .pack .ensures ∙ ap packed (k .span-of .ensures))
-          (c .pack2 .ensures ∙ ap packed (c .before .squared .ensures ∙ ap squaredSpan (k .span-of .ensures))),
+      spans-more (k .before .before .before .loop .inv .1) (few k) (c .before .before .pack .ensures ∙ ap packedSpan (k .span-of .ensures))
+          (c .pack2 .ensures ∙ ap packedSpan (c .before .squared .ensures ∙ ap squaredSpan (k .span-of .ensures))),
     )
 
 returns : tie.Need-returns Inv-loop μ-loop

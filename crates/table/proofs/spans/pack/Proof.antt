@@ -1,7 +1,7 @@
 -- `table::spans::pack` meets its contract: both parts are small.
 -- Assumes nothing.
 use borrow.Author.Needs.{needs}
-use Rattle.table.specs.Spans.{packed}
+use Rattle.table.specs.Spans.{packedSpan}
 use Rattle.table.proofs.spans.pack.Statement.{statement}
 use Rattle.table.proofs.spans.pack.Tie as tie
 
@@ -15,7 +15,7 @@ add-result : tie.Need-add-result
 add-result c = search needs
 
 returns : tie.Need-returns
-unfolding packed
+unfolding packedSpan
 returns c = search needs
 
 pub pack-spec : {M : Type 1} → statement M

@@ -7,7 +7,7 @@ use lib.Dec.{lit<, lit≤}
 use Rattle.grid.proofs.Size.{in-size}
 use Rattle.grid.proofs.Places.{one, two}
 use Rattle.table.specs.Sound.{squaredSpan, plusSpan, SpanBelow}
-use Rattle.table.specs.Spans.{packed, rowSpans}
+use Rattle.table.specs.Spans.{packedSpan, rowSpans}
 use Rattle.table.proofs.Packed.{first-below, second-below, wider, squares-below, plus-below, pack-plus, pack-fits}
 use Rattle.table.proofs.spans.row_spans.Statement.{statement}
 use Rattle.table.proofs.spans.row_spans.Tie as tie
@@ -49,11 +49,11 @@ pack-requires-4 c κs =
 added : (k : tie.After-pack4)
     → let s = k .before .before .before .before .before .before in
     k .before .before .pack3 .result + k .pack4 .result
-    ≡ packed (plusSpan (squaredSpan (s .before .span-of .result)) (squaredSpan (s .span-of2 .result)))
+    ≡ packedSpan (plusSpan (squaredSpan (s .before .span-of .result)) (squaredSpan (s .span-of2 .result)))
 added k =
     let s = k .before .before .before .before .before .before in
-    (λ i. (k .before .before .pack3 .ensures ∙ ap packed (k .before .before .before .squared .ensures)) i
-    + (k .pack4 .ensures ∙ ap packed (k .before .squared2 .ensures)) i)
+    (λ i. (k .before .before .pack3 .ensures ∙ ap packedSpan (k .before .before .before .squared .ensures)) i
+    + (k .pack4 .ensures ∙ ap packedSpan (k .before .squared2 .ensures)) i)
     ∙ pack-plus (squares-below (first-byte s)) (squares-below (second-byte s))
 
 add-t12 : tie.Need-add-t12
@@ -68,9 +68,9 @@ returns c =
     let e1 = s .before .span-of .ensures in
     let e2 = s .span-of2 .ensures in
     λ i. record {
-      one = (c .before .before .before .before .before .pack .ensures ∙ ap packed e1) i;
-      two = (c .before .before .before .before .pack2 .ensures ∙ ap packed e2) i;
-      squares = (added c ∙ (λ j. packed (plusSpan (squaredSpan (e1 j)) (squaredSpan (e2 j))))) i;
+      one = (c .before .before .before .before .before .pack .ensures ∙ ap packedSpan e1) i;
+      two = (c .before .before .before .before .pack2 .ensures ∙ ap packedSpan e2) i;
+      squares = (added c ∙ (λ j. packedSpan (plusSpan (squaredSpan (e1 j)) (squaredSpan (e2 j))))) i;
     }
 
 pub row-spans-spec : {M : Type 1} → statement M
