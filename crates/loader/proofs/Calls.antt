@@ -21,7 +21,7 @@ use Rattle.table.proofs.Layouts.{in-sized}
 use Rattle.adder.specs.Batch.{weightOf, batchOf, loaded}
 use Rattle.adder.specs.Add.{passedNumber}
 use Rattle.loader.specs.Load.{loadNumberOn, loadNumberIn, loadLaterIn, loadNumber, loadLater}
-use Rattle.loader.specs.Merge.{merged, mergeNumberOn, mergeNumberIn, mergeLaterIn, mergeNumber, mergeLater}
+use Rattle.loader.specs.Merge.{merged, mergeNumberOn, mergeNumberIn, mergeLaterIn}
 
 -- the answer beyond a layout's limit is a refusal
 beyond-keeps : {A : Type 0} (l : Layout) (done kept : A) → kept ≡ whenDone (passedNumber l) done kept
@@ -144,10 +144,6 @@ module _ (l : Layout) (b1 b2 b3 : ℕ) (t : TableIn l) (colours : List ℕ) (wei
             load-done-in o r = load-ends (simp (eq-eqb _ _ h, k, in-sized l t (binsOf g) f, v, le-ltb _ _ o)) r
 
 -- ---- in the wide layout
-pub merge-no-grid : (b1 b2 b3 : ℕ) (t s : Table) → gridOf b1 b2 b3 ≡ chosen.Refused
-    → (1 ≡ mergeNumber b1 b2 b3 t s) × (t ≡ mergeLater b1 b2 b3 t s)
-merge-no-grid = merge-no-grid-in Wide
-
 module _ (b1 b2 b3 : ℕ) (t : Table) (colours : List ℕ) (weighted : Bool) (weights : List ℕ) where
   pub load-no-grid : gridOf b1 b2 b3 ≡ chosen.Refused
       → (1 ≡ loadNumber b1 b2 b3 t colours weighted weights) × (t ≡ loadLater b1 b2 b3 t colours weighted weights)

@@ -60,12 +60,6 @@ Ended = EndedIn Wide
 abbrev pub endedOf : ℕ → Table → Ended
 endedOf n t = endedOfIn Wide n t
 
-abbrev pub thenLoad : ℕ → ℕ → ℕ → Ended → Batch → Ended
-thenLoad b1 b2 b3 r b = thenLoadIn Wide b1 b2 b3 r b
-
-abbrev pub thenMerge : ℕ → ℕ → ℕ → Ended → Ended → Ended
-thenMerge b1 b2 b3 r s = thenMergeIn Wide b1 b2 b3 r s
-
 abbrev pub ends : ℕ → ℕ → ℕ → Plan → Ended
 ends b1 b2 b3 p = endsIn Wide b1 b2 b3 p
 

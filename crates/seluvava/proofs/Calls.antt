@@ -14,7 +14,6 @@ use Rattle.grid.specs.declared.place.Chosen.{Chosen}
 use Rattle.grid.specs.declared.place.Chosen.the-variants as chosen
 use Rattle.basics.specs.Answer.{refuse, whenDone}
 use Rattle.grid.specs.Grid.{gridOf, gridAnswer, onGrid, numberOn, binsOf}
-use Rattle.grid.proofs.Places.{chose, bins-high}
 use Rattle.basics.proofs.Range.{and-left, and-right}
 use Rattle.basics.proofs.Ends.{passed}
 use Rattle.table.specs.declared.layout.Layout.{Layout}

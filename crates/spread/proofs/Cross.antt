@@ -11,7 +11,6 @@ use Rattle.basics.specs.Dimension.{choose}
 use Rattle.grid.specs.Grid.{sizeAt, placeOf, strideAt, Accepted, Inside}
 use Rattle.grid.proofs.Size.{size-low}
 use Rattle.grid.proofs.Places.{one, two, three, place-lt, bins-high}
-use Rattle.table.specs.declared.cell.Cell.{Cell}
 use Rattle.table.specs.Cell.{View, numberOf, cellOf}
 use Rattle.table.specs.declared.layout.Layout.{Layout}
 use Rattle.table.specs.Layout.{TableIn, viewIn}

@@ -1,5 +1,5 @@
 -- What a caller of widen may use without seeing inside its definitions: the widened table holds what the narrow one
--- does, so that it is sound with the same total, and what its answer tells.
+-- does, and what its answer tells.
 -- Assumes nothing.
 use mathlib.Core.Path.{_≡_, refl, sym, _∙_}
 use mathlib.Core.Bool.{Bool, true, not, _&&_}
@@ -13,12 +13,13 @@ use Rattle.basics.proofs.Ends.{passed}
 use Rattle.basics.proofs.Range.{and-left, and-right}
 use Rattle.grid.proofs.Ends.{call-refused, call-done}
 use Rattle.table.specs.declared.layout.Layout.the-variants.{Narrow}
-use Rattle.table.specs.Table.{Table, Sized, isSized, viewOf}
+use Rattle.table.specs.Cell.{View}
+use Rattle.table.specs.Table.{Table, Sized, isSized}
 use Rattle.table.specs.Narrow.{NarrowTable, narrowView}
 use Rattle.table.specs.Layout.{SizedIn, isSizedIn}
 use Rattle.table.specs.Sound.{limit, limitOf, total, sound}
 use Rattle.table.proofs.Tables.{Holds, test-sized, list-holds}
-use Rattle.table.proofs.Layouts.{sized-in}
+use Rattle.table.proofs.Layouts.{sized-in, HoldsIn, holds-same-in}
 use Rattle.table.proofs.Soundness.{Sound, sound-same, total-same, sound-in}
 use Rattle.widen.specs.Widen.{widened, widenNumberOn, widenOn, widenNumber, widenLater}
 use Rattle.widen.proofs.Calls.{widen-after, all-done}
@@ -29,19 +30,9 @@ pub widened-holds : (n : ℕ) (t : NarrowTable) → Holds n (widened n t) (narro
 unfolding widened
 widened-holds n t = list-holds n (narrowView t)
 
-module _ (g : Grid) (t : NarrowTable) where
-  -- the same total
-  pub widened-total : total g (viewOf (widened (binsOf g) t)) ≡ total g (narrowView t)
-  widened-total = total-same g (viewOf (widened (binsOf g) t)) (narrowView t) (widened-holds (binsOf g) t .at)
-
-  -- sound for a limit where the narrow one is
-  pub widened-bounds : (most : ℕ) → sound most g (viewOf (widened (binsOf g) t)) ≡ sound most g (narrowView t)
-  widened-bounds most =
-      sound-same g (viewOf (widened (binsOf g) t)) (narrowView t) (widened-holds (binsOf g) t .at) most
-
-  -- widening a sound narrow table is sound
-  pub widened-sound : Sound (limitOf Narrow) g (narrowView t) → Sound limit g (viewOf (widened (binsOf g) t))
-  widened-sound s = record { holds = widened-bounds limit ∙ sound-in Narrow s .holds }
+-- and what the narrow one is known to hold
+pub widened-same : (n : ℕ) (t : NarrowTable) (v : View) → HoldsIn Narrow n t v → Holds n (widened n t) v
+widened-same n t v h = holds-same-in (widened-holds n t) (h .at)
 
 -- ---- the call
 module _ (b1 b2 b3 : ℕ) (t : NarrowTable) (old : Table) where

@@ -10,7 +10,8 @@ use lib.Dec.{eqb, ltb}
 use Rattle.table.specs.declared.cell.Cell.{Cell}
 use Rattle.table.specs.Cell.{View, numberOf, cellOf}
 use Rattle.table.specs.Table.{Table, Sized, viewOf, written, putAt}
-use Rattle.table.proofs.Tables.{Holds, holds-same, holds-list, holds-itself, put-holds}
+use Rattle.table.proofs.Tables.{Holds, holds-same, holds-list, holds-itself}
+use Rattle.table.proofs.Layouts.{put-holds-in}
 use Rattle.table.proofs.Cells.{number-cell}
 
 -- the cells before place p are written
@@ -44,7 +45,7 @@ module _ {n : ℕ} {t : Table} (v u : View) (p : ℕ) (h : Holds n t (partly p v
 
   pub one-written : Holds n (putAt t p c) (partly (p + 1) v u)
   one-written =
-      holds-same (put-holds h p c l)
+      holds-same (put-holds-in h p c l)
       (λ q j a k. hit-number q j k (partly p v u q j) ∙ one-more p q (v q j) (u q j))
 
 pub all-written : {n : ℕ} {t : Table} (v u : View) → Holds n t (partly n v u) → t ≡ written n u

@@ -9,7 +9,7 @@ use denote.Ref.{now}
 use Rattle.grid.proofs.Places.{two}
 use Rattle.grid.proofs.Size.{size-high}
 use Rattle.table.specs.Cell.{cellOf}
-use Rattle.table.specs.Layout.{laid, laidView}
+use Rattle.table.specs.Layout.{laidView}
 use Rattle.boxes.proofs.Within.{sides}
 use Rattle.bins.specs.Inner.{rowSum, planeSum}
 use Rattle.bins.proofs.Rows.{none-added, next-fits, next-added, rows-small}

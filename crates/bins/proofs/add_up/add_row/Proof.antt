@@ -10,7 +10,7 @@ use Rattle.grid.specs.Grid.{placeOf}
 use Rattle.grid.proofs.Places.{three, place-lt}
 use Rattle.grid.proofs.Size.{size-high}
 use Rattle.table.specs.Cell.{cellOf}
-use Rattle.table.specs.Layout.{laid, laidView}
+use Rattle.table.specs.Layout.{laidView}
 use Rattle.table.proofs.Layouts.{cell-of}
 use Rattle.boxes.proofs.Within.{sides}
 use Rattle.bins.specs.Inner.{rowSum}

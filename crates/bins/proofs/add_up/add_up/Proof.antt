@@ -9,7 +9,7 @@ use denote.Ref.{now}
 use Rattle.grid.proofs.Places.{one}
 use Rattle.grid.proofs.Size.{size-high}
 use Rattle.table.specs.Cell.{cellOf}
-use Rattle.table.specs.Layout.{laid, laidView}
+use Rattle.table.specs.Layout.{laidView}
 use Rattle.boxes.proofs.Within.{sides}
 use Rattle.bins.specs.Sum.{sum3, binSum, boxSum, boxCell}
 use Rattle.bins.specs.Inner.{rowSum, planeSum, planesSum}

@@ -1,6 +1,6 @@
 -- `cutter::call::ready` meets its contract: the moments are written where sums come from them.
 -- Assumes nothing.
-use mathlib.Core.Path.{refl, sym, ap, _∙_}
+use mathlib.Core.Path.{sym, ap, _∙_}
 use borrow.Author.Needs.{needs}
 use denote.Ref.{now}
 use Rattle.grid.specs.Grid.{binsOf}

@@ -5,7 +5,7 @@ use mathlib.Core.Path.{ap, _∙_}
 use borrow.Author.Needs.{needs}
 use denote.Ref.{now}
 use lib.ListN.{set}
-use Rattle.table.specs.Layout.{laid, laidView}
+use Rattle.table.specs.Layout.{laidView}
 use Rattle.table.specs.Sound.{limit}
 use Rattle.table.proofs.Soundness.{Sound}
 use Rattle.cutter.specs.Inner.{withColourAt, withThreeAt, Coloured}

@@ -5,7 +5,7 @@ use mathlib.Core.Path.{refl, ap, _∙_}
 use borrow.Author.Needs.{needs}
 use denote.Ref.{now}
 use lib.Ieee.{ofBits, div}
-use Rattle.table.specs.Layout.{laid, laidView}
+use Rattle.table.specs.Layout.{laidView}
 use Rattle.boxes.specs.Bytes.{packOf}
 use Rattle.rounds.specs.Loop.{placesOf, boxesOf}
 use Rattle.boxes.proofs.Packing.{within-bytes}

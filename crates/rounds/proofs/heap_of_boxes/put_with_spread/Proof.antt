@@ -4,7 +4,7 @@ use mathlib.Core.Path.{ap, _∙_}
 use borrow.Author.Needs.{needs}
 use denote.Ref.{now}
 use lib.Ieee.{Float}
-use Rattle.table.specs.Layout.{laid, laidView}
+use Rattle.table.specs.Layout.{laidView}
 use Rattle.spread.specs.Spread.{spreadOf}
 use Rattle.spread.proofs.Choose.{plain-stats}
 use Rattle.heap.specs.Heap.{putIn}

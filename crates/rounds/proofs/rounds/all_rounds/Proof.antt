@@ -8,7 +8,7 @@ use borrow.Author.Needs.{needs}
 use borrow.Author.Tests.{not-true, not-false}
 use denote.Ref.{now}
 use lib.Ieee.{ofBits, lt}
-use Rattle.table.specs.Layout.{laid, laidView}
+use Rattle.table.specs.Layout.{laidView}
 use Rattle.spread.specs.Spread.{zeroOf}
 use Rattle.heap.specs.Heap.{item}
 use Rattle.heap.specs.TwoArrays.{TwoArrays}

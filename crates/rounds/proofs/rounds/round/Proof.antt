@@ -9,7 +9,7 @@ use borrow.Author.Needs.{needs}
 use denote.Ref.{now}
 use lib.Ieee.{ofBits, lt}
 use Rattle.table.specs.Cell.{View}
-use Rattle.table.specs.Layout.{laid, laidView}
+use Rattle.table.specs.Layout.{laidView}
 use Rattle.boxes.specs.declared.sides.Bounds.{Bounds}
 use Rattle.spread.specs.Spread.{zeroOf}
 use Rattle.spread.specs.Cut.{bestCut}

@@ -1,6 +1,5 @@
 -- `seluvava::narrow::seluvava_narrow_cut` meets its contract: the cut by moments, in the narrow layout.
 -- Assumes nothing.
-use borrow.Author.Needs.{needs}
 use Rattle.seluvava.proofs.narrow.seluvava_narrow_cut.Statement.{statement}
 use Rattle.seluvava.proofs.narrow.seluvava_narrow_cut.Tie as tie
 

@@ -5,7 +5,7 @@ use Prim.Native.Nat.{_+_, _-_, _≤_, _<_}
 use native.Mathlib.Omega.{arith}
 use borrow.Author.Needs.{needs}
 use denote.Ref.{now}
-use Rattle.table.specs.Layout.{laid, laidView}
+use Rattle.table.specs.Layout.{laidView}
 use Rattle.boxes.specs.Box.{minAt, maxAt}
 use Rattle.spread.specs.Cut.{bestRun}
 use Rattle.spread.proofs.Choose.{end-high, run-none, run-next, run-whole}

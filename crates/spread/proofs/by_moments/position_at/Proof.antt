@@ -5,7 +5,7 @@ use Prim.Native.Nat.{ℕ}
 use native.Mathlib.Nat.{le-of-lt}
 use denote.Ref.{now}
 use Rattle.table.specs.Cell.{View}
-use Rattle.table.specs.Layout.{laid, laidView}
+use Rattle.table.specs.Layout.{laidView}
 use Rattle.table.specs.Sound.{limit}
 use Rattle.table.proofs.Soundness.{Sound}
 use Rattle.bins.specs.Sum.{boxSum}

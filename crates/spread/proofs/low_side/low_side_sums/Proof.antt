@@ -3,7 +3,7 @@
 use Prim.Native.Nat.{ℕ}
 use native.Mathlib.Nat.{le-of-lt}
 use denote.Ref.{now}
-use Rattle.table.specs.Layout.{laid, laidView}
+use Rattle.table.specs.Layout.{laidView}
 use Rattle.boxes.specs.Box.{lowSide}
 use Rattle.bins.specs.Sum.{boxSum}
 use Rattle.sums.specs.Box.{statsOf}

@@ -9,9 +9,9 @@ use denote.Ref.{now}
 use Rattle.table.specs.declared.layout.Layout.the-variants.{Wide}
 use Rattle.table.specs.Layout.{laidView}
 use Rattle.sums.specs.Box.{statsOf}
-use Rattle.boxes.specs.Box.{minAt, maxAt, slabTo}
+use Rattle.boxes.specs.Box.{minAt, slabTo}
 use Rattle.spread.specs.declared.position.Position.{Position}
-use Rattle.spread.specs.Cut.{positionAt, better, bestRun, bestIn}
+use Rattle.spread.specs.Cut.{positionAt, better, bestRun}
 use Rattle.spread.specs.Inner.{CutsAt}
 use Rattle.spread.proofs.Choose.{later-is-better, earlier-is-better, end-high, run-none, run-next, run-whole}
 use Rattle.spread.proofs.wide_search.best_wide.Statement.{statement}

@@ -1,7 +1,7 @@
 -- `sums::sum_of_bins` meets its contract: the statistics of the five numbers that were added up.
 -- Assumes nothing.
 use denote.Ref.{now}
-use Rattle.table.specs.Layout.{laid, laidView}
+use Rattle.table.specs.Layout.{laidView}
 use Rattle.bins.specs.Sum.{boxSum, boxCell}
 use Rattle.bins.proofs.Laws.{box-squares}
 use Rattle.sums.specs.Box.{statsOf}

@@ -5,7 +5,7 @@ use native.Mathlib.Omega.{arith}
 use borrow.Author.Needs.{needs}
 use denote.Ref.{now}
 use Rattle.table.specs.declared.cell.Cell.{Cell}
-use Rattle.table.specs.Layout.{laid, laidView}
+use Rattle.table.specs.Layout.{laidView}
 use Rattle.sums.proofs.Steps.{Has, near-cell, above-has, before-has, corner-has, no-plane, no-row, can-join}
 use Rattle.sums.proofs.Steps.{joined-is}
 use Rattle.sums.proofs.moments.moment_at.Statement.{statement}
