@@ -47,11 +47,11 @@ fn lies_between(span: u64, n: u64, sum: u64) -> bool
     requires { ⌜ SpanBelow 255 (toldSpan span) × (n ≤ limit) ⌝ }
     ensures { λ r. ⌜ r ≡ between (toldSpan span) n sum ⌝ }
 {
-    if NARROW_LIMIT < n {
-        return lies_far_between(span, n, sum);
+    if n <= NARROW_LIMIT {
+        let both = n * span;
+        return wrapping_sub_u64(sum, both % 4294967296) <= both / 4294967296;
     }
-    let both = n * span;
-    wrapping_sub_u64(sum, both % 4294967296) <= both / 4294967296
+    lies_far_between(span, n, sum)
 }
 
 // The same of any span and weight, by two multiplications.
