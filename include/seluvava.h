@@ -37,7 +37,7 @@
  * or eight of 1920 by 1080. Take it where it is known that the total stays at or below that: with its work table a cut
  * needs 48 bytes a bin in place of 80; docs/SPEED.md has its times. Take the table of five numbers per bin, the wide
  * one, where weights or merges may carry the total further, and for load_ppm, compare, rescue, batch and replay, which
- * have no narrow form. A narrow table that gets too heavy is widened and goes on from there.
+ * have no narrow form. Where a load or a merge is refused with 15, widen makes the table to go on with.
  *
  * LENT BUFFERS. A buffer is a pointer and, right after it, its length in elements (not in bytes). A caller sees to
  * three things, and no call can test them: a pointer is aligned for its type and has that many elements behind it;

@@ -1,5 +1,6 @@
 -- What a function is told and what it ensures, where the layout is known: for those that ask for it and call the
 -- function of that layout.
+-- Assumes nothing.
 use mathlib.Core.Path.{_≡_, sym, subst}
 use mathlib.Core.Bool.{Bool}
 use mathlib.Core.List.{List}

@@ -197,15 +197,6 @@ module _ (l : Layout) (b1 b2 b3 : ℕ) (t s : TableIn l) where
       → total g (viewIn l t) + total g (viewIn l s) ≤ limitOf l → merge-number ≡ 0
   merge-accepts-in e first second one two under = sym (merge-done l b1 b2 b3 t s e first second one two under refl .0)
 
-  pub merge-size : (n : ℕ) → SizedIn l t n → SizedIn l merge-later n
-  merge-size n s = go merge-number refl
-    where
-      go : (m : ℕ) → merge-number ≡ m → SizedIn l merge-later n
-      go zero e =
-          let d = merge-says-in e in
-          subst (λ (m : ℕ). SizedIn l merge-later m) (sized-once l t (binsOf (d .g)) n (d .lent .0) s) (d .holds .lent)
-      go (suc m) e = subst (λ (x : TableIn l). SizedIn l x n) (sym (merge-refused-in e)) s
-
   module _ (e : merge-number ≡ 0) where
     pub merge-keeps : Sound (limitOf l) (merge-says-in e .g) (viewIn l merge-later)
     merge-keeps =
@@ -264,11 +255,6 @@ module _ (b1 b2 b3 : ℕ) (t s : Table) where
 
   pub merge-says : mergeNumber b1 b2 b3 t s ≡ 0 → MergeDone Wide b1 b2 b3 t s
   merge-says = merge-says-in Wide b1 b2 b3 t s
-
-  pub merge-accepts : {g : Grid} → gridOf b1 b2 b3 ≡ chosen.Accepted g → Sized t (binsOf g) → Sized s (binsOf g)
-      → sound limit g (viewOf t) ≡ true → sound limit g (viewOf s) ≡ true
-      → total g (viewOf t) + total g (viewOf s) ≤ limit → mergeNumber b1 b2 b3 t s ≡ 0
-  merge-accepts = merge-accepts-in Wide b1 b2 b3 t s
 
   pub merge-length : length (mergeLater b1 b2 b3 t s) ≡ length t
   merge-length =

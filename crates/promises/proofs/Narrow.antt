@@ -1,6 +1,6 @@
 -- The narrow layout beside the wide one (Rules, Layouts): on a table whose total is within the narrow limit, every call
--- gives what the wide one gives on the widened table, and its numbers and moments fit 32 bits. So all that is promised
--- of a wide cut is promised of a narrow one.
+-- gives what the wide one gives on the widened table, and its weights and sums and their moments fit 32 bits. So all that
+-- is promised of a wide cut is promised of a narrow one.
 -- Assumes nothing.
 use mathlib.Core.Path.{_≡_, refl, sym, ap, subst, _∙_}
 use mathlib.Core.Bool.{Bool, true, not, _&&_}

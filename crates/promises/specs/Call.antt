@@ -33,8 +33,8 @@ boxRead bytes i =
 
 -- what is told and left behind is the record r and the buffers after it: the boxes with their spreads in order, and
 -- behind them what stood there
-pub record TellsCut (layout : Layout) (r : CutRecord) (after : BuffersIn layout) (old : LentIn layout) (told : CutAnswer)
-    (later : LentIn layout) : Type 0 where
+pub record TellsCut (layout : Layout) (r : CutRecord) (after : BuffersIn layout) (old : LentIn layout)
+    (told : CutAnswer) (later : LentIn layout) : Type 0 where
   pub answer : told ≡ record { number = r .number; boxes = r .boxes; rounds = r .rounds }
   pub buffers : later .buffers ≡ after
   pub box : (i : ℕ) → i < r .boxes → boxRead (later .boxes) i ≡ boxIn r i

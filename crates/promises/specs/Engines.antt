@@ -23,7 +23,8 @@ withWork l work r = record { work = work; results = r }
 
 -- "the same boxes, order, palette, counts and map", with spreads, rounds and remainders, "and the same refusals"
 pub record SameEngines (l : Layout) (b1 b2 b3 k : ℕ) (t work : TableIn l) (r : Results) : Type 0 where
-  pub number : cutNumberIn l Bins b1 b2 b3 k t (withoutWork l r) ≡ cutNumberIn l Moments b1 b2 b3 k t (withWork l work r)
+  pub number : cutNumberIn l Bins b1 b2 b3 k t (withoutWork l r)
+      ≡ cutNumberIn l Moments b1 b2 b3 k t (withWork l work r)
   pub hands : cutRecordIn l Bins b1 b2 b3 k t (withoutWork l r) ≡ cutRecordIn l Moments b1 b2 b3 k t (withWork l work r)
   pub leaves : cutLaterIn l Bins b1 b2 b3 k t (withoutWork l r) .results
       ≡ cutLaterIn l Moments b1 b2 b3 k t (withWork l work r) .results

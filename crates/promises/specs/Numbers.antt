@@ -175,7 +175,8 @@ pub record OnGrid (b1 b2 b3 : ℕ) (Can : Grid → Type 0) : Type 0 where
   pub can : Can g
 
 -- of a load, no 3, 4, 5, 6, and no 7 or 15
-pub record CanLoad (l : Layout) (t : TableIn l) (colours : List ℕ) (weighted : Bool) (weights : List ℕ) (g : Grid) : Type 0
+pub record CanLoad (l : Layout) (t : TableIn l) (colours : List ℕ) (weighted : Bool) (weights : List ℕ) (g : Grid)
+    : Type 0
   where
     pub threes : length colours % 3 ≡ 0
     pub paired : weighted ≡ true → length weights ≡ length colours / 3

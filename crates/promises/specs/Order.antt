@@ -13,11 +13,14 @@ use Rattle.cutter.specs.Cut.{BuffersIn, cutRecordIn, cutLaterIn}
 
 -- two tables that a cut tells nothing apart by: the same boxes with their spreads, palette, counts, map and work table,
 -- and the same index for every pixel, which "is the map's byte at its bin"
-pub record SameCut (l : Layout) (source : Source) (g : Grid) (b1 b2 b3 k : ℕ) (b : BuffersIn l) (t s : TableIn l) : Type 0
+pub record SameCut (l : Layout) (source : Source) (g : Grid) (b1 b2 b3 k : ℕ) (b : BuffersIn l) (t s : TableIn l)
+    : Type 0
   where
     pub boxes : cutRecordIn l source b1 b2 b3 k t b ≡ cutRecordIn l source b1 b2 b3 k s b
-    pub palette : cutLaterIn l source b1 b2 b3 k t b .results .palette ≡ cutLaterIn l source b1 b2 b3 k s b .results .palette
-    pub counts : cutLaterIn l source b1 b2 b3 k t b .results .counts ≡ cutLaterIn l source b1 b2 b3 k s b .results .counts
+    pub palette : cutLaterIn l source b1 b2 b3 k t b .results .palette
+        ≡ cutLaterIn l source b1 b2 b3 k s b .results .palette
+    pub counts : cutLaterIn l source b1 b2 b3 k t b .results .counts
+        ≡ cutLaterIn l source b1 b2 b3 k s b .results .counts
     pub remainders : cutLaterIn l source b1 b2 b3 k t b .results .remainders
         ≡ cutLaterIn l source b1 b2 b3 k s b .results .remainders
     pub map : cutLaterIn l source b1 b2 b3 k t b .results .map ≡ cutLaterIn l source b1 b2 b3 k s b .results .map

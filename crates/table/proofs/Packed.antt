@@ -9,7 +9,7 @@ use native.Mathlib.Nat.{zero-add, mul-add, mul-assoc, mul-le-mul, div-add-mod', 
 use native.Mathlib.Decide.{ℕ-discrete, decLe}
 use native.Mathlib.Omega.{arith}
 use borrow.Author.Tests.{eq-eqb, ne-eqb, lt-ltb, le-ltb, le-leb, lt-leb, leb-true, leb-false}
-use lib.Dec.{eqb, ltb, leb, lit<}
+use lib.Dec.{ltb, leb, lit<}
 use lib.ListN.{length, getD, set, length-set}
 use lib.Seq.{getD-set-same, getD-set-other}
 use Rattle.grid.specs.declared.place.Grid.{Grid}

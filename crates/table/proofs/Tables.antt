@@ -2,23 +2,20 @@
 -- no inside of them.
 -- Assumes nothing.
 use mathlib.Core.Path.{_≡_, refl, sym, ap, _∙_}
-use mathlib.Core.Bool.{true, false, cond}
+use mathlib.Core.Bool.{true, false}
 use Prim.Native.Nat.{ℕ, zero, suc, _+_, _*_, _/_, _%_, _<_}
 use native.Mathlib.Nat.{add-zero}
-use native.Mathlib.Decide.{ℕ-discrete}
 use native.Mathlib.Omega.{arith}
 use borrow.Author.Tests.{eq-eqb, ne-eqb, eqb-true}
-use lib.Dec.{eqb}
 use lib.ListN.{length, getD, set, replicate, length-set, length-replicate, getD-replicate}
 use lib.Seq.{getD-set-same, getD-set-other}
 use Rattle.basics.proofs.Range.{length-list, list-at, list-is}
 use Rattle.table.specs.declared.cell.Cell.{Cell}
 use Rattle.table.specs.declared.layout.Layout.{Layout}
 use Rattle.table.specs.declared.layout.Layout.the-variants.{Wide}
-use Rattle.table.specs.Cell.{View, zeros, numberOf, cellOf, plusCell}
+use Rattle.table.specs.Cell.{View, zeros, numberOf}
 use Rattle.table.specs.Layout.{TableIn, SizedIn, viewIn}
 use Rattle.table.specs.Table.{Table, tableLen, Sized, isSized, viewOf, written, emptyOf, putAt, HasCell}
-use Rattle.table.proofs.Cells.{number-cell, number-plus}
 
 -- ---- size
 module _ {t : Table} {n : ℕ} where

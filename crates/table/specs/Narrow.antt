@@ -8,7 +8,7 @@ use lib.Dec.{eqb, ltb}
 use lib.ListN.{length, getD, set, replicate}
 use Rattle.basics.specs.Range.{listFrom}
 use Rattle.table.specs.declared.cell.Cell.{Cell}
-use Rattle.table.specs.Cell.{View, numberOf}
+use Rattle.table.specs.Cell.{View}
 
 -- "weight and sums as four 32-bit numbers a bin, squares apart as 64-bit"
 pub record NarrowTable : Type 0 where

@@ -1,6 +1,5 @@
 -- Sound tables (Rules, Sound), over a view and for any limit of the total. Definitions only.
 use mathlib.Core.Bool.{Bool, _&&_, cond}
-use mathlib.Core.Path.{_≡_}
 use mathlib.Core.List.{[], _∷_}
 use Prim.Native.Nat.{ℕ, _+_, _*_, _≤_}
 use lib.Dec.{leb}

@@ -31,7 +31,8 @@ unfoldable pub rowSpans : Grid → ℕ → ℕ → RowSpans
 rowSpans g r gr =
     let s1 = spanOf (g .shift1) r in
     let s2 = spanOf (g .shift2) gr in
-    record { one = packedSpan s1; two = packedSpan s2; squares = packedSpan (plusSpan (squaredSpan s1) (squaredSpan s2)) }
+    let squares = plusSpan (squaredSpan s1) (squaredSpan s2) in
+    record { one = packedSpan s1; two = packedSpan s2; squares = packedSpan squares }
 
 -- the third spans of a grid, two numbers for each bin: its span and the squares of that
 unfoldable pub spanNumber : Grid → ℕ → ℕ

@@ -1,5 +1,5 @@
-// The total with one row of bins. Each layout has a loop of its own, so that it is asked for once a row and not at each
-// bin.
+// The total with one row of bins. Each layout has a loop of its own, so that the layout is asked for once a row and not
+// at each bin.
 use crate::layout::Layout;
 use crate::layout::cell_in;
 use crate::sound::LIMIT;
@@ -20,7 +20,7 @@ ghost use Rattle.table.specs.Sound.{limit, limitOf, Row};
 ghost use Rattle.table.specs.Spans.{SpanTable};
 ghost use Rattle.table.specs.Inner.{scanned};
 
-// In the wide layout.
+// The total with one row, in the wide layout.
 fn wide_row_total(
     table: &[u64],
     g: Grid,
@@ -51,7 +51,7 @@ fn wide_row_total(
     SoundTotal::Total(total)
 }
 
-// In the narrow layout.
+// The total with one row, in the narrow layout.
 fn narrow_row_total(
     sums: &[u32],
     squares: &[u64],
@@ -85,7 +85,7 @@ fn narrow_row_total(
     SoundTotal::Total(total)
 }
 
-// By the layout.
+// The total with one row, by the layout.
 pub(crate) fn row_total(
     layout: Layout,
     small: &[u32],

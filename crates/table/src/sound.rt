@@ -54,7 +54,7 @@ fn lies_between(span: u64, n: u64, sum: u64) -> bool
     lies_far_between(span, n, sum)
 }
 
-// The same of any span and weight, by two multiplications.
+// The same of a span of squares too, and of any weight within the limit, by two multiplications.
 fn lies_far_between(span: u64, n: u64, sum: u64) -> bool
     requires { ⌜ SpanBelow 195075 (toldSpan span) × (n ≤ limit) ⌝ }
     ensures { λ r. ⌜ r ≡ between (toldSpan span) n sum ⌝ }
@@ -79,7 +79,7 @@ fn is_bare(c: Cell) -> bool
 }
 
 // Whether a bin keeps its own bounds, with a weight that is not past the limit by itself: by the spans of its row and
-// those of the third dimension. The contract alone names the bin's row.
+// those of the third dimension. The contract alone names the grid and the bin's row.
 pub fn keeps_bounds(
     g: Grid,
     row: RowSpans,

@@ -1,5 +1,5 @@
-// The spans of bins, each packed into one number: its low, and 2^32 times what its high has more. One look at a table
-// then gives both ends of a span, and one multiplication by a weight both bounds of a sum.
+// The spans of bins, each packed into one number: its low, and 2^32 times what its high has more. One number read then
+// gives both ends of a span, and one multiplication by a weight both bounds of a sum.
 use grid::dimension::Span;
 use grid::dimension::span_of;
 use grid::place::Grid;
@@ -35,6 +35,7 @@ pub struct RowSpans {
     pub squares: u64,
 }
 
+// Those of a row.
 pub fn row_spans(g: Grid, r: usize, gr: usize) -> RowSpans
     requires { ⌜ Inside g r gr 0 ⌝ }
     ensures { λ w. ⌜ w ≡ rowSpans g r gr ⌝ }

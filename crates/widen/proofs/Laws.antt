@@ -1,7 +1,7 @@
 -- What a caller of widen may use without seeing inside its definitions: the widened table holds what the narrow one
 -- does, and what its answer tells.
 -- Assumes nothing.
-use mathlib.Core.Path.{_≡_, refl, sym, _∙_}
+use mathlib.Core.Path.{_≡_, refl, sym}
 use mathlib.Core.Bool.{Bool, true, not, _&&_}
 use Prim.Native.Nat.{ℕ, suc}
 use borrow.Author.Tests.{not-false}
@@ -17,10 +17,10 @@ use Rattle.table.specs.Cell.{View}
 use Rattle.table.specs.Table.{Table, Sized, isSized}
 use Rattle.table.specs.Narrow.{NarrowTable, narrowView}
 use Rattle.table.specs.Layout.{SizedIn, isSizedIn}
-use Rattle.table.specs.Sound.{limit, limitOf, total, sound}
+use Rattle.table.specs.Sound.{limitOf, sound}
 use Rattle.table.proofs.Tables.{Holds, test-sized, list-holds}
 use Rattle.table.proofs.Layouts.{sized-in, HoldsIn, holds-same-in}
-use Rattle.table.proofs.Soundness.{Sound, sound-same, total-same, sound-in}
+use Rattle.table.proofs.Soundness.{Sound}
 use Rattle.widen.specs.Widen.{widened, widenNumberOn, widenOn, widenNumber, widenLater}
 use Rattle.widen.proofs.Calls.{widen-after, all-done}
 
