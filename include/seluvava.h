@@ -12,7 +12,9 @@
  * tells where two tables differ, rescue clears what is damaged in a table, cut makes of a table a palette of at most
  * 256 colours and a map to it, cut_slowly does so without a work table, and map and paint take the pixels of a frame to
  * that palette. begin, reload and batch record frames that were sampled at an interval, and replay does a whole list of
- * such reloads and batches. nearest gives each colour of a palette its number in a terminal.
+ * such reloads and batches. nearest gives each colour of a palette its number in a terminal. narrow_load, narrow_merge,
+ * narrow_cut and narrow_cut_slowly do with smaller tables what the calls without that word do, and widen makes a table
+ * of such a one.
  * docs/CHOOSING.md has what to know first: which grid, what comes back inexactly, how to save a table.
  * docs/INTERVALS.md has a recording as an example, with every answer, and docs/RESCUE.md a night with one bad page of
  * memory.
@@ -28,6 +30,15 @@
  * squares lie between n times the sum of the three squared lows and n times that of the three squared highs, and all
  * weights total at most 4,294,967,295. What load and merge make of sound tables is sound.
  *
+ * NARROW TABLE. The same five numbers per bin in two lists, 24 bytes a bin in place of 40: the sums, four 32-bit
+ * numbers per bin from 4 * place on, weight n and the three component sums; and the squares, one 64-bit number per bin,
+ * at its place. An empty narrow table is all zeros in both. Its total is at most 16,843,008, up to which no sum reaches
+ * 2^32: this is the limit of a sound narrow table, and all else of it is as above. Two 4K frames fit, pixel by pixel,
+ * or eight of 1920 by 1080. Take it where it is known that the total stays at or below that: with its work table a cut
+ * needs 48 bytes a bin in place of 80; docs/SPEED.md has its times. Take the table of five numbers per bin, the wide
+ * one, where weights or merges may carry the total further, and for load_ppm, compare, rescue, batch and replay, which
+ * have no narrow form. Where a load or a merge is refused with 15, widen makes the table to go on with.
+ *
  * LENT BUFFERS. A buffer is a pointer and, right after it, its length in elements (not in bytes). A caller sees to
  * three things, and no call can test them: a pointer is aligned for its type and has that many elements behind it;
  * no buffer that is not const overlaps another one lent to the same call (so no table is merged into itself); and
@@ -35,17 +46,17 @@
  * never looked at, so its pointer may be NULL; 0 is a length like any other, accepted or refused as each call says.
  * Buffers that are const are only read: they may overlap each other, and any number of calls may read them at once.
  *
- * ROUNDING. Both cuts work in double, each operation rounded once to nearest, as every C program begins. A caller that
- * has changed the rounding mode (fesetround) sets it back to FE_TONEAREST before either: in another mode its boxes may
- * be others. Of the other calls none works in double. The flush modes of the processor, flush-to-zero and
+ * ROUNDING. All cuts work in double, each operation rounded once to nearest, as every C program begins. A caller that
+ * has changed the rounding mode (fesetround) sets it back to FE_TONEAREST before each: in another mode its boxes may be
+ * others. Of the other calls none works in double. The flush modes of the processor, flush-to-zero and
  * denormals-are-zero, may be as they like: no spread and no score is so small.
  *
  * NEEDS. No call keeps anything, allocates, waits or fails in any other way than by its number. A stack of 64 KiB is
  * enough for each, as tests/stack.c measures. Of a C library the archive takes memcpy and memset and nothing else; a
  * program without one brings these two.
  *
- * ANSWERS. What load, load_ppm, merge, rescue, batch, map, paint and nearest hand back, and ppm_header, compare, begin,
- * reload, replay, cut and cut_slowly in `number`:
+ * ANSWERS. What load, load_ppm, merge, rescue, batch, map, paint, nearest, narrow_load, narrow_merge and widen hand
+ * back, and ppm_header, compare, begin, reload, replay, cut, cut_slowly, narrow_cut and narrow_cut_slowly in `number`:
  *
  *   0  done
  *   1  a grid size not among the seven
@@ -62,10 +73,12 @@
  *  12  a PPM has more or fewer bytes of pixels than its header says
  *  13  an interval outside 1..4,096
  *  14  the interval of a batch is not the one in force
+ *  15  the total after a narrow load or a narrow merge would pass 16,843,008
  *
  * The lowest answer from 1 to 9 that applies is given; where none applies, the answer is 0. 10, 11 and 12 come before
- * 1, in that order, and so do 13 and 14, which no call answers that answers one of these. Any answer but 0 is a refusal,
- * which writes nothing: every lent byte stays as it was.
+ * 1, in that order, and so do 13 and 14, which no call answers that answers one of these. 15 stands in the place of 7:
+ * the calls that answer it do not answer 7, and they answer it where none of 1 to 9 applies. Any answer but 0 is a
+ * refusal, which writes nothing: every lent byte stays as it was.
  */
 #ifndef SELUVAVA_H
 #define SELUVAVA_H
@@ -79,13 +92,16 @@ extern "C" {
 #endif
 
 /* The version of the calls, the crate for Rust and the pages. */
-#define SELUVAVA_VERSION "0.7.0"
+#define SELUVAVA_VERSION "0.8.0"
 #define SELUVAVA_VERSION_MAJOR 0
-#define SELUVAVA_VERSION_MINOR 7
+#define SELUVAVA_VERSION_MINOR 8
 #define SELUVAVA_VERSION_PATCH 0
 
 /* The three sizes for RGB, as every call takes them: 8,192 bins. */
 #define SELUVAVA_RGB 16, 32, 16
+
+/* The largest total of a sound narrow table; a load or a merge that would pass it is refused with 15. */
+#define SELUVAVA_NARROW_TOTAL 16843008
 
 /* How many bins a grid has: b1 * b2 * b3, or 0 where a size is not among the seven. */
 size_t seluvava_bins(size_t b1, size_t b2, size_t b3);
@@ -351,6 +367,100 @@ seluvava_cut_slowly(size_t b1, size_t b2, size_t b3, size_t k,
                     uint8_t *map, size_t map_len,
                     uint8_t *boxes, size_t boxes_len,
                     double *spreads, size_t spreads_len);
+
+/*
+ * Narrow load: what load does, with a narrow table. It leaves the five numbers per bin that load leaves.
+ *
+ *   sums      4 * bins numbers, and
+ *   squares   bins numbers: a narrow table, sound. Both are changed.
+ *   colours, weighted, weights
+ *             as for load.
+ *
+ * Answers 0, 1, 3, 4, 5, 6, 15.
+ */
+uint8_t seluvava_narrow_load(size_t b1, size_t b2, size_t b3,
+                             uint32_t *sums, size_t sums_len,
+                             uint64_t *squares, size_t squares_len,
+                             const uint8_t *colours, size_t colours_len,
+                             bool weighted,
+                             const uint32_t *weights, size_t weights_len);
+
+/*
+ * Narrow merge: adds a second narrow table into a first, number by number.
+ *
+ *   sums, squares
+ *             a narrow table, as for narrow_load. Both are changed.
+ *   second_sums, second_squares
+ *             4 * bins numbers and bins numbers: another one, sound.
+ *
+ * Answers 0, 1, 5, 6, 15.
+ */
+uint8_t seluvava_narrow_merge(size_t b1, size_t b2, size_t b3,
+                              uint32_t *sums, size_t sums_len,
+                              uint64_t *squares, size_t squares_len,
+                              const uint32_t *second_sums, size_t second_sums_len,
+                              const uint64_t *second_squares, size_t second_squares_len);
+
+/*
+ * Narrow cut: what cut does, with a narrow table and a narrow work table. Answer and results are those of cut on the
+ * widened table, to the bit.
+ *
+ *   sums, squares
+ *             4 * bins numbers and bins numbers: a narrow table, sound, with a total above 0.
+ *   work_sums, work_squares
+ *             4 * bins numbers and bins numbers, whatever they are. Afterwards the moments, laid out alike.
+ *   palette, counts, remainders, map, boxes, spreads
+ *             as for cut.
+ *
+ * Answers 0, 1, 2, 5, 6, 8.
+ */
+struct seluvava_cut_answer
+seluvava_narrow_cut(size_t b1, size_t b2, size_t b3, size_t k,
+                    const uint32_t *sums, size_t sums_len,
+                    const uint64_t *squares, size_t squares_len,
+                    uint32_t *work_sums, size_t work_sums_len,
+                    uint64_t *work_squares, size_t work_squares_len,
+                    uint8_t *palette, size_t palette_len,
+                    uint32_t *counts, size_t counts_len,
+                    uint32_t *remainders, size_t remainders_len,
+                    uint8_t *map, size_t map_len,
+                    uint8_t *boxes, size_t boxes_len,
+                    double *spreads, size_t spreads_len);
+
+/*
+ * Narrow cut, slowly: what narrow_cut does, without a work table, as cut_slowly. Answer and results are those of
+ * narrow_cut, to the bit, and so are the refusals, but for the one of the work table's lengths.
+ *
+ *   sums, squares, palette, counts, remainders, map, boxes, spreads
+ *             as for narrow_cut.
+ *
+ * Answers 0, 1, 2, 5, 6, 8.
+ */
+struct seluvava_cut_answer
+seluvava_narrow_cut_slowly(size_t b1, size_t b2, size_t b3, size_t k,
+                           const uint32_t *sums, size_t sums_len,
+                           const uint64_t *squares, size_t squares_len,
+                           uint8_t *palette, size_t palette_len,
+                           uint32_t *counts, size_t counts_len,
+                           uint32_t *remainders, size_t remainders_len,
+                           uint8_t *map, size_t map_len,
+                           uint8_t *boxes, size_t boxes_len,
+                           double *spreads, size_t spreads_len);
+
+/*
+ * Widen: writes the table of a narrow one, the same five numbers per bin. It is sound, with the same total, and a cut
+ * of it gives what narrow_cut gives.
+ *
+ *   sums, squares
+ *             4 * bins numbers and bins numbers: a narrow table, sound.
+ *   table     5 * bins numbers, whatever they are: they are not looked at. Afterwards the table.
+ *
+ * Answers 0, 1, 5, 6.
+ */
+uint8_t seluvava_widen(size_t b1, size_t b2, size_t b3,
+                       const uint32_t *sums, size_t sums_len,
+                       const uint64_t *squares, size_t squares_len,
+                       uint64_t *table, size_t table_len);
 
 /*
  * Map: writes the index of each pixel of a band, which is the map's byte at the pixel's bin. The band is the

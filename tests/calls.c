@@ -2,8 +2,8 @@
  * Every call of seluvava.h, held to docs/RULES.md: the cases P1 to P10, every number of every call, alone and two
  * at a time, lengths one off, NULL with length 0, bands, batches and frames of every length up to 200, every
  * recorded list of up to three entries out of ten, PPM files cut at every byte and with every byte in the place of
- * each of their headers, palettes of every length, and both cuts of the same tables, which have to leave the same; and
- * all of it once more with the processor's flush modes set.
+ * each of their headers, palettes of every length, and all cuts of the same tables, fast and slow, wide and narrow,
+ * which have to leave the same; and all of it once more with the processor's flush modes set.
  * What a lent buffer must hold afterwards is said here once more, in C, by the same rules.
  */
 #define _DEFAULT_SOURCE
@@ -16,13 +16,14 @@
 #include <sys/mman.h>
 
 #define LIMIT UINT64_C(4294967295)
+#define NARROW_LIMIT UINT64_C(16843008)
 #define PIXELS 200
 
 /* ---- What a call is asked with */
 
 enum buffer {
     TABLE, SECOND, DIFFERENCES, REASONS, WORK, COLOURS, WEIGHTS, PPM, ENTRIES, ANSWERS, PALETTE, COUNTS, REMAINDERS,
-    MAP, BOXES, SPREADS, FRAME, INDICES, BUFFERS
+    MAP, BOXES, SPREADS, FRAME, INDICES, SUMS, SQUARES, SECOND_SUMS, SECOND_SQUARES, WORK_SUMS, WORK_SQUARES, BUFFERS
 };
 
 /* Numbers, and the length and content of each buffer. Grids have at most 64 bins here. `own` is the interval of a batch
@@ -41,6 +42,8 @@ struct asked {
     uint8_t map[65], boxes[1560];
     double spreads[260];
     uint8_t frame[3 * PIXELS], indices[PIXELS];
+    uint32_t sums[257], second_sums[257], work_sums[257];
+    uint64_t squares[65], second_squares[65], work_squares[65];
 };
 
 #define AT(member) offsetof(struct asked, member), sizeof(((struct asked *)0)->member)
@@ -59,13 +62,20 @@ static const struct {
     [BOXES] = {"boxes", AT(boxes), 1},       [SPREADS] = {"spreads", AT(spreads), 8},
     [FRAME] = {"frame", AT(frame), 1},       [INDICES] = {"indices", AT(indices), 1},
     [REASONS] = {"reasons", AT(reasons), 1},
+    [SUMS] = {"sums", AT(sums), 4},          [SECOND_SUMS] = {"second sums", AT(second_sums), 4},
+    [SQUARES] = {"squares", AT(squares), 8}, [SECOND_SQUARES] = {"second squares", AT(second_squares), 8},
+    [WORK_SUMS] = {"work sums", AT(work_sums), 4},
+    [WORK_SQUARES] = {"work squares", AT(work_squares), 8},
 };
 
 /* Which buffers a call is lent, and which of them it may change. */
 enum call {
-    LOAD, LOAD_PPM, MERGE, COMPARE, RESCUE, BATCH, REPLAY, CUT, CUT_SLOWLY, MAPPING, PAINT, HEADER, NEAREST, CALLS
+    LOAD, LOAD_PPM, MERGE, COMPARE, RESCUE, BATCH, REPLAY, CUT, CUT_SLOWLY, MAPPING, PAINT, HEADER, NEAREST,
+    NARROW_LOAD, NARROW_MERGE, NARROW_CUT, NARROW_CUT_SLOWLY, WIDEN, CALLS
 };
 #define BIT(n) (1u << (n))
+#define NARROW_TABLE (BIT(SUMS) | BIT(SQUARES))
+#define NARROW_WORK (BIT(WORK_SUMS) | BIT(WORK_SQUARES))
 #define RESULTS (BIT(PALETTE) | BIT(COUNTS) | BIT(REMAINDERS) | BIT(MAP) | BIT(BOXES) | BIT(SPREADS))
 
 static const struct {
@@ -86,6 +96,11 @@ static const struct {
     [PAINT] = {"paint", BIT(MAP) | BIT(PALETTE) | BIT(FRAME), BIT(FRAME)},
     [HEADER] = {"ppm_header", BIT(PPM), 0},
     [NEAREST] = {"nearest", BIT(PALETTE) | BIT(ANSWERS), BIT(ANSWERS)},
+    [NARROW_LOAD] = {"narrow_load", NARROW_TABLE | BIT(COLOURS) | BIT(WEIGHTS), NARROW_TABLE},
+    [NARROW_MERGE] = {"narrow_merge", NARROW_TABLE | BIT(SECOND_SUMS) | BIT(SECOND_SQUARES), NARROW_TABLE},
+    [NARROW_CUT] = {"narrow_cut", NARROW_TABLE | NARROW_WORK | RESULTS, NARROW_WORK | RESULTS},
+    [NARROW_CUT_SLOWLY] = {"narrow_cut_slowly", NARROW_TABLE | RESULTS, RESULTS},
+    [WIDEN] = {"widen", NARROW_TABLE | BIT(TABLE), BIT(TABLE)},
 };
 
 /* What a call hands back, of whatever it has. */
@@ -156,6 +171,39 @@ static struct answer answer_of(enum call call, const struct asked *q, void *cons
         answer = (struct answer){.number = cut.number, .boxes = cut.boxes, .rounds = cut.rounds};
         break;
     }
+    case NARROW_LOAD:
+        answer.number = seluvava_narrow_load(b1, b2, b3, at[SUMS], length[SUMS], at[SQUARES], length[SQUARES],
+                                             at[COLOURS], length[COLOURS], q->weighted != 0, at[WEIGHTS],
+                                             length[WEIGHTS]);
+        break;
+    case NARROW_MERGE:
+        answer.number = seluvava_narrow_merge(b1, b2, b3, at[SUMS], length[SUMS], at[SQUARES], length[SQUARES],
+                                              at[SECOND_SUMS], length[SECOND_SUMS],
+                                              at[SECOND_SQUARES], length[SECOND_SQUARES]);
+        break;
+    case NARROW_CUT: {
+        const struct seluvava_cut_answer cut =
+            seluvava_narrow_cut(b1, b2, b3, q->k, at[SUMS], length[SUMS], at[SQUARES], length[SQUARES],
+                                at[WORK_SUMS], length[WORK_SUMS], at[WORK_SQUARES], length[WORK_SQUARES],
+                                at[PALETTE], length[PALETTE], at[COUNTS], length[COUNTS],
+                                at[REMAINDERS], length[REMAINDERS], at[MAP], length[MAP],
+                                at[BOXES], length[BOXES], at[SPREADS], length[SPREADS]);
+        answer = (struct answer){.number = cut.number, .boxes = cut.boxes, .rounds = cut.rounds};
+        break;
+    }
+    case NARROW_CUT_SLOWLY: {
+        const struct seluvava_cut_answer cut =
+            seluvava_narrow_cut_slowly(b1, b2, b3, q->k, at[SUMS], length[SUMS], at[SQUARES], length[SQUARES],
+                                       at[PALETTE], length[PALETTE], at[COUNTS], length[COUNTS],
+                                       at[REMAINDERS], length[REMAINDERS], at[MAP], length[MAP],
+                                       at[BOXES], length[BOXES], at[SPREADS], length[SPREADS]);
+        answer = (struct answer){.number = cut.number, .boxes = cut.boxes, .rounds = cut.rounds};
+        break;
+    }
+    case WIDEN:
+        answer.number = seluvava_widen(b1, b2, b3, at[SUMS], length[SUMS], at[SQUARES], length[SQUARES],
+                                       at[TABLE], length[TABLE]);
+        break;
     case MAPPING:
         answer.number = seluvava_map(b1, b2, b3, at[MAP], length[MAP], q->told, at[FRAME], length[FRAME],
                                      at[INDICES], length[INDICES], q->first, q->pixels);
@@ -428,6 +476,53 @@ static void painted(struct asked *q)
         memcpy(q->frame + 3 * p, q->palette + 3 * q->map[place(q, q->frame + 3 * p)], 3);
 }
 
+/* A narrow table as five numbers a bin, and back. */
+static void widened(const uint32_t *sums, const uint64_t *squares, size_t bins, uint64_t *table)
+{
+    for (size_t p = 0; p < bins; p++) {
+        for (size_t j = 0; j < 4; j++) table[5 * p + j] = sums[4 * p + j];
+        table[5 * p + 4] = squares[p];
+    }
+}
+
+static void narrowed(const uint64_t *table, size_t bins, uint32_t *sums, uint64_t *squares)
+{
+    for (size_t p = 0; p < bins; p++) {
+        for (size_t j = 0; j < 4; j++) sums[4 * p + j] = (uint32_t)table[5 * p + j];
+        squares[p] = table[5 * p + 4];
+    }
+}
+
+/* What a load leaves of the same numbers. */
+static void narrow_loaded(struct asked *q)
+{
+    struct asked wide = *q;
+    widened(q->sums, q->squares, q->length[SQUARES], wide.table);
+    loaded(&wide);
+    narrowed(wide.table, q->length[SQUARES], q->sums, q->squares);
+}
+
+static void narrow_merged(struct asked *q)
+{
+    for (size_t i = 0; i < q->length[SUMS]; i++) q->sums[i] += q->second_sums[i];
+    for (size_t i = 0; i < q->length[SQUARES]; i++) q->squares[i] += q->second_squares[i];
+}
+
+/* What a cut leaves of the same numbers, the moments where there is a work table. */
+static void narrow_cut(struct asked *q, struct answer answer, const uint8_t *bounds, const double *spreads, bool works)
+{
+    struct asked wide = *q;
+    widened(q->sums, q->squares, q->length[SQUARES], wide.table);
+    cut(&wide, answer, bounds, spreads);
+    if (works) {
+        moments(&wide);
+        narrowed(wide.work, q->length[SQUARES], wide.work_sums, wide.work_squares);
+    }
+    memcpy(wide.table, q->table, sizeof q->table);
+    memcpy(wide.work, q->work, sizeof q->work);
+    *q = wide;
+}
+
 /* The colour of a terminal's number, by the rule of the levels. */
 static void fixed_colour(unsigned number, int *colour)
 {
@@ -521,6 +616,11 @@ static struct answer ask(enum call call, struct asked *q, unsigned number, const
     else if (call == CUT_SLOWLY) cut(q, answer, at[BOXES], at[SPREADS]);
     else if (call == MAPPING) mapped(q);
     else if (call == PAINT) painted(q);
+    else if (call == NARROW_LOAD) narrow_loaded(q);
+    else if (call == NARROW_MERGE) narrow_merged(q);
+    else if (call == NARROW_CUT) narrow_cut(q, answer, at[BOXES], at[SPREADS], true);
+    else if (call == NARROW_CUT_SLOWLY) narrow_cut(q, answer, at[BOXES], at[SPREADS], false);
+    else if (call == WIDEN) widened(q->sums, q->squares, q->length[SQUARES], q->table);
     else numbered(q);
     for (size_t b = 0; b < BUFFERS; b++) {
         const size_t size = q->length[b] * buffers[b].element;
@@ -531,16 +631,42 @@ static struct answer ask(enum call call, struct asked *q, unsigned number, const
     return answer;
 }
 
-/* Asks both cuts, which have to tell and to leave the same; only a work table is left by the first alone. */
+/* Lays the table out narrow too, with a work table; whether its total is one that a narrow table takes. */
+static bool lay_narrow(struct asked *q)
+{
+    const size_t bins = q->length[TABLE] / 5;
+    uint64_t total = 0;
+    for (size_t p = 0; p < bins; p++) total += q->table[5 * p];
+    narrowed(q->table, bins, q->sums, q->squares);
+    q->length[SUMS] = q->length[WORK_SUMS] = 4 * bins;
+    q->length[SQUARES] = q->length[WORK_SQUARES] = bins;
+    return total <= NARROW_LIMIT;
+}
+
+/* Asks all cuts, which have to tell and to leave the same, but for what is left in work tables: the narrow ones where
+ * the total is one of a narrow table, and then also widens, which has to give the table back. */
 static struct answer ask_cuts(struct asked *q, unsigned number, const char *what, const char *and)
 {
-    struct asked slow = *q;
-    const struct answer answer = ask(CUT, q, number, what, and), slowly = ask(CUT_SLOWLY, &slow, number, what, and);
-    check(slowly.boxes == answer.boxes, "%zu boxes and not %zu", slowly.boxes, answer.boxes);
-    check(slowly.rounds == answer.rounds, "%zu rounds and not %zu", slowly.rounds, answer.rounds);
-    for (size_t b = 0; b < BUFFERS; b++) {
-        const unsigned char *one = (unsigned char *)q + buffers[b].at, *two = (unsigned char *)&slow + buffers[b].at;
-        check(!(RESULTS & BIT(b)) || memcmp(one, two, buffers[b].room) == 0, "%s of the two differ", buffers[b].name);
+    static const enum call others[] = {CUT_SLOWLY, NARROW_CUT, NARROW_CUT_SLOWLY};
+    struct asked before = *q;
+    const bool narrow = lay_narrow(&before);
+    const struct answer answer = ask(CUT, q, number, what, and);
+    for (size_t i = 0; i < (narrow ? COUNT(others) : 1); i++) {
+        struct asked other = before;
+        const struct answer told = ask(others[i], &other, number, what, and);
+        check(told.boxes == answer.boxes, "%zu boxes and not %zu", told.boxes, answer.boxes);
+        check(told.rounds == answer.rounds, "%zu rounds and not %zu", told.rounds, answer.rounds);
+        for (size_t b = 0; b < BUFFERS; b++) {
+            const unsigned char *one = (unsigned char *)q + buffers[b].at;
+            const unsigned char *two = (unsigned char *)&other + buffers[b].at;
+            check(!(RESULTS & BIT(b)) || memcmp(one, two, buffers[b].room) == 0, "%s differ", buffers[b].name);
+        }
+    }
+    if (narrow && number == 0) {
+        struct asked wide = before;
+        memset(wide.table, 0xa5, sizeof wide.table);
+        ask(WIDEN, &wide, 0, what, and);
+        check(memcmp(wide.table, q->table, q->length[TABLE] * sizeof *q->table) == 0, "another table is widened");
     }
     return answer;
 }
@@ -693,26 +819,34 @@ static struct asked good(void)
     q.length[PALETTE] = q.length[REMAINDERS] = 9;
     q.length[COUNTS] = q.length[SPREADS] = 3;
     q.length[BOXES] = 18;
+    q.length[SECOND_SUMS] = 256, q.length[SECOND_SQUARES] = 64;
     memset(q.table, 0, 320 * sizeof *q.table);
     loaded(&q);
     memcpy(q.second, q.table, sizeof q.second);
+    lay_narrow(&q);
+    memcpy(q.second_sums, q.sums, sizeof q.second_sums);
+    memcpy(q.second_squares, q.squares, sizeof q.second_squares);
     return q;
 }
 
 #define PUT(member, value) AT(member), value
 #define TWO (BIT(MERGE) | BIT(COMPARE))
 #define LOADS (BIT(LOAD) | BIT(BATCH))
-#define CUTS (BIT(CUT) | BIT(CUT_SLOWLY))
-#define TABLES (LOADS | BIT(LOAD_PPM) | TWO | BIT(RESCUE) | BIT(REPLAY) | CUTS)
+#define WIDE_CUTS (BIT(CUT) | BIT(CUT_SLOWLY))
+#define NARROW_CUTS (BIT(NARROW_CUT) | BIT(NARROW_CUT_SLOWLY))
+#define CUTS (WIDE_CUTS | NARROW_CUTS)
+#define TABLES (LOADS | BIT(LOAD_PPM) | TWO | BIT(RESCUE) | BIT(REPLAY) | WIDE_CUTS)
+#define NARROW_CALLS (BIT(NARROW_LOAD) | BIT(NARROW_MERGE) | NARROW_CUTS | BIT(WIDEN))
 #define FRAMES (BIT(MAPPING) | BIT(PAINT))
-#define GRIDS (TABLES | FRAMES)
+#define GRIDS (TABLES | FRAMES | NARROW_CALLS)
 #define FILES (BIT(LOAD_PPM) | BIT(HEADER))
 
 /* Who looks at 32 bits alone takes it for n. */
 #define MORE_THAN(n) ((UINT64_C(1) << 32) + (n))
 
-/* One number of what is good, changed, and what each of these calls then answers. Place 16, from table[80] on, is the
- * bin of 64..127, 0..127, 0..31; it holds (100, 5, 9) with weight 2. The total is 13, and that of a batch is 39. */
+/* One number of what is good, changed, and what each of these calls then answers. Place 16, from table[80] and sums[64]
+ * on, is the bin of 64..127, 0..127, 0..31; it holds (100, 5, 9) with weight 2. The total is 13, and that of a batch is
+ * 39. */
 static const struct change {
     unsigned calls, number;
     const char *what;
@@ -762,18 +896,36 @@ static const struct change {
     {CUTS, 2, "k 257", PUT(k, 257)},
     {CUTS, 2, "k 3 and 2^32", PUT(k, MORE_THAN(3))},
     {CUTS, 2, "k the largest number", PUT(k, SIZE_MAX)},
-    {LOADS, 3, "colours one byte short", PUT(length[COLOURS], 14)},
-    {LOADS, 3, "colours one byte long", PUT(length[COLOURS], 16)},
+    {LOADS | BIT(NARROW_LOAD), 3, "colours one byte short", PUT(length[COLOURS], 14)},
+    {LOADS | BIT(NARROW_LOAD), 3, "colours one byte long", PUT(length[COLOURS], 16)},
     {FRAMES, 3, "frame one byte short", PUT(length[FRAME], 14)},
     {FRAMES, 3, "frame one byte long", PUT(length[FRAME], 16)},
-    {LOADS, 4, "weights one short", PUT(length[WEIGHTS], 4)},
-    {LOADS, 4, "weights one long", PUT(length[WEIGHTS], 6)},
-    {LOADS, 4, "no weights", PUT(length[WEIGHTS], 0)},
-    {LOADS, 4, "one colour", PUT(length[COLOURS], 3)},
+    {LOADS | BIT(NARROW_LOAD), 4, "weights one short", PUT(length[WEIGHTS], 4)},
+    {LOADS | BIT(NARROW_LOAD), 4, "weights one long", PUT(length[WEIGHTS], 6)},
+    {LOADS | BIT(NARROW_LOAD), 4, "no weights", PUT(length[WEIGHTS], 0)},
+    {LOADS | BIT(NARROW_LOAD), 4, "one colour", PUT(length[COLOURS], 3)},
     {GRIDS, 5, "another grid", PUT(b1, 2)},
-    {TABLES, 5, "table one short", PUT(length[TABLE], 319)},
-    {TABLES, 5, "table one long", PUT(length[TABLE], 321)},
-    {TABLES, 5, "no table", PUT(length[TABLE], 0)},
+    {TABLES | BIT(WIDEN), 5, "table one short", PUT(length[TABLE], 319)},
+    {TABLES | BIT(WIDEN), 5, "table one long", PUT(length[TABLE], 321)},
+    {TABLES | BIT(WIDEN), 5, "no table", PUT(length[TABLE], 0)},
+    {NARROW_CALLS, 5, "sums one short", PUT(length[SUMS], 255)},
+    {NARROW_CALLS, 5, "sums one long", PUT(length[SUMS], 257)},
+    {NARROW_CALLS, 5, "no sums", PUT(length[SUMS], 0)},
+    {NARROW_CALLS, 5, "squares one short", PUT(length[SQUARES], 63)},
+    {NARROW_CALLS, 5, "squares one long", PUT(length[SQUARES], 65)},
+    {NARROW_CALLS, 5, "no squares", PUT(length[SQUARES], 0)},
+    {BIT(NARROW_MERGE), 5, "second sums one short", PUT(length[SECOND_SUMS], 255)},
+    {BIT(NARROW_MERGE), 5, "second sums one long", PUT(length[SECOND_SUMS], 257)},
+    {BIT(NARROW_MERGE), 5, "no second sums", PUT(length[SECOND_SUMS], 0)},
+    {BIT(NARROW_MERGE), 5, "second squares one short", PUT(length[SECOND_SQUARES], 63)},
+    {BIT(NARROW_MERGE), 5, "second squares one long", PUT(length[SECOND_SQUARES], 65)},
+    {BIT(NARROW_MERGE), 5, "no second squares", PUT(length[SECOND_SQUARES], 0)},
+    {BIT(NARROW_CUT), 5, "work sums one short", PUT(length[WORK_SUMS], 255)},
+    {BIT(NARROW_CUT), 5, "work sums one long", PUT(length[WORK_SUMS], 257)},
+    {BIT(NARROW_CUT), 5, "no work sums", PUT(length[WORK_SUMS], 0)},
+    {BIT(NARROW_CUT), 5, "work squares one short", PUT(length[WORK_SQUARES], 63)},
+    {BIT(NARROW_CUT), 5, "work squares one long", PUT(length[WORK_SQUARES], 65)},
+    {BIT(NARROW_CUT), 5, "no work squares", PUT(length[WORK_SQUARES], 0)},
     {TWO, 5, "second table one short", PUT(length[SECOND], 319)},
     {TWO, 5, "second table one long", PUT(length[SECOND], 321)},
     {TWO, 5, "no second table", PUT(length[SECOND], 0)},
@@ -850,6 +1002,21 @@ static const struct change {
     {TABLES, 6, "empty bin with a sum", PUT(table[6], 1)},
     {TABLES, 6, "weights past the limit", PUT(table[0], LIMIT - 9)},
     {TABLES, 6, "weight far too large", PUT(table[0], UINT64_MAX)},
+    {NARROW_CALLS, 6, "sum below n * low", PUT(sums[65], 127)},
+    {NARROW_CALLS, 6, "sum above n * high", PUT(sums[65], 255)},
+    {NARROW_CALLS, 6, "second sum above n * high", PUT(sums[66], 255)},
+    {NARROW_CALLS, 6, "third sum above n * high", PUT(sums[67], 63)},
+    {NARROW_CALLS, 6, "squares above n * the squared highs", PUT(squares[16], 66439)},
+    {NARROW_CALLS, 6, "squares below n * the squared lows", PUT(squares[16], 8191)},
+    {NARROW_CALLS, 6, "squares 0 beside a weight", PUT(squares[16], 0)},
+    {NARROW_CALLS, 6, "squares far too large", PUT(squares[16], UINT64_MAX)},
+    {NARROW_CALLS, 6, "empty bin with a sum", PUT(sums[5], 1)},
+    {NARROW_CALLS, 6, "empty bin with squares", PUT(squares[1], 1)},
+    {NARROW_CALLS, 6, "weights one past the narrow limit", PUT(sums[0], NARROW_LIMIT - 9)},
+    {NARROW_CALLS, 6, "weights that are 0 when added up in 32 bits", PUT(sums[0], UINT32_MAX - 9)},
+    {BIT(NARROW_MERGE), 6, "sum of the second table above n * high", PUT(second_sums[65], 255)},
+    {BIT(NARROW_MERGE), 6, "squares of the second table 0 beside a weight", PUT(second_squares[16], 0)},
+    {BIT(NARROW_MERGE), 6, "weights of the second table past the narrow limit", PUT(second_sums[0], NARROW_LIMIT - 9)},
     {TWO, 6, "sum of the second table above n * high", PUT(second[81], 255)},
     {TWO, 6, "squares of the second table 0 beside a weight", PUT(second[84], 0)},
     {TWO, 6, "weights of the second table past the limit", PUT(second[0], LIMIT - 9)},
@@ -861,6 +1028,11 @@ static const struct change {
     {LOADS | BIT(LOAD_PPM) | BIT(MERGE), 7, "full table", PUT(table[0], LIMIT - 10)},
     {BIT(LOAD_PPM), 7, "total one past the limit", PUT(table[0], LIMIT - 15)},
     {BIT(MERGE), 7, "total one past the limit", PUT(second[0], LIMIT - 22)},
+    {BIT(NARROW_LOAD), 15, "total one past the narrow limit", PUT(weights[2], NARROW_LIMIT - 18)},
+    {BIT(NARROW_LOAD), 15, "weight that is the limit", PUT(weights[4], LIMIT)},
+    {BIT(NARROW_LOAD) | BIT(NARROW_MERGE), 15, "full narrow table", PUT(sums[0], NARROW_LIMIT - 10)},
+    {BIT(NARROW_MERGE), 15, "total one past the narrow limit", PUT(second_sums[0], NARROW_LIMIT - 22)},
+    {BIT(NARROW_MERGE), 15, "full second table", PUT(second_sums[0], NARROW_LIMIT - 10)},
     {FRAMES, 9, "the map's first entry the palette's length", PUT(map[0], 3)},
     {FRAMES, 9, "the map's last entry 255", PUT(map[63], 255)},
     {BIT(PAINT), 9, "palette of one colour", PUT(length[PALETTE], 3)},
@@ -869,7 +1041,16 @@ static const struct change {
     {TABLES, 0, "sum at n * high", PUT(table[81], 254)},
     {TABLES, 0, "squares at n * the squared lows", PUT(table[84], 8192)},
     {TABLES, 0, "squares at n * the squared highs", PUT(table[84], 66438)},
-    {BIT(COMPARE) | BIT(RESCUE) | BIT(REPLAY) | CUTS, 0, "full table", PUT(table[0], LIMIT - 10)},
+    {NARROW_CALLS, 0, "sum at n * low", PUT(sums[65], 128)},
+    {NARROW_CALLS, 0, "sum at n * high", PUT(sums[65], 254)},
+    {NARROW_CALLS, 0, "squares at n * the squared lows", PUT(squares[16], 8192)},
+    {NARROW_CALLS, 0, "squares at n * the squared highs", PUT(squares[16], 66438)},
+    {NARROW_CUTS | BIT(WIDEN), 0, "full narrow table", PUT(sums[0], NARROW_LIMIT - 10)},
+    {BIT(NARROW_LOAD), 0, "total at the narrow limit", PUT(weights[2], NARROW_LIMIT - 19)},
+    {BIT(NARROW_LOAD), 0, "total at the narrow limit with the table's", PUT(sums[0], NARROW_LIMIT - 23)},
+    {BIT(NARROW_MERGE), 0, "total at the narrow limit", PUT(second_sums[0], NARROW_LIMIT - 23)},
+    {BIT(WIDEN), 0, "no sound table in the wide list", PUT(table[0], UINT64_MAX)},
+    {BIT(COMPARE) | BIT(RESCUE) | BIT(REPLAY) | WIDE_CUTS, 0, "full table", PUT(table[0], LIMIT - 10)},
     {BIT(RESCUE), 0, "no room for a bin, and room for a lighter one after it", PUT(table[0], LIMIT - 1)},
     {BIT(RESCUE), 0, "no room for any other bin", PUT(table[0], LIMIT)},
     {BIT(RESCUE), 0, "a weight past the limit alone", PUT(table[0], LIMIT + 1)},
@@ -931,10 +1112,15 @@ static void change(struct asked *q, const struct change *c)
     memcpy((unsigned char *)q + c->at, &c->to, c->size);
 }
 
-/* Whether an answer comes before another: 10 to 14 before 1. */
+/* Where an answer stands among the others: 10 to 14 before 1, and 15 in the place of 7. */
+static unsigned rank(unsigned number)
+{
+    return ((number == 15 ? 7 : number) + 6) % 16;
+}
+
 static bool comes_before(unsigned one, unsigned two)
 {
-    return (one + 6) % 16 < (two + 6) % 16;
+    return rank(one) < rank(two);
 }
 
 /* Each change alone, and each two refusals together: the one that comes before the other is given. */
@@ -971,14 +1157,16 @@ static void ask_empty(void)
     ask_cuts(&q, 5, "empty table", "spreads one short");
 }
 
-/* Both cuts of tables of many colours, at grids that are long in each dimension, at every k up to some more than bins.
- * The weights are the noise's, all equal, or so large that the total is near the limit. */
-static void ask_both(void)
+/* All cuts of tables of many colours, at grids that are long in each dimension, at every k up to some more than bins.
+ * The weights are the noise's, all equal, or so large that the total is near the limit, or near the narrow one. */
+static void ask_all_cuts(void)
 {
     static const size_t grids[][3] = {{2, 2, 2}, {4, 4, 4}, {16, 2, 2}, {2, 16, 2}, {2, 2, 16}, {4, 2, 8}, {8, 4, 2}};
     for (size_t i = 0; i < COUNT(grids); i++) {
         const size_t bins = grids[i][0] * grids[i][1] * grids[i][2];
-        for (unsigned weights = 0; weights < 3; weights++) {
+        static const char *const words_of[] = {"", "equal weights", "a large total", "a large narrow total"};
+        static const uint64_t scales[] = {1, 1, LIMIT / (15 * PIXELS), NARROW_LIMIT / (15 * PIXELS)};
+        for (unsigned weights = 0; weights < COUNT(scales); weights++) {
             for (size_t k = 1; k <= bins + 2; k++) {
                 struct asked q = good();
                 char words[80];
@@ -989,11 +1177,43 @@ static void ask_both(void)
                 q.length[COUNTS] = q.length[SPREADS] = k;
                 q.length[BOXES] = 6 * k;
                 memset(q.table, 0, sizeof q.table);
-                added(&q, 0, PIXELS, weights != 1, weights == 2 ? LIMIT / (15 * PIXELS) : 1);
+                added(&q, 0, PIXELS, weights != 1, scales[weights]);
                 snprintf(words, sizeof words, "grid %zu,%zu,%zu, k %zu", q.b1, q.b2, q.b3, k);
-                ask_cuts(&q, 0, words, weights == 0 ? "" : weights == 1 ? "equal weights" : "a large total");
+                ask_cuts(&q, 0, words, words_of[weights]);
             }
         }
+    }
+}
+
+/* White as often as a narrow table takes it, whose sums are the largest, and one time more: loaded at once and merged
+ * of two, wide and narrow. */
+static void ask_white(void)
+{
+    for (uint32_t past = 0; past < 2; past++) {
+        struct asked q = good();
+        const uint32_t total = (uint32_t)NARROW_LIMIT + past;
+        const char *const words = past ? "white once too often" : "white as often as can be";
+        memset(q.table, 0, sizeof q.table);
+        memset(q.sums, 0, sizeof q.sums);
+        memset(q.squares, 0, sizeof q.squares);
+        memset(q.colours, 0xff, sizeof q.colours);
+        q.length[COLOURS] = 3, q.length[WEIGHTS] = 1;
+        q.weights[0] = total;
+        ask(LOAD, &q, 0, words, "loaded");
+        ask(NARROW_LOAD, &q, past ? 15 : 0, words, "loaded");
+        for (unsigned second = 0; second < 2; second++) {
+            memset(second ? q.second_sums : q.sums, 0, sizeof q.sums);
+            memset(second ? q.second_squares : q.squares, 0, sizeof q.squares);
+            q.weights[0] = second ? 5 : total - 5;
+            struct asked part = q;
+            memset(part.sums, 0, sizeof part.sums);
+            memset(part.squares, 0, sizeof part.squares);
+            ask(NARROW_LOAD, &part, 0, words, "a part");
+            memcpy(second ? q.second_sums : q.sums, part.sums, sizeof q.sums);
+            memcpy(second ? q.second_squares : q.squares, part.squares, sizeof q.squares);
+        }
+        ask(NARROW_MERGE, &q, past ? 15 : 0, words, "merged");
+        if (!past) ask_cuts(&q, 0, words, "cut");
     }
 }
 
@@ -1031,6 +1251,14 @@ static void ask_squares(void)
                 memset(q.table, 0, sizeof q.table);
                 memcpy(q.table + 5 * at, cell, sizeof cell);
                 ask(call, &q, call == RESCUE ? 0 : tried[i].number, "squares of a bin alone", tried[i].what);
+            }
+            for (enum call call = NARROW_LOAD; call <= WIDEN; call++) {
+                q = good();
+                memset(q.sums, 0, sizeof q.sums);
+                memset(q.squares, 0, sizeof q.squares);
+                for (size_t j = 0; j < 4; j++) q.sums[4 * at + j] = (uint32_t)cell[j];
+                q.squares[at] = cell[4];
+                ask(call, &q, tried[i].number, "squares of a bin alone", tried[i].what);
             }
             for (enum call call = MERGE; call <= COMPARE; call++) {
                 q = good();
@@ -1320,6 +1548,15 @@ static void ask_plain(void)
         ask(LOAD, &q, 7, "no weights given", "total one past the limit");
         q = good();
         q.weighted = 0;
+        q.length[WEIGHTS] = lent;
+        memset(q.weights, 0xff, sizeof q.weights);
+        ask(NARROW_LOAD, &q, 0, "no weights given", "some lent");
+        q.sums[0] += (uint32_t)(NARROW_LIMIT - 18 - q.length[COLOURS] / 3);
+        ask(NARROW_LOAD, &q, 0, "no weights given", "total at the narrow limit");
+        q.length[COLOURS] = 3;
+        ask(NARROW_LOAD, &q, 15, "no weights given", "total one past the narrow limit");
+        q = good();
+        q.weighted = 0;
         q.in_force = q.own = 4096;
         q.length[WEIGHTS] = lent;
         memset(q.weights, 0xff, sizeof q.weights);
@@ -1418,10 +1655,13 @@ static void ask_length(size_t pixels)
     q.length[WEIGHTS] = pixels;
     snprintf(words, sizeof words, "batch of %zu colours", pixels);
     ask(LOAD, &q, 0, words, "weights");
+    ask(NARROW_LOAD, &q, 0, words, "weights");
     memset(q.weights, 0xff, sizeof q.weights);
     ask(LOAD, &q, pixels ? 7 : 0, words, "weights at the limit");
+    ask(NARROW_LOAD, &q, pixels ? 15 : 0, words, "weights at the limit");
     q.weighted = 0;
     ask(LOAD, &q, 0, words, "no weights");
+    ask(NARROW_LOAD, &q, 0, words, "no weights");
     ask(BATCH, &q, 0, words, "no weights");
     ask_image(pixels);
     ask_split(pixels, words);
@@ -1456,7 +1696,8 @@ static void ask_all(void)
     for (size_t i = 0; i < COUNT(worked); i++) ask_worked(&worked[i]);
     for (enum call call = LOAD; call < CALLS; call++) ask_changed(call);
     ask_empty();
-    ask_both();
+    ask_all_cuts();
+    ask_white();
     ask_squares();
     ask_compared();
     ask_headers();

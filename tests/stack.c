@@ -24,6 +24,8 @@
 struct lent {
     uint64_t table[5 * BINS], second[5 * BINS], work[5 * BINS];
     int64_t differences[5 * BINS];
+    uint32_t sums[4 * BINS], second_sums[4 * BINS], work_sums[4 * BINS];
+    uint64_t squares[BINS], second_squares[BINS], work_squares[BINS], widened[5 * BINS];
     uint8_t reasons[BINS];
     uint8_t frame[3 * PIXELS], indices[PIXELS], file[sizeof HEADER - 1 + 3 * PIXELS];
     uint32_t weights[PIXELS], counts[K], remainders[3 * K];
@@ -137,6 +139,54 @@ static void cut_slowly(struct lent *l)
     l->found = answer.boxes;
 }
 
+static void narrow_load(struct lent *l)
+{
+    l->answer = seluvava_narrow_load(B1, B2, B3, l->sums, COUNT(l->sums), l->squares, COUNT(l->squares), l->frame,
+                                     COUNT(l->frame), false, NULL, 0);
+}
+
+/* As many weights of the frame as a narrow table takes. */
+static void narrow_load_weighted(struct lent *l)
+{
+    l->answer = seluvava_narrow_load(B1, B2, B3, l->second_sums, COUNT(l->second_sums), l->second_squares,
+                                     COUNT(l->second_squares), l->frame, 3 * 250, true, l->weights, 250);
+}
+
+static void narrow_merge(struct lent *l)
+{
+    l->answer = seluvava_narrow_merge(B1, B2, B3, l->sums, COUNT(l->sums), l->squares, COUNT(l->squares),
+                                      l->second_sums, COUNT(l->second_sums), l->second_squares,
+                                      COUNT(l->second_squares));
+}
+
+static void narrow_cut(struct lent *l)
+{
+    const struct seluvava_cut_answer answer =
+        seluvava_narrow_cut(B1, B2, B3, K, l->sums, COUNT(l->sums), l->squares, COUNT(l->squares), l->work_sums,
+                            COUNT(l->work_sums), l->work_squares, COUNT(l->work_squares), l->palette,
+                            COUNT(l->palette), l->counts, COUNT(l->counts), l->remainders, COUNT(l->remainders), l->map,
+                            COUNT(l->map), l->boxes, COUNT(l->boxes), l->spreads, COUNT(l->spreads));
+    l->answer = answer.number;
+    l->found = answer.boxes;
+}
+
+static void narrow_cut_slowly(struct lent *l)
+{
+    const struct seluvava_cut_answer answer =
+        seluvava_narrow_cut_slowly(B1, B2, B3, K, l->sums, COUNT(l->sums), l->squares, COUNT(l->squares), l->palette,
+                                   COUNT(l->palette), l->counts, COUNT(l->counts), l->remainders,
+                                   COUNT(l->remainders), l->map, COUNT(l->map), l->boxes, COUNT(l->boxes), l->spreads,
+                                   COUNT(l->spreads));
+    l->answer = answer.number;
+    l->found = answer.boxes;
+}
+
+static void widen(struct lent *l)
+{
+    l->answer = seluvava_widen(B1, B2, B3, l->sums, COUNT(l->sums), l->squares, COUNT(l->squares), l->widened,
+                               COUNT(l->widened));
+}
+
 static void map(struct lent *l)
 {
     l->answer = seluvava_map(B1, B2, B3, l->map, COUNT(l->map), l->found, l->frame, COUNT(l->frame), l->indices,
@@ -174,6 +224,12 @@ static const struct call {
     {"replay", replay, 0},
     {"cut", cut, 0},
     {"cut_slowly", cut_slowly, 0},
+    {"narrow_load", narrow_load, 0},
+    {"narrow_load with weights", narrow_load_weighted, 0},
+    {"narrow_merge", narrow_merge, 0},
+    {"narrow_cut", narrow_cut, 0},
+    {"narrow_cut_slowly", narrow_cut_slowly, 0},
+    {"widen", widen, 0},
     {"map", map, 0},
     {"paint", paint, 0},
     {"nearest", nearest, 0},

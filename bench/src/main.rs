@@ -5,6 +5,7 @@
 //! and the template gives no reason, the run fails.
 mod inputs;
 mod measure;
+mod narrow;
 #[cfg(feature = "original")]
 mod one_load;
 mod ours;
@@ -25,7 +26,7 @@ mod triples;
 use inputs::Input;
 use measure::Effort;
 use report::{Cell, IN_PLACE, ON_A_COPY, Row};
-use side::{Lent, OPERATIONS, Operation, Side, Sizes};
+use side::{Beside, Lent, NarrowCall, OPERATIONS, Operation, Side, Sizes};
 use std::{env, fs, process::ExitCode, time::Duration};
 
 const GRIDS: [Sizes; 5] = [
@@ -74,7 +75,9 @@ fn sides(sizes: Sizes, lent: &Lent) -> Vec<Box<dyn Side>> {
 fn rows_of(sizes: Sizes, operation: Operation) -> Vec<Row> {
     let moments: &[_] = match operation {
         _ if !cfg!(feature = "original") => &[""],
-        Operation::Moments | Operation::Cut(_) => &[ON_A_COPY, IN_PLACE],
+        Operation::Moments
+        | Operation::Cut(_)
+        | Operation::Narrow(NarrowCall::Cut(_), Beside::Original) => &[ON_A_COPY, IN_PLACE],
         Operation::Whole { .. } => &[IN_PLACE],
         _ => &[""],
     };

@@ -1,5 +1,6 @@
 //! Our side: the calls of the archive, on tables that stay from run to run.
 use crate::{
+    narrow::{Narrow, Table},
     ppm::Ppm,
     recording::Recording,
     rescue::Rescue,
@@ -8,7 +9,7 @@ use crate::{
 };
 use seluvava_sys::{
     CutAnswer, seluvava_bins, seluvava_compare, seluvava_cut, seluvava_cut_slowly, seluvava_load,
-    seluvava_map, seluvava_merge, seluvava_paint, seluvava_table_len,
+    seluvava_map, seluvava_merge, seluvava_narrow_cut, seluvava_paint, seluvava_table_len,
 };
 
 /// Adds a frame to a table, with weights where any are given.
@@ -32,7 +33,7 @@ pub fn load([b1, b2, b3]: Sizes, table: &mut [u64], frame: &[[u8; 3]], weights: 
     assert_eq!(number, 0, "load");
 }
 
-fn merge([b1, b2, b3]: Sizes, table: &mut [u64], second: &[u64]) {
+pub fn merge([b1, b2, b3]: Sizes, table: &mut [u64], second: &[u64]) {
     let number = unsafe {
         seluvava_merge(
             b1,
@@ -69,6 +70,36 @@ fn compare(
     };
     assert_eq!(answer.number, 0, "compare");
     (answer.differ, answer.first)
+}
+
+/// Makes the call of a cut. After k stand the lists that it reads and works in, and what every cut writes comes last.
+macro_rules! cut_by {
+    ($call: ident, $cut: ident, $sizes: ident, $k: ident, $($read: ident),*; $($written: ident),*) => {{
+        let [b1, b2, b3] = $sizes;
+        let answer = unsafe {
+            $call(
+                b1,
+                b2,
+                b3,
+                $k,
+                $($read.as_ptr(), $read.len(),)*
+                $($written.as_mut_ptr(), $written.len(),)*
+                $cut.palette.as_mut_ptr(),
+                $cut.palette.len(),
+                $cut.counts.as_mut_ptr(),
+                $cut.counts.len(),
+                $cut.remainders.as_mut_ptr(),
+                $cut.remainders.len(),
+                $cut.map.as_mut_ptr(),
+                $cut.map.len(),
+                $cut.boxes.as_mut_ptr(),
+                $cut.boxes.len(),
+                $cut.spreads.as_mut_ptr(),
+                $cut.spreads.len(),
+            )
+        };
+        $cut.done(answer);
+    }};
 }
 
 /// What a cut writes.
@@ -119,58 +150,34 @@ impl Cut {
         (self.found, self.rounds) = (answer.boxes, answer.rounds);
     }
 
-    pub fn run(&mut self, [b1, b2, b3]: Sizes, k: usize, table: &[u64]) {
-        let answer = unsafe {
-            seluvava_cut(
-                b1,
-                b2,
-                b3,
-                k,
-                table.as_ptr(),
-                table.len(),
-                self.work.as_mut_ptr(),
-                self.work.len(),
-                self.palette.as_mut_ptr(),
-                self.palette.len(),
-                self.counts.as_mut_ptr(),
-                self.counts.len(),
-                self.remainders.as_mut_ptr(),
-                self.remainders.len(),
-                self.map.as_mut_ptr(),
-                self.map.len(),
-                self.boxes.as_mut_ptr(),
-                self.boxes.len(),
-                self.spreads.as_mut_ptr(),
-                self.spreads.len(),
-            )
-        };
-        self.done(answer);
+    pub fn run(&mut self, sizes: Sizes, k: usize, table: &[u64]) {
+        let work = &mut self.work;
+        cut_by!(seluvava_cut, self, sizes, k, table; work);
     }
 
-    fn run_slowly(&mut self, [b1, b2, b3]: Sizes, k: usize, table: &[u64]) {
-        let answer = unsafe {
-            seluvava_cut_slowly(
-                b1,
-                b2,
-                b3,
-                k,
-                table.as_ptr(),
-                table.len(),
-                self.palette.as_mut_ptr(),
-                self.palette.len(),
-                self.counts.as_mut_ptr(),
-                self.counts.len(),
-                self.remainders.as_mut_ptr(),
-                self.remainders.len(),
-                self.map.as_mut_ptr(),
-                self.map.len(),
-                self.boxes.as_mut_ptr(),
-                self.boxes.len(),
-                self.spreads.as_mut_ptr(),
-                self.spreads.len(),
-            )
-        };
-        self.done(answer);
+    fn run_slowly(&mut self, sizes: Sizes, k: usize, table: &[u64]) {
+        cut_by!(seluvava_cut_slowly, self, sizes, k, table;);
+    }
+
+    /// Cuts a narrow table, with a narrow work table.
+    pub fn run_narrow(&mut self, sizes: Sizes, k: usize, table: &Table, work: &mut Table) {
+        let (sums, squares) = (&table.sums, &table.squares);
+        let (work_sums, work_squares) = (&mut work.sums, &mut work.squares);
+        cut_by!(seluvava_narrow_cut, self, sizes, k, sums, squares; work_sums, work_squares);
+    }
+
+    /// The moments that a cut has left.
+    #[cfg(feature = "original")]
+    pub fn moments(&self) -> &[u64] {
+        &self.work
+    }
+
+    /// Adds what the original's cut tells too: counts, palette and map.
+    pub fn answer_original(&self, answer: &mut Answer) {
+        let counts = &self.counts[..self.found];
+        answer.numbers.extend(counts.iter().map(|&n| u64::from(n)));
+        answer.bytes.extend(self.colours());
+        answer.bytes.extend(&self.map);
     }
 
     /// Adds all that was told and written but for the work table, also past the boxes.
@@ -248,6 +255,7 @@ pub struct Ours {
     recording: Recording,
     ppm: Ppm,
     terminal: Terminal,
+    narrow: Narrow,
     cut: Cut,
     /// What maps and paints read.
     kept: Cut,
@@ -271,6 +279,7 @@ impl Ours {
             recording: Recording::new(),
             ppm: Ppm::new(&lent.frame),
             terminal: Terminal::new(&lent.frame),
+            narrow: Narrow::new(sizes, lent),
             loaded,
             second,
             cut,
@@ -313,6 +322,7 @@ impl Side for Ours {
                 self.cut.reset();
                 touch(&self.loaded);
             }
+            Operation::Narrow(call, _) => self.narrow.prepare(call),
             Operation::Map | Operation::Paint => touch(&self.kept.map),
             Operation::Nearest => self.terminal.prepare(),
             Operation::Whole { anew: false } => {
@@ -340,6 +350,7 @@ impl Side for Ours {
             Operation::Moments => self.cut.run(sizes, 1, &self.loaded),
             Operation::Cut(k) => self.cut.run(sizes, k, &self.loaded),
             Operation::CutSlowly(k) => self.cut.run_slowly(sizes, k, &self.loaded),
+            Operation::Narrow(call, _) => self.narrow.run(call, lent),
             Operation::Map => self.kept.map(sizes, lent),
             Operation::Paint => self.kept.paint(sizes, lent),
             Operation::Nearest => self.terminal.by_call(),
@@ -368,13 +379,9 @@ impl Side for Ours {
                 answer.numbers.extend(&self.table);
             }
             Operation::Moments => answer.numbers.extend(&self.cut.work),
-            Operation::Cut(_) | Operation::Whole { .. } => {
-                let counts = &self.cut.counts[..self.cut.found];
-                answer.numbers.extend(counts.iter().map(|&n| u64::from(n)));
-                answer.bytes.extend(self.cut.colours());
-                answer.bytes.extend(&self.cut.map);
-            }
+            Operation::Cut(_) | Operation::Whole { .. } => self.cut.answer_original(answer),
             Operation::CutSlowly(_) => self.cut.answer(answer),
+            Operation::Narrow(call, beside) => self.narrow.answer(call, beside, answer),
             Operation::Nearest => self.terminal.answer(answer),
             Operation::Map | Operation::Paint => {}
         }

@@ -1,7 +1,7 @@
 //! The tables: a row for each operation at a grid, a column for each input.
 use crate::{
     inputs::Input,
-    side::{Operation, Sizes},
+    side::{Beside, NarrowCall, Operation, Sizes},
 };
 use std::fmt::Write as _;
 
@@ -40,6 +40,9 @@ impl Row {
         if let Operation::Rescue { damaged } = self.operation {
             let asked = [[16, 32, 16], [64, 64, 64]].contains(&self.sizes);
             return asked.then_some([if damaged { 1.5 } else { 1.3 }; 3]);
+        }
+        if let Operation::Narrow(call, Beside::Wide) = self.operation {
+            return narrow_target(call, self.sizes).map(|most| [most; 3]);
         }
         if ![[16, 32, 16], [32, 32, 32]].contains(&self.sizes) {
             return None;
@@ -81,6 +84,18 @@ impl Row {
             Some([a, b, c]) => format!("{line} {a} / {b} / {c} |\n"),
             None => format!("{line} |\n"),
         }
+    }
+}
+
+/// What the ratio of a narrow call to the wide one should be at most.
+fn narrow_target(call: NarrowCall, sizes: Sizes) -> Option<f64> {
+    match (call, sizes) {
+        (NarrowCall::Load, [128, 128, 128]) => Some(1.25),
+        (NarrowCall::Load, _) => Some(1.15),
+        (_, [16, 32, 16]) => None,
+        (NarrowCall::Merge, _) => Some(0.8),
+        (NarrowCall::Cut(_), [32, 32, 32]) => Some(0.9),
+        (NarrowCall::Cut(_), _) => Some(0.75),
     }
 }
 

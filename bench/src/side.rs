@@ -26,13 +26,41 @@ pub enum Operation {
     Paint,
     /// The numbers of 256 colours in a terminal; the other side is a plain loop.
     Nearest,
+    /// A call of the narrow layout.
+    Narrow(NarrowCall, Beside),
     /// From pixels to indices. Our side makes its tables anew in the run, or was lent them.
     Whole {
         anew: bool,
     },
 }
 
-pub const OPERATIONS: [Operation; 18] = [
+/// What is timed of the narrow layout.
+#[derive(Clone, Copy, PartialEq, Eq)]
+pub enum NarrowCall {
+    Load,
+    Merge,
+    Cut(usize),
+}
+
+impl NarrowCall {
+    /// The same in the wide layout.
+    pub fn wide(self) -> Operation {
+        match self {
+            NarrowCall::Load => Operation::Load,
+            NarrowCall::Merge => Operation::Merge,
+            NarrowCall::Cut(k) => Operation::Cut(k),
+        }
+    }
+}
+
+/// What a call of the narrow layout is held to: the original, whose sums have 32 bits too, or our own wide call.
+#[derive(Clone, Copy, PartialEq, Eq)]
+pub enum Beside {
+    Original,
+    Wide,
+}
+
+pub const OPERATIONS: [Operation; 26] = [
     Operation::Load,
     Operation::LoadWeighted,
     Operation::LoadPpm,
@@ -46,6 +74,14 @@ pub const OPERATIONS: [Operation; 18] = [
     Operation::Cut(256),
     Operation::CutSlowly(16),
     Operation::CutSlowly(256),
+    Operation::Narrow(NarrowCall::Load, Beside::Original),
+    Operation::Narrow(NarrowCall::Load, Beside::Wide),
+    Operation::Narrow(NarrowCall::Merge, Beside::Original),
+    Operation::Narrow(NarrowCall::Merge, Beside::Wide),
+    Operation::Narrow(NarrowCall::Cut(16), Beside::Original),
+    Operation::Narrow(NarrowCall::Cut(16), Beside::Wide),
+    Operation::Narrow(NarrowCall::Cut(256), Beside::Original),
+    Operation::Narrow(NarrowCall::Cut(256), Beside::Wide),
     Operation::Map,
     Operation::Paint,
     Operation::Nearest,
@@ -70,6 +106,10 @@ impl fmt::Display for Operation {
             Operation::Moments => f.write_str("moments (ours: cut, k = 1)"),
             Operation::Cut(k) => write!(f, "cut, k = {k}"),
             Operation::CutSlowly(k) => write!(f, "cut slowly, k = {k}"),
+            Operation::Narrow(call, Beside::Original) => write!(f, "narrow {}", call.wide()),
+            Operation::Narrow(call, Beside::Wide) => {
+                write!(f, "narrow {}, beside the wide one", call.wide())
+            }
             Operation::Map => f.write_str("map"),
             Operation::Paint => f.write_str("paint"),
             Operation::Nearest => f.write_str("nearest"),
@@ -104,7 +144,7 @@ impl Lent {
     /// As before any run: the indices are wrong, nothing is painted, and what is read has just been read.
     pub fn reset(&mut self, operation: Operation) {
         match operation {
-            Operation::Load => touch(&self.frame),
+            Operation::Load | Operation::Narrow(NarrowCall::Load, _) => touch(&self.frame),
             Operation::LoadWeighted | Operation::Replay => {
                 touch(&self.frame);
                 touch(&self.weights);
@@ -121,6 +161,7 @@ impl Lent {
             | Operation::Moments
             | Operation::Cut(_)
             | Operation::CutSlowly(_)
+            | Operation::Narrow(NarrowCall::Merge | NarrowCall::Cut(_), _)
             | Operation::Nearest => {}
         }
     }

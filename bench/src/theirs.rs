@@ -1,10 +1,11 @@
 //! The other side: the original's text, on histograms that stay from run to run.
 use crate::{
+    narrow::Wide,
     one_load::OneLoad,
     ours,
     plain::Plain,
     rescue::Rescue,
-    side::{Answer, Lent, MOST, Operation, Side, Sizes, touch},
+    side::{Answer, Beside, Lent, MOST, Operation, Side, Sizes, touch},
     terminal::Terminal,
     triples::Triples,
 };
@@ -44,6 +45,8 @@ struct Theirs<const B1: usize, const B2: usize, const B3: usize> {
     terminal: Terminal,
     /// What a slow cut is held to: our own cut, with a work table.
     ours: ours::Cut,
+    /// What a narrow call is held to beside the original's: our own wide one.
+    wide: Wide,
     cut: Option<Colours<B1, B2, B3>>,
     /// What maps and paints read.
     kept: WuU8x3ColorMap<[u8; 3], B1, B2, B3>,
@@ -101,6 +104,7 @@ impl<const B1: usize, const B2: usize, const B3: usize> Theirs<B1, B2, B3> {
             triples: Triples::new([B1, B2, B3], &lent.frame),
             terminal: Terminal::new(&lent.frame),
             ours: ours::Cut::new([B1, B2, B3]),
+            wide: Wide::new([B1, B2, B3], lent),
             cut: None,
             kept,
         }
@@ -139,6 +143,8 @@ impl<const B1: usize, const B2: usize, const B3: usize> Side for Theirs<B1, B2, 
                 self.ours.reset();
                 touch(self.plain.first());
             }
+            Operation::Narrow(call, Beside::Original) => self.prepare(call.wide()),
+            Operation::Narrow(call, Beside::Wide) => self.wide.prepare(call),
             Operation::Replay => self.one_load.prepare(),
             Operation::LoadPpm => self.triples.prepare(),
             Operation::Moments | Operation::Cut(_) if self.moments == Moments::OnACopy => {
@@ -162,6 +168,8 @@ impl<const B1: usize, const B2: usize, const B3: usize> Side for Theirs<B1, B2, 
             Operation::Compare => self.plain.run(),
             Operation::Rescue { damaged } => self.rescue.run_held(damaged),
             Operation::CutSlowly(k) => self.ours.run([B1, B2, B3], k, self.plain.first()),
+            Operation::Narrow(call, Beside::Original) => self.run(call.wide(), lent),
+            Operation::Narrow(call, Beside::Wide) => self.wide.run(call, lent),
             Operation::Replay => self.one_load.run(lent),
             Operation::LoadPpm => self.triples.run(),
             Operation::Moments => self.make_moments(),
@@ -189,6 +197,8 @@ impl<const B1: usize, const B2: usize, const B3: usize> Side for Theirs<B1, B2, 
             Operation::Compare => self.plain.answer(answer),
             Operation::Rescue { damaged } => self.rescue.answer_held(damaged, answer),
             Operation::CutSlowly(_) => self.ours.answer(answer),
+            Operation::Narrow(call, Beside::Original) => self.answer(call.wide(), answer),
+            Operation::Narrow(call, Beside::Wide) => self.wide.answer(call, answer),
             Operation::Replay => self.one_load.answer(answer),
             Operation::LoadPpm => self.triples.answer(answer),
             Operation::Cut(_) | Operation::Whole { .. } => {

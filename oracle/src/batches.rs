@@ -7,6 +7,49 @@ use crate::{
     random::Random,
 };
 
+/// A table in either layout, as loads and merges make it.
+pub trait Laid: Sized {
+    /// An empty one.
+    fn empty(grid: Grid, r: &mut Random) -> Self;
+
+    /// Loads colours; the number of that.
+    fn load(
+        &mut self,
+        port: &dyn Port,
+        grid: Grid,
+        colours: &[u8],
+        weighted: bool,
+        weights: &[u32],
+    ) -> u8;
+
+    /// Merges a second one, which stays as it is; the number of that.
+    fn merge(&mut self, port: &dyn Port, grid: Grid, second: &mut Self) -> Result<u8, Differs>;
+}
+
+impl Laid for Buffer<u64> {
+    fn empty(grid: Grid, r: &mut Random) -> Self {
+        Buffer::zeros(5 * bins(grid), r)
+    }
+
+    fn load(
+        &mut self,
+        port: &dyn Port,
+        grid: Grid,
+        colours: &[u8],
+        weighted: bool,
+        weights: &[u32],
+    ) -> u8 {
+        port.load(grid, self.lend(), colours, weighted, weights)
+    }
+
+    fn merge(&mut self, port: &dyn Port, grid: Grid, second: &mut Self) -> Result<u8, Differs> {
+        second.settle();
+        let number = port.merge(grid, self.lend(), second.see());
+        second.unchanged("the second table of a merge")?;
+        Ok(number)
+    }
+}
+
 /// A part of an input: colours with weights, or pixels without.
 pub struct Batch {
     colors: Vec<[u8; 3]>,
@@ -24,14 +67,9 @@ impl Batch {
         }
     }
 
-    pub fn load(
-        &self,
-        port: &dyn Port,
-        grid: Grid,
-        table: &mut Buffer<u64>,
-    ) -> Result<(), Differs> {
+    pub fn load(&self, port: &dyn Port, grid: Grid, table: &mut impl Laid) -> Result<(), Differs> {
         let colours = self.colors.as_flattened();
-        let number = port.load(grid, table.lend(), colours, self.weighted, &self.weights);
+        let number = table.load(port, grid, colours, self.weighted, &self.weights);
         same("the number of a batch's load", 0, number)
     }
 }
@@ -79,14 +117,14 @@ pub fn split(input: &Input, count: usize, r: &mut Random) -> Vec<Batch> {
 }
 
 /// The table of the batches: the last loaded into that of the others, or two tables merged, in a random tree.
-pub fn merged(
+pub fn merged<T: Laid>(
     port: &dyn Port,
     grid: Grid,
     batches: &[Batch],
     r: &mut Random,
-) -> Result<Buffer<u64>, Differs> {
+) -> Result<T, Differs> {
     let [before @ .., last] = batches else {
-        return Ok(Buffer::zeros(5 * bins(grid), r));
+        return Ok(T::empty(grid, r));
     };
     if before.is_empty() || r.once_in(3) {
         let mut table = merged(port, grid, before, r)?;
@@ -94,14 +132,12 @@ pub fn merged(
         return Ok(table);
     }
     let middle = r.from(1, before.len());
-    let mut first = merged(port, grid, &batches[..middle], r)?;
+    let mut first: T = merged(port, grid, &batches[..middle], r)?;
     let mut second = merged(port, grid, &batches[middle..], r)?;
     if r.once_in(2) {
         std::mem::swap(&mut first, &mut second);
     }
-    second.settle();
-    let number = port.merge(grid, first.lend(), second.see());
+    let number = first.merge(port, grid, &mut second)?;
     same("the number of a merge", 0, number)?;
-    second.unchanged("the second table of a merge")?;
     Ok(first)
 }

@@ -3,7 +3,7 @@ use crate::{
     answer::Answer,
     case::Case,
     numbers::Lengths,
-    port::{CutAnswer, Grid, Lent, Port},
+    port::{CutAnswer, Grid, Lent, Narrow, NarrowMut, Port},
     random::Random,
 };
 use std::fmt::Debug;
@@ -138,7 +138,8 @@ impl Buffers {
         }
     }
 
-    pub fn cut(&mut self, port: &dyn Port, grid: Grid, k: usize, table: &[u64]) -> CutAnswer {
+    /// The work table, where there is one, and all else that a cut writes.
+    fn lend(&mut self) -> (Option<&mut [u64]>, Lent<'_>) {
         let lent = Lent {
             palette: self.palette.lend(),
             counts: self.counts.lend(),
@@ -147,9 +148,29 @@ impl Buffers {
             boxes: self.boxes.lend(),
             spreads: self.spreads.lend(),
         };
-        match &mut self.work {
-            Some(work) => port.cut(grid, k, table, work.lend(), lent),
-            None => port.cut_slowly(grid, k, table, lent),
+        (self.work.as_mut().map(Buffer::lend), lent)
+    }
+
+    pub fn cut(&mut self, port: &dyn Port, grid: Grid, k: usize, table: &[u64]) -> CutAnswer {
+        match self.lend() {
+            (Some(work), lent) => port.cut(grid, k, table, work, lent),
+            (None, lent) => port.cut_slowly(grid, k, table, lent),
+        }
+    }
+
+    /// A cut in the narrow layout, whose work table stands apart; where there is none, it is a slow one.
+    pub fn narrow_cut(
+        &mut self,
+        port: &dyn Port,
+        grid: Grid,
+        k: usize,
+        table: Narrow<'_>,
+        work: Option<NarrowMut<'_>>,
+    ) -> CutAnswer {
+        let (_, lent) = self.lend();
+        match work {
+            Some(work) => port.narrow_cut(grid, k, table, work, lent),
+            None => port.narrow_cut_slowly(grid, k, table, lent),
         }
     }
 

@@ -12,6 +12,8 @@ pub enum Kind {
     Whole { by_pixels: bool, batches: usize },
     /// The six calls one by one: the first `split` colours are in the table and the others are loaded or merged.
     Calls { split: usize, damages: Vec<Damage> },
+    /// The five calls of the narrow layout one by one, on tables as above.
+    Narrow { split: usize, damages: Vec<Damage> },
     /// Two tables compared: the first holds the first `split` colours, the second those from `from` on.
     Nights {
         from: usize,
@@ -112,6 +114,10 @@ impl fmt::Display for Case {
                 write!(f, "; split {split}")?;
                 write_damages(f, damages)
             }
+            Kind::Narrow { split, damages } => {
+                write!(f, "; narrow; split {split}")?;
+                write_damages(f, damages)
+            }
             Kind::Nights {
                 from,
                 split,
@@ -184,6 +190,10 @@ impl Case {
             Some(list.filter_map(Damage::of_text).collect())
         };
         let kind = match (one("split"), one("from"), one("first"), field("header")) {
+            (Some(split), None, None, None) if field("narrow").is_some() => Kind::Narrow {
+                split: split as usize,
+                damages: damages()?,
+            },
             (Some(split), None, None, None) => Kind::Calls {
                 split: split as usize,
                 damages: damages()?,

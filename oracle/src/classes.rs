@@ -31,7 +31,7 @@ const fn class(name: &'static str, cases: Cases) -> Class {
 }
 
 /// The classes; README.md says what their cases are.
-pub const CLASSES: [Class; 26] = [
+pub const CLASSES: [Class; 27] = [
     class("tiny", Cases::Random(tiny)),
     class("few", Cases::Random(few)),
     class("equal", Cases::Random(equal)),
@@ -47,6 +47,7 @@ pub const CLASSES: [Class; 26] = [
     class("batches", Cases::Random(in_batches)),
     class("calls", Cases::Random(sound_calls)),
     class("damaged", Cases::Random(damaged)),
+    class("narrow", Cases::Random(narrow)),
     class("nights", Cases::Random(nights)),
     class("rescues", Cases::Random(rescues)),
     class("recordings", Cases::Random(recordings::one)),
@@ -408,6 +409,36 @@ fn damaged(m: &mut Maker<'_>, _: usize) -> Case {
     if let Kind::Calls { damages, .. } = &mut case.kind {
         *damages = made;
     }
+    case
+}
+
+/// Narrow tables, call by call: mostly the total of all weights is the narrow limit or up to two off, in the one table
+/// or in two; in every other case something is damaged.
+fn narrow(m: &mut Maker<'_>, _: usize) -> Case {
+    let n = m.r.from(0, 12);
+    let most = m.r.one_of(&[1, 3, 1000, 3_000_000]);
+    let color =
+        m.r.one_of(&[Random::color, Random::lattice_color, |_: &mut Random| {
+            [255; 3]
+        }]);
+    let mut input = m.input(n, color, |r| r.from(0, most) as u32);
+    if n > 0 && !m.r.once_in(3) {
+        let at = m.r.from(0, n - 1);
+        let rest = input.total() - u64::from(input.weights[at]);
+        let wanted = u64::from(WIDTHS[0]) + 2 - m.r.from(0, 4) as u64;
+        input.weights[at] = wanted.saturating_sub(rest) as u32;
+    }
+    let any = m.r.from(0, n);
+    let split = m.r.one_of(&[any, any, n]);
+    let (grid, k) = (m.grid(), m.k());
+    let kind = Kind::Narrow {
+        split,
+        damages: Vec::new(),
+    };
+    let mut case = m.case(grid, k, input, kind);
+    let count = m.r.one_of(&[0, 0, 0, 1, 1, 2]);
+    let damages = (0..count).map(|_| damages::one(&case, &mut m.r)).collect();
+    case.kind = Kind::Narrow { split, damages };
     case
 }
 

@@ -1,9 +1,10 @@
-//! Runs one case: whole, call by call, two tables compared, a damaged one rescued, recorded by intervals, from a file,
+//! Runs one case: whole, call by call in either layout, two tables compared, a damaged one rescued, recorded by intervals, from a file,
 //! or a palette for a terminal.
 use crate::{
     buffer::Differs,
     calls::calls,
     case::{Case, Kind},
+    narrow::narrow_calls,
     nights::nights,
     palettes::palettes,
     port::Port,
@@ -31,6 +32,7 @@ pub fn check(port: &dyn Port, case: &Case, tally: &mut Tally) -> Result<(), Diff
     let run = AssertUnwindSafe(|| match &case.kind {
         Kind::Whole { by_pixels, batches } => whole(port, case, *by_pixels, *batches, tally),
         Kind::Calls { split, damages } => calls(port, case, *split, damages, tally),
+        Kind::Narrow { split, damages } => narrow_calls(port, case, *split, damages, tally),
         Kind::Nights {
             from,
             split,

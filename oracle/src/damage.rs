@@ -12,6 +12,30 @@ pub struct Damage {
     pub value: i64,
 }
 
+/// What can be damaged in the calls of the narrow layout.
+pub const OF_NARROW: [&str; 20] = [
+    "number",
+    "second-number",
+    "size",
+    "k",
+    "sums",
+    "squares",
+    "second-sums",
+    "second-squares",
+    "work-sums",
+    "work-squares",
+    "wide",
+    "palette",
+    "counts",
+    "remainders",
+    "map",
+    "boxes",
+    "spreads",
+    "colour-bytes",
+    "weights",
+    "weighted",
+];
+
 /// What can be damaged where two tables are compared.
 pub const OF_NIGHTS: [&str; 6] = [
     "number",
@@ -89,6 +113,7 @@ impl Damage {
         Some(Self {
             what: DAMAGES
                 .into_iter()
+                .chain(OF_NARROW)
                 .chain(OF_NIGHTS)
                 .chain(OF_RESCUES)
                 .chain(WITH_RESCUES)

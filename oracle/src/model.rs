@@ -2,7 +2,7 @@
 //! It stands in the library's place where a mutant is to be caught, and shows whether a difference is the rules'.
 use crate::{
     numbers::{self, LARGEST_TOTAL, Lengths, added, bins, place},
-    port::{Band, CutAnswer, Grid, Lent, Port, Recorded},
+    port::{Band, CutAnswer, Grid, Lent, Narrow, NarrowMut, Port, Recorded},
 };
 
 /// Min inclusive, max exclusive, and the spread.
@@ -254,6 +254,38 @@ fn moments(grid: Grid, table: &[u64], work: &mut [u64]) {
     }
 }
 
+/// The wide table of a narrow one: "weight and sums as four 32-bit numbers a bin, squares apart as 64-bit"
+fn widened(table: Narrow<'_>) -> Vec<u64> {
+    let mut wide = vec![0; 5 * table.squares.len()];
+    for (place, five) in wide.as_chunks_mut::<5>().0.iter_mut().enumerate() {
+        let [n, c1, c2, c3] = [0, 1, 2, 3].map(|j| u64::from(table.sums[4 * place + j]));
+        *five = [n, c1, c2, c3, table.squares[place]];
+    }
+    wide
+}
+
+/// Writes the narrow table of a wide one, no weight and no sum of which reaches 2^32.
+fn write_narrow(wide: &[u64], table: NarrowMut<'_>) {
+    for (place, &[n, c1, c2, c3, squares]) in wide.as_chunks::<5>().0.iter().enumerate() {
+        let sums = [n, c1, c2, c3].map(|sum| u32::try_from(sum).expect("32 bits"));
+        table.sums[4 * place..4 * place + 4].copy_from_slice(&sums);
+        table.squares[place] = squares;
+    }
+}
+
+/// A narrow table as it is read.
+fn read<'a>(table: &'a NarrowMut<'_>) -> Narrow<'a> {
+    Narrow {
+        sums: table.sums,
+        squares: table.squares,
+    }
+}
+
+/// The lengths of a narrow work table.
+fn both(work: &NarrowMut<'_>) -> [usize; 2] {
+    [work.sums.len(), work.squares.len()]
+}
+
 /// Where a reader of a header is.
 #[derive(PartialEq)]
 enum At {
@@ -394,6 +426,76 @@ impl Port for Model {
         }
         let source = Source::Bins(table);
         Cutting { grid, source }.cut(k, lent)
+    }
+
+    fn narrow_load(
+        &self,
+        grid: Grid,
+        table: NarrowMut<'_>,
+        colours: &[u8],
+        weighted: bool,
+        weights: &[u32],
+    ) -> u8 {
+        let number = numbers::narrow_load(grid, read(&table), colours.len(), weighted, weights);
+        if number == 0 {
+            // "exactly what the wide layout gives"
+            let mut wide = widened(read(&table));
+            self.load(grid, &mut wide, colours, weighted, weights);
+            write_narrow(&wide, table);
+        }
+        number
+    }
+
+    fn narrow_merge(&self, grid: Grid, table: NarrowMut<'_>, second: Narrow<'_>) -> u8 {
+        let number = numbers::narrow_merge(grid, read(&table), second);
+        if number == 0 {
+            let mut wide = widened(read(&table));
+            self.merge(grid, &mut wide, &widened(second));
+            write_narrow(&wide, table);
+        }
+        number
+    }
+
+    fn narrow_cut(
+        &self,
+        grid: Grid,
+        k: usize,
+        table: Narrow<'_>,
+        work: NarrowMut<'_>,
+        lent: Lent<'_>,
+    ) -> CutAnswer {
+        let number = numbers::narrow_cut(grid, k, table, Some(both(&work)), lengths(None, &lent));
+        if number != 0 {
+            return CutAnswer::refused(number);
+        }
+        let mut wide = vec![0; 5 * bins(grid)];
+        moments(grid, &widened(table), &mut wide);
+        write_narrow(&wide, work);
+        let source = Source::Moments(&wide);
+        Cutting { grid, source }.cut(k, lent)
+    }
+
+    fn narrow_cut_slowly(
+        &self,
+        grid: Grid,
+        k: usize,
+        table: Narrow<'_>,
+        lent: Lent<'_>,
+    ) -> CutAnswer {
+        let number = numbers::narrow_cut(grid, k, table, None, lengths(None, &lent));
+        if number != 0 {
+            return CutAnswer::refused(number);
+        }
+        let source = Source::Bins(&widened(table));
+        Cutting { grid, source }.cut(k, lent)
+    }
+
+    fn widen(&self, grid: Grid, table: Narrow<'_>, wide: &mut [u64]) -> u8 {
+        let number = numbers::widen(grid, table, wide.len());
+        if number == 0 {
+            wide.copy_from_slice(&widened(table));
+        }
+        number
     }
 
     fn map(

@@ -1,11 +1,14 @@
-//! What a call answers, from docs/RULES.md (Rules, Grid; Rules, Sound; Rules, Answers; Rules, Lengths) and from nothing
-//! else. What a call is lent counts here by its length, unless its contents decide.
-use crate::port::{Band, Grid, Recorded};
+//! What a call answers, from docs/RULES.md (Rules, Grid; Rules, Sound; Rules, Layouts; Rules, Answers; Rules, Lengths)
+//! and from nothing else. What a call is lent counts here by its length, unless its contents decide.
+use crate::port::{Band, Grid, Narrow, Recorded};
 
 const SIZES: [usize; 7] = [2, 4, 8, 16, 32, 64, 128];
 
 /// The largest total of a sound table.
 pub const LARGEST_TOTAL: u128 = 4_294_967_295;
+
+/// And of a narrow one, which "takes totals up to 16,843,008".
+pub const LARGEST_NARROW: u128 = 16_843_008;
 
 /// Not "a grid size not among the seven".
 fn is_grid(grid: Grid) -> bool {
@@ -65,6 +68,11 @@ pub fn keeps_bounds(grid: Grid, place: usize, five: &[u64]) -> bool {
 
 /// The total of a sound table; none if it is not sound.
 pub fn sound(grid: Grid, table: &[u64]) -> Option<u128> {
+    sound_up_to(LARGEST_TOTAL, grid, table)
+}
+
+/// The same where another total is the largest.
+fn sound_up_to(largest: u128, grid: Grid, table: &[u64]) -> Option<u128> {
     let mut total = 0;
     for (place, five) in table.chunks_exact(5).enumerate() {
         if !keeps_bounds(grid, place, five) {
@@ -72,7 +80,34 @@ pub fn sound(grid: Grid, table: &[u64]) -> Option<u128> {
         }
         total += u128::from(five[0]);
     }
-    (total <= LARGEST_TOTAL).then_some(total)
+    (total <= largest).then_some(total)
+}
+
+/// The five numbers of each bin of a narrow table: "weight and sums as four 32-bit numbers a bin, squares apart as
+/// 64-bit".
+pub fn five_each(table: Narrow<'_>) -> Vec<u64> {
+    let bins = table.sums.chunks_exact(4).zip(table.squares);
+    bins.flat_map(|(sums, &squares)| {
+        [0, 1, 2, 3]
+            .map(|j| sums[j].into())
+            .into_iter()
+            .chain([squares])
+    })
+    .collect()
+}
+
+/// "both lists of exact length": 4·bins numbers and bins numbers.
+fn fits(grid: Grid, [sums, squares]: [usize; 2]) -> bool {
+    sums == 4 * bins(grid) && squares == bins(grid)
+}
+
+fn lengths(table: Narrow<'_>) -> [usize; 2] {
+    [table.sums.len(), table.squares.len()]
+}
+
+/// The total of a sound narrow table, whose lists fit the grid; none if it is not sound.
+pub fn narrow_sound(grid: Grid, table: Narrow<'_>) -> Option<u128> {
+    sound_up_to(LARGEST_NARROW, grid, &five_each(table))
 }
 
 /// "The lowest answer from 1 to 9 that applies is given": tests with their answers, in order.
@@ -123,6 +158,57 @@ pub fn batch(
             &|| sound(grid, table).is_some_and(|total| total + batch() > LARGEST_TOTAL),
             7,
         ),
+    ])
+}
+
+/// What a narrow load answers: "15, in the place of 7".
+pub fn narrow_load(
+    grid: Grid,
+    table: Narrow<'_>,
+    colours: usize,
+    weighted: bool,
+    weights: &[u32],
+) -> u8 {
+    let n = colours / 3;
+    let batch = || match weighted {
+        true => weights.iter().map(|&w| u128::from(w)).sum(),
+        false => n as u128,
+    };
+    let total = || narrow_sound(grid, table);
+    lowest(&[
+        (&|| !is_grid(grid), 1),
+        (&|| !colours.is_multiple_of(3), 3),
+        (&|| weighted && weights.len() != n, 4),
+        (&|| !fits(grid, lengths(table)), 5),
+        (&|| total().is_none(), 6),
+        (
+            &|| total().is_some_and(|t| t + batch() > LARGEST_NARROW),
+            15,
+        ),
+    ])
+}
+
+pub fn narrow_merge(grid: Grid, table: Narrow<'_>, second: Narrow<'_>) -> u8 {
+    let totals = || narrow_sound(grid, table).zip(narrow_sound(grid, second));
+    lowest(&[
+        (&|| !is_grid(grid), 1),
+        (&|| !fits(grid, lengths(table)), 5),
+        (&|| !fits(grid, lengths(second)), 5),
+        (&|| totals().is_none(), 6),
+        (
+            &|| totals().is_some_and(|(a, b)| a + b > LARGEST_NARROW),
+            15,
+        ),
+    ])
+}
+
+/// "widen 1, 5, 6": what the wide list holds is not looked at.
+pub fn widen(grid: Grid, table: Narrow<'_>, wide: usize) -> u8 {
+    lowest(&[
+        (&|| !is_grid(grid), 1),
+        (&|| !fits(grid, lengths(table)), 5),
+        (&|| wide != 5 * bins(grid), 5),
+        (&|| narrow_sound(grid, table).is_none(), 6),
     ])
 }
 
@@ -199,19 +285,44 @@ impl Lengths {
 
 /// What a cut answers, and a slow one: its refusals are the same but for the length of the work table.
 pub fn cut(grid: Grid, k: usize, table: &[u64], lent: Lengths) -> u8 {
+    let long = |n: usize| n == 5 * bins(grid);
+    let tables = || long(table.len()) && lent.work.is_none_or(long);
+    cut_of(grid, k, &tables, lent, &|| sound(grid, table))
+}
+
+/// The same in the narrow layout, whose work table has two lists. The one of `lent` is not looked at.
+pub fn narrow_cut(
+    grid: Grid,
+    k: usize,
+    table: Narrow<'_>,
+    work: Option<[usize; 2]>,
+    lent: Lengths,
+) -> u8 {
+    let long = |n: [usize; 2]| fits(grid, n);
+    let tables = || long(lengths(table)) && work.is_none_or(long);
+    cut_of(grid, k, &tables, lent, &|| narrow_sound(grid, table))
+}
+
+/// A cut in either layout, by whether its tables are as long as they have to be, and by the total of its sound table.
+fn cut_of(
+    grid: Grid,
+    k: usize,
+    tables: &dyn Fn() -> bool,
+    lent: Lengths,
+    total: &dyn Fn() -> Option<u128>,
+) -> u8 {
     lowest(&[
         (&|| !is_grid(grid), 1),
         (&|| !(1..=256).contains(&k), 2),
-        (&|| table.len() != 5 * bins(grid), 5),
-        (&|| lent.work.is_some_and(|n| n != 5 * bins(grid)), 5),
+        (&|| !tables(), 5),
         (&|| lent.palette < 3 * k, 5),
         (&|| lent.counts < k, 5),
         (&|| lent.remainders < 3 * k, 5),
         (&|| lent.map != bins(grid), 5),
         (&|| lent.boxes < 6 * k, 5),
         (&|| lent.spreads < k, 5),
-        (&|| sound(grid, table).is_none(), 6),
-        (&|| sound(grid, table) == Some(0), 8),
+        (&|| total().is_none(), 6),
+        (&|| total() == Some(0), 8),
     ])
 }
 

@@ -12,6 +12,19 @@ pub struct Lent<'a> {
     pub spreads: &'a mut [u64],
 }
 
+/// A narrow table to read: weight and sums of each bin, and its squares apart.
+#[derive(Clone, Copy)]
+pub struct Narrow<'a> {
+    pub sums: &'a [u32],
+    pub squares: &'a [u64],
+}
+
+/// A narrow table to write.
+pub struct NarrowMut<'a> {
+    pub sums: &'a mut [u32],
+    pub squares: &'a mut [u64],
+}
+
 /// A band of a frame: its first pixel and how many.
 #[derive(Clone, Copy, Debug, Default, PartialEq, Eq)]
 pub struct Band {
@@ -113,6 +126,37 @@ pub trait Port {
 
     /// A cut without a work table.
     fn cut_slowly(&self, grid: Grid, k: usize, table: &[u64], lent: Lent<'_>) -> CutAnswer;
+
+    fn narrow_load(
+        &self,
+        grid: Grid,
+        table: NarrowMut<'_>,
+        colours: &[u8],
+        weighted: bool,
+        weights: &[u32],
+    ) -> u8;
+
+    fn narrow_merge(&self, grid: Grid, table: NarrowMut<'_>, second: Narrow<'_>) -> u8;
+
+    fn narrow_cut(
+        &self,
+        grid: Grid,
+        k: usize,
+        table: Narrow<'_>,
+        work: NarrowMut<'_>,
+        lent: Lent<'_>,
+    ) -> CutAnswer;
+
+    fn narrow_cut_slowly(
+        &self,
+        grid: Grid,
+        k: usize,
+        table: Narrow<'_>,
+        lent: Lent<'_>,
+    ) -> CutAnswer;
+
+    /// The wide table of a narrow one.
+    fn widen(&self, grid: Grid, table: Narrow<'_>, wide: &mut [u64]) -> u8;
 
     fn map(
         &self,

@@ -96,10 +96,11 @@ fn report(name: &str, ran: &Ran, seconds: f64) {
     );
     if t.boxes > 0 {
         println!(
-            "    {} boxes; {} also slowly, {} by pixels, {} by batches, {} with 64-bit sums, {} with a negative \
+            "    {} boxes; {} also slowly, {} also narrow, {} by pixels, {} by batches, {} with 64-bit sums, {} with a negative \
              spread, {} with a box put back ({} of them falsely positive), {} of total 0, {} too heavy",
             t.boxes,
             t.slowly,
+            t.narrow,
             t.by_pixels,
             t.by_batches,
             t.wide,

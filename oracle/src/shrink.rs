@@ -55,14 +55,19 @@ pub fn shrink(case: &Case, differs: &dyn Fn(&Case) -> bool) -> Case {
 fn is_fit(case: &Case) -> bool {
     let pixels: usize = case.frame.iter().map(|f| f.1).sum();
     let colours = case.input.colors.len();
-    let asked = matches!(case.kind, Kind::Whole { .. } | Kind::Calls { .. });
+    let asked = matches!(
+        case.kind,
+        Kind::Whole { .. } | Kind::Calls { .. } | Kind::Narrow { .. }
+    );
     let any = case.grid.iter().all(|&size| size >= 2);
     (original(case.grid).is_some() || any && !asked)
         && (1..=256).contains(&case.k)
         && case.band.first + case.band.pixels <= pixels
         && match &case.kind {
             Kind::Whole { by_pixels, .. } => !by_pixels || case.input.total() > 0,
-            Kind::Calls { split, .. } | Kind::Ppm { split, .. } => *split <= colours,
+            Kind::Calls { split, .. } | Kind::Narrow { split, .. } | Kind::Ppm { split, .. } => {
+                *split <= colours
+            }
             Kind::Nights { from, split, .. } => *from.max(split) <= colours,
             Kind::Rescues { .. } => true,
             Kind::Recordings { split, entries, .. } => {
@@ -81,7 +86,9 @@ fn without(case: &Case, at: usize, count: usize) -> Case {
     let fewer = |split: &mut usize| *split -= (*split).clamp(at, end) - at;
     match &mut other.kind {
         Kind::Whole { .. } | Kind::Rescues { .. } | Kind::Palettes { .. } => {}
-        Kind::Calls { split, .. } | Kind::Ppm { split, .. } => fewer(split),
+        Kind::Calls { split, .. } | Kind::Narrow { split, .. } | Kind::Ppm { split, .. } => {
+            fewer(split)
+        }
         Kind::Nights { from, split, .. } => {
             fewer(from);
             fewer(split);
@@ -197,6 +204,20 @@ fn kinds(case: &Case) -> Vec<Case> {
                     ..case.clone()
                 });
             }
+        }
+        Kind::Narrow { split, damages } => {
+            for i in 0..damages.len() {
+                let mut other = case.clone();
+                if let Kind::Narrow { damages, .. } = &mut other.kind {
+                    damages.remove(i);
+                }
+                list.push(other);
+            }
+            list.extend(with(case, *split, |c, n| {
+                if let Kind::Narrow { split, .. } = &mut c.kind {
+                    *split = n;
+                }
+            }));
         }
         Kind::Nights {
             from,

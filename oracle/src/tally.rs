@@ -6,6 +6,7 @@ pub struct Tally {
     pub cases: usize,
     pub boxes: usize,
     pub slowly: usize,
+    pub narrow: usize,
     pub of_total_0: usize,
     pub too_heavy: usize,
     pub by_pixels: usize,
@@ -16,11 +17,11 @@ pub struct Tally {
     pub falsely_positive: usize,
     /// Of the calls made one by one, of the entries of replays and of the bins of rescues, how many answered each
     /// number.
-    pub numbers: [[usize; 15]; CALLS.len()],
+    pub numbers: [[usize; 16]; CALLS.len()],
 }
 
 /// The calls whose numbers are counted.
-pub const CALLS: [&str; 17] = [
+pub const CALLS: [&str; 22] = [
     "load",
     "merge",
     "cut",
@@ -38,6 +39,11 @@ pub const CALLS: [&str; 17] = [
     "ppm_header",
     "load_ppm",
     "nearest",
+    "narrow_load",
+    "narrow_merge",
+    "narrow_cut",
+    "narrow_cut_slowly",
+    "widen",
 ];
 
 impl Tally {

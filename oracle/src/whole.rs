@@ -5,6 +5,7 @@ use crate::{
     batches::{Batch, merged, split},
     buffer::{Buffer, Buffers, Differs, fitting, same, slowly},
     case::{Case, LIGHT},
+    narrow::beside,
     numbers::Lengths,
     port::{Band, CutAnswer, Grid, Port},
     random::Random,
@@ -50,7 +51,7 @@ impl Whole<'_> {
     /// The same table, from the input shuffled, split and merged.
     fn load_batches(&mut self, count: usize, table: &[u64]) -> Result<(), Differs> {
         let batches = split(&self.case.input, count, &mut self.r);
-        let mut other = merged(self.port, self.case.grid, &batches, &mut self.r)?;
+        let mut other: Buffer<u64> = merged(self.port, self.case.grid, &batches, &mut self.r)?;
         other.expect("the table of the batches", 0, table)
     }
 
@@ -119,6 +120,7 @@ pub fn whole(
     let mut run = Whole { port, case, r };
     let Some(mut table) = run.load()? else {
         tally.too_heavy += 1;
+        beside(port, case, 0, None, &mut run.r)?;
         return Ok(());
     };
     let frame = case.frame_pixels();
@@ -140,6 +142,8 @@ pub fn whole(
         run.cut(lengths.slowly(), &mut table, told.as_ref())
             .map_err(slowly)?;
     }
+    let narrow = beside(port, case, batches, told.as_ref(), &mut run.r)?;
+    tally.narrow += usize::from(narrow);
     let Some(told) = told else {
         tally.of_total_0 += 1;
         return Ok(());

@@ -6,7 +6,7 @@ use oracle::{
     classes::{CLASSES, Cases, Grids, Maker},
     compare::check,
     model::Model,
-    port::{Band, CutAnswer, Grid, Lent, Port, Recorded},
+    port::{Band, CutAnswer, Grid, Lent, Narrow, NarrowMut, Port, Recorded},
     random::Random,
     runner::run,
     tally::Tally,
@@ -149,6 +149,46 @@ impl Port for Faulty {
 
     fn cut_slowly(&self, grid: Grid, k: usize, table: &[u64], lent: Lent<'_>) -> CutAnswer {
         Model.cut_slowly(grid, k, table, lent)
+    }
+
+    fn narrow_load(
+        &self,
+        grid: Grid,
+        table: NarrowMut<'_>,
+        colours: &[u8],
+        weighted: bool,
+        weights: &[u32],
+    ) -> u8 {
+        Model.narrow_load(grid, table, colours, weighted, weights)
+    }
+
+    fn narrow_merge(&self, grid: Grid, table: NarrowMut<'_>, second: Narrow<'_>) -> u8 {
+        Model.narrow_merge(grid, table, second)
+    }
+
+    fn narrow_cut(
+        &self,
+        grid: Grid,
+        k: usize,
+        table: Narrow<'_>,
+        work: NarrowMut<'_>,
+        lent: Lent<'_>,
+    ) -> CutAnswer {
+        Model.narrow_cut(grid, k, table, work, lent)
+    }
+
+    fn narrow_cut_slowly(
+        &self,
+        grid: Grid,
+        k: usize,
+        table: Narrow<'_>,
+        lent: Lent<'_>,
+    ) -> CutAnswer {
+        Model.narrow_cut_slowly(grid, k, table, lent)
+    }
+
+    fn widen(&self, grid: Grid, table: Narrow<'_>, wide: &mut [u64]) -> u8 {
+        Model.widen(grid, table, wide)
     }
 
     fn map(

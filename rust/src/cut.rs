@@ -3,17 +3,20 @@ use std::fmt;
 
 /// Room for a cut to work in, kept from one cut to the next.
 ///
-/// It serves tables of any grid, and keeps the room of the largest.
+/// It serves tables of any grid and of either layout, and keeps the room of the largest.
 #[derive(Default)]
 pub struct WorkTable {
-    numbers: Vec<u64>,
+    /// The numbers of a table, or the squares of a narrow one.
+    large: Vec<u64>,
+    /// The sums of a narrow one.
+    small: Vec<u32>,
 }
 
 /// The numbers may be ten million: only how many there are is printed.
 impl fmt::Debug for WorkTable {
     fn fmt(&self, f: &mut fmt::Formatter<'_>) -> fmt::Result {
         f.debug_struct("WorkTable")
-            .field("numbers", &self.numbers.len())
+            .field("numbers", &(self.large.len() + self.small.len()))
             .finish()
     }
 }
@@ -23,13 +26,24 @@ impl WorkTable {
     #[must_use]
     pub const fn new() -> WorkTable {
         WorkTable {
-            numbers: Vec::new(),
+            large: Vec::new(),
+            small: Vec::new(),
         }
     }
 
-    fn for_grid(&mut self, grid: Grid) -> &mut [u64] {
-        self.numbers.resize(grid.numbers(), 0);
-        &mut self.numbers
+    fn for_table(&mut self, grid: Grid) -> &mut [u64] {
+        self.large.resize(grid.numbers(), 0);
+        &mut self.large
+    }
+
+    /// The same for a narrow table.
+    pub(crate) fn for_narrow(&mut self, grid: Grid) -> sys::NarrowMut<'_> {
+        self.small.resize(4 * grid.bins(), 0);
+        self.large.resize(grid.bins(), 0);
+        sys::NarrowMut {
+            sums: &mut self.small,
+            squares: &mut self.large,
+        }
     }
 }
 
@@ -80,6 +94,41 @@ impl fmt::Debug for Cut {
 }
 
 impl Cut {
+    /// Lends a call what it writes, and makes a cut of that.
+    pub(crate) fn by(
+        grid: Grid,
+        call: impl FnOnce(sys::Lent<'_>) -> Result<sys::Done, Refused>,
+    ) -> Result<Cut, Refused> {
+        let mut palette = vec![[0; 3]; MOST_COLOURS];
+        let mut counts = vec![0; MOST_COLOURS];
+        let mut remainders = vec![[0; 3]; MOST_COLOURS];
+        let mut map = vec![0; grid.bins()];
+        let mut bounds = vec![[0; 6]; MOST_COLOURS];
+        let mut spreads = vec![0.0; MOST_COLOURS];
+        let lent = sys::Lent {
+            palette: &mut palette,
+            counts: &mut counts,
+            remainders: &mut remainders,
+            map: &mut map,
+            boxes: &mut bounds,
+            spreads: &mut spreads,
+        };
+        let sys::Done { boxes, rounds } = call(lent)?;
+        palette.truncate(boxes);
+        counts.truncate(boxes);
+        remainders.truncate(boxes);
+        let boxes = bounds.into_iter().zip(spreads).take(boxes);
+        Ok(Cut {
+            rounds,
+            counts,
+            remainders,
+            boxes: boxes
+                .map(|(bounds, spread)| ColourBox::of(bounds, spread))
+                .collect(),
+            colour_map: ColourMap::of_cut(grid, map, palette),
+        })
+    }
+
     /// The colour of each box: the mean of its colours, rounded down.
     #[must_use]
     pub fn palette(&self) -> &[[u8; 3]] {
@@ -208,8 +257,8 @@ impl Table {
     /// # Ok::<(), seluvava::Refused>(())
     /// ```
     pub fn cut_with(&self, work: &mut WorkTable, k: usize) -> Result<Cut, Refused> {
-        let (grid, work) = (self.grid(), work.for_grid(self.grid()));
-        self.cut_by(|lent| sys::cut(grid, k, self.numbers(), work, lent))
+        let (grid, work) = (self.grid(), work.for_table(self.grid()));
+        Cut::by(grid, |lent| sys::cut(grid, k, self.numbers(), work, lent))
     }
 
     /// Cuts as [`cut`](Table::cut) does, without a work table: the bins of a box are added up each time that its sums
@@ -234,42 +283,7 @@ impl Table {
     /// # Ok::<(), seluvava::Refused>(())
     /// ```
     pub fn cut_slowly(&self, k: usize) -> Result<Cut, Refused> {
-        self.cut_by(|lent| sys::cut_slowly(self.grid(), k, self.numbers(), lent))
-    }
-
-    /// Lends a call what it writes, and makes a cut of that.
-    fn cut_by(
-        &self,
-        call: impl FnOnce(sys::Lent<'_>) -> Result<sys::Done, Refused>,
-    ) -> Result<Cut, Refused> {
         let grid = self.grid();
-        let mut palette = vec![[0; 3]; MOST_COLOURS];
-        let mut counts = vec![0; MOST_COLOURS];
-        let mut remainders = vec![[0; 3]; MOST_COLOURS];
-        let mut map = vec![0; grid.bins()];
-        let mut bounds = vec![[0; 6]; MOST_COLOURS];
-        let mut spreads = vec![0.0; MOST_COLOURS];
-        let lent = sys::Lent {
-            palette: &mut palette,
-            counts: &mut counts,
-            remainders: &mut remainders,
-            map: &mut map,
-            boxes: &mut bounds,
-            spreads: &mut spreads,
-        };
-        let sys::Done { boxes, rounds } = call(lent)?;
-        palette.truncate(boxes);
-        counts.truncate(boxes);
-        remainders.truncate(boxes);
-        let boxes = bounds.into_iter().zip(spreads).take(boxes);
-        Ok(Cut {
-            rounds,
-            counts,
-            remainders,
-            boxes: boxes
-                .map(|(bounds, spread)| ColourBox::of(bounds, spread))
-                .collect(),
-            colour_map: ColourMap::of_cut(grid, map, palette),
-        })
+        Cut::by(grid, |lent| sys::cut_slowly(grid, k, self.numbers(), lent))
     }
 }

@@ -44,7 +44,8 @@ impl Grid {
         self.sizes
     }
 
-    /// How many bins there are: the length of a [`ColourMap`](crate::ColourMap)'s entries.
+    /// How many bins there are: the length of a [`ColourMap`](crate::ColourMap)'s entries, and of a
+    /// [`NarrowTable`](crate::NarrowTable)'s squares.
     #[must_use]
     pub fn bins(self) -> usize {
         sys::bins(self.sizes)

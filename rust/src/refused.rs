@@ -3,7 +3,7 @@ use std::{error::Error, fmt};
 /// Why a call was refused. A refused call has changed nothing.
 ///
 /// Each case has the number that the calls for C answer, and of the numbers that apply a call gives the lowest, but for
-/// 10 to 14, which come before 1.
+/// 10 to 14, which come before 1; 15 stands in the place of 7.
 ///
 /// ```
 /// use seluvava::{Grid, Refused};
@@ -46,10 +46,12 @@ pub enum Refused {
     Interval = 13,
     /// 14: the interval of a batch is not the one in force.
     NotInForce = 14,
+    /// 15: the total of a narrow table after a load or a merge, or made of a table, would pass 16,843,008.
+    NarrowTotal = 15,
 }
 
 impl Refused {
-    const ALL: [Refused; 14] = [
+    const ALL: [Refused; 15] = [
         Refused::GridSize,
         Refused::PaletteSize,
         Refused::StrayBytes,
@@ -64,6 +66,7 @@ impl Refused {
         Refused::PpmLength,
         Refused::Interval,
         Refused::NotInForce,
+        Refused::NarrowTotal,
     ];
 
     /// The number of the refusal.
@@ -72,7 +75,7 @@ impl Refused {
         self as u8
     }
 
-    /// The refusal with this number. No other numbers than 1 to 14 have one; 0 is what a call that is done answers.
+    /// The refusal with this number. No other numbers than 1 to 15 have one; 0 is what a call that is done answers.
     ///
     /// ```
     /// use seluvava::Refused;
@@ -120,6 +123,7 @@ impl fmt::Display for Refused {
             Refused::PpmLength => "a PPM has more or fewer bytes of pixels than its header says",
             Refused::Interval => "an interval is outside 1 to 4,096",
             Refused::NotInForce => "the interval of a batch is not the one in force",
+            Refused::NarrowTotal => "the total of a narrow table would pass 16,843,008",
         };
         write!(f, "refused {}: {reason}", self.number())
     }

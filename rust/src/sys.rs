@@ -11,8 +11,10 @@ use crate::{Grid, Refused, ppm};
 use seluvava_sys::{
     CutAnswer, Session, SessionAnswer, seluvava_batch, seluvava_begin, seluvava_bins,
     seluvava_compare, seluvava_cut, seluvava_cut_slowly, seluvava_load, seluvava_load_ppm,
-    seluvava_map, seluvava_merge, seluvava_nearest, seluvava_paint, seluvava_ppm_header,
-    seluvava_reload, seluvava_replay, seluvava_rescue, seluvava_table_len,
+    seluvava_map, seluvava_merge, seluvava_narrow_cut, seluvava_narrow_cut_slowly,
+    seluvava_narrow_load, seluvava_narrow_merge, seluvava_nearest, seluvava_paint,
+    seluvava_ppm_header, seluvava_reload, seluvava_replay, seluvava_rescue, seluvava_table_len,
+    seluvava_widen,
 };
 
 /// The bins of a grid, or 0 where it is refused.
@@ -266,6 +268,40 @@ fn done(answer: CutAnswer) -> Result<Done, Refused> {
     })
 }
 
+/// Makes the call of a cut. After k stand the slices that it reads and works in, and what every cut writes comes last.
+macro_rules! cut_by {
+    ($call: ident, $grid: ident, $k: ident, $lent: ident, $($read: ident),*; $($written: ident),*) => {{
+        let [b1, b2, b3] = $grid.sizes();
+        let palette = $lent.palette.as_flattened_mut();
+        let remainders = $lent.remainders.as_flattened_mut();
+        let boxes = $lent.boxes.as_flattened_mut();
+        // SAFETY: pointers and lengths are those of slices; what is read is not written, and each slice that is written
+        // is borrowed mutably.
+        done(unsafe {
+            $call(
+                b1,
+                b2,
+                b3,
+                $k,
+                $($read.as_ptr(), $read.len(),)*
+                $($written.as_mut_ptr(), $written.len(),)*
+                palette.as_mut_ptr(),
+                palette.len(),
+                $lent.counts.as_mut_ptr(),
+                $lent.counts.len(),
+                remainders.as_mut_ptr(),
+                remainders.len(),
+                $lent.map.as_mut_ptr(),
+                $lent.map.len(),
+                boxes.as_mut_ptr(),
+                boxes.len(),
+                $lent.spreads.as_mut_ptr(),
+                $lent.spreads.len(),
+            )
+        })
+    }};
+}
+
 /// Cuts a table into at most k boxes.
 pub fn cut(
     grid: Grid,
@@ -274,66 +310,129 @@ pub fn cut(
     work: &mut [u64],
     lent: Lent<'_>,
 ) -> Result<Done, Refused> {
-    let [b1, b2, b3] = grid.sizes();
-    let palette = lent.palette.as_flattened_mut();
-    let remainders = lent.remainders.as_flattened_mut();
-    let boxes = lent.boxes.as_flattened_mut();
-    // SAFETY: pointers and lengths are those of slices; `table` is not written, and each other one is borrowed mutably.
-    done(unsafe {
-        seluvava_cut(
-            b1,
-            b2,
-            b3,
-            k,
-            table.as_ptr(),
-            table.len(),
-            work.as_mut_ptr(),
-            work.len(),
-            palette.as_mut_ptr(),
-            palette.len(),
-            lent.counts.as_mut_ptr(),
-            lent.counts.len(),
-            remainders.as_mut_ptr(),
-            remainders.len(),
-            lent.map.as_mut_ptr(),
-            lent.map.len(),
-            boxes.as_mut_ptr(),
-            boxes.len(),
-            lent.spreads.as_mut_ptr(),
-            lent.spreads.len(),
-        )
-    })
+    cut_by!(seluvava_cut, grid, k, lent, table; work)
 }
 
 /// Cuts a table into at most k boxes, without a work table.
 pub fn cut_slowly(grid: Grid, k: usize, table: &[u64], lent: Lent<'_>) -> Result<Done, Refused> {
+    cut_by!(seluvava_cut_slowly, grid, k, lent, table;)
+}
+
+/// A narrow table: weight and sums of each bin, and its squares apart.
+#[derive(Clone, Copy)]
+pub struct Narrow<'a> {
+    pub sums: &'a [u32],
+    pub squares: &'a [u64],
+}
+
+/// A narrow table that is written.
+pub struct NarrowMut<'a> {
+    pub sums: &'a mut [u32],
+    pub squares: &'a mut [u64],
+}
+
+/// Adds a batch of colours to a narrow table, with weights where they are given.
+pub fn narrow_load(
+    grid: Grid,
+    NarrowMut { sums, squares }: NarrowMut<'_>,
+    colours: &[u8],
+    weights: Option<&[u32]>,
+) -> Result<(), Refused> {
     let [b1, b2, b3] = grid.sizes();
-    let palette = lent.palette.as_flattened_mut();
-    let remainders = lent.remainders.as_flattened_mut();
-    let boxes = lent.boxes.as_flattened_mut();
-    // SAFETY: pointers and lengths are those of slices; `table` is not written, and each other one is borrowed mutably.
-    done(unsafe {
-        seluvava_cut_slowly(
+    let weighted = weights.is_some();
+    let weights = weights.unwrap_or_default();
+    // SAFETY: pointers and lengths are those of slices; `sums` and `squares` are written, each lent by a `&mut` of its
+    // own.
+    let number = unsafe {
+        seluvava_narrow_load(
             b1,
             b2,
             b3,
-            k,
-            table.as_ptr(),
-            table.len(),
-            palette.as_mut_ptr(),
-            palette.len(),
-            lent.counts.as_mut_ptr(),
-            lent.counts.len(),
-            remainders.as_mut_ptr(),
-            remainders.len(),
-            lent.map.as_mut_ptr(),
-            lent.map.len(),
-            boxes.as_mut_ptr(),
-            boxes.len(),
-            lent.spreads.as_mut_ptr(),
-            lent.spreads.len(),
+            sums.as_mut_ptr(),
+            sums.len(),
+            squares.as_mut_ptr(),
+            squares.len(),
+            colours.as_ptr(),
+            colours.len(),
+            weighted,
+            weights.as_ptr(),
+            weights.len(),
         )
-    })
+    };
+    Refused::unless_done(number)
+}
+
+/// Adds a second narrow table into a first.
+pub fn narrow_merge(
+    grid: Grid,
+    NarrowMut { sums, squares }: NarrowMut<'_>,
+    second: Narrow<'_>,
+) -> Result<(), Refused> {
+    let [b1, b2, b3] = grid.sizes();
+    // SAFETY: pointers and lengths are those of slices; `sums` and `squares` are written, each lent by a `&mut` of its
+    // own.
+    let number = unsafe {
+        seluvava_narrow_merge(
+            b1,
+            b2,
+            b3,
+            sums.as_mut_ptr(),
+            sums.len(),
+            squares.as_mut_ptr(),
+            squares.len(),
+            second.sums.as_ptr(),
+            second.sums.len(),
+            second.squares.as_ptr(),
+            second.squares.len(),
+        )
+    };
+    Refused::unless_done(number)
+}
+
+/// Cuts a narrow table into at most k boxes.
+pub fn narrow_cut(
+    grid: Grid,
+    k: usize,
+    Narrow { sums, squares }: Narrow<'_>,
+    work: NarrowMut<'_>,
+    lent: Lent<'_>,
+) -> Result<Done, Refused> {
+    let (work_sums, work_squares) = (work.sums, work.squares);
+    cut_by!(seluvava_narrow_cut, grid, k, lent, sums, squares; work_sums, work_squares)
+}
+
+/// Cuts a narrow table into at most k boxes, without a work table.
+pub fn narrow_cut_slowly(
+    grid: Grid,
+    k: usize,
+    Narrow { sums, squares }: Narrow<'_>,
+    lent: Lent<'_>,
+) -> Result<Done, Refused> {
+    cut_by!(seluvava_narrow_cut_slowly, grid, k, lent, sums, squares;)
+}
+
+/// Writes the wide table of a narrow one.
+pub fn widen(
+    grid: Grid,
+    Narrow { sums, squares }: Narrow<'_>,
+    table: &mut [u64],
+) -> Result<(), Refused> {
+    let [b1, b2, b3] = grid.sizes();
+    // SAFETY: pointers and lengths are those of slices, and `table` is the only one that is written.
+    let number = unsafe {
+        seluvava_widen(
+            b1,
+            b2,
+            b3,
+            sums.as_ptr(),
+            sums.len(),
+            squares.as_ptr(),
+            squares.len(),
+            table.as_mut_ptr(),
+            table.len(),
+        )
+    };
+    Refused::unless_done(number)
 }
 
 /// Pixels of a frame that follow each other.

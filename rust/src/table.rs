@@ -7,7 +7,8 @@ use std::fmt;
 /// table of its own. As long as none is refused, the order of loads and merges makes no difference. [`cut`](Table::cut) then makes a palette.
 ///
 /// A bin has five numbers, together: the weight of its colours, the sums of red, green and blue, and the sum of the
-/// squares of all three. Bin (r, g, b) of a grid B1, B2, B3 is the one at place (r·B2 + g)·B3 + b.
+/// squares of all three. Bin (r, g, b) of a grid B1, B2, B3 is the one at place (r·B2 + g)·B3 + b. A
+/// [`NarrowTable`](crate::NarrowTable) is smaller, and takes totals up to 16,843,008.
 ///
 /// ```
 /// use seluvava::{Grid, Table};

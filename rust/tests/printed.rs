@@ -1,5 +1,5 @@
 //! What `Debug` prints is short, however many numbers there are.
-use seluvava::{Grid, Refused, Table, WorkTable};
+use seluvava::{Grid, NarrowTable, Refused, Table, WorkTable};
 
 #[test]
 fn printed_without_the_numbers() -> Result<(), Refused> {
@@ -9,6 +9,7 @@ fn printed_without_the_numbers() -> Result<(), Refused> {
     let cut = table.cut_with(&mut work, 16)?;
     let printed = [
         format!("{table:?}"),
+        format!("{:?}", NarrowTable::try_from(&table)?),
         format!("{:?}", table.compare(&Table::new(table.grid()))?),
         format!("{:?}", table.clone().rescue()),
         format!("{work:?}"),
@@ -17,6 +18,7 @@ fn printed_without_the_numbers() -> Result<(), Refused> {
     ];
     let expected = [
         "Table { grid: [128, 128, 128], total: 3, .. }",
+        "NarrowTable { grid: [128, 128, 128], total: 3, .. }",
         "Comparison { grid: [128, 128, 128], differing: 2, .. }",
         "Rescue { grid: [128, 128, 128], out_of_bounds: 0, past_total: 0, .. }",
         "WorkTable { numbers: 10485760 }",

@@ -244,7 +244,7 @@ fn numbers_and_texts() {
         all.iter()
             .map(|refused| refused.number())
             .collect::<Vec<_>>(),
-        [1, 2, 3, 4, 5, 6, 7, 8, 9, 10, 11, 12, 13, 14]
+        [1, 2, 3, 4, 5, 6, 7, 8, 9, 10, 11, 12, 13, 14, 15]
     );
     for refused in all {
         let error: &dyn std::error::Error = &refused;

@@ -9,7 +9,8 @@ use Rattle.grid.specs.Grid.{Inside, placeOf}
 use Rattle.basics.proofs.Range.{run-none, run-more, sum-grow, term-le}
 use Rattle.table.specs.declared.cell.Cell.{Cell}
 use Rattle.table.specs.Cell.{numberOf, cellOf, plusCell, SumsFit}
-use Rattle.table.specs.Table.{Table, viewOf}
+use Rattle.table.specs.declared.layout.Layout.{Layout}
+use Rattle.table.specs.Layout.{TableIn, viewIn}
 use Rattle.table.specs.Sound.{limit}
 use Rattle.table.proofs.Cells.{number-cell, number-plus, cell-by, zeroCell, zeros-cell}
 use Rattle.boxes.specs.declared.sides.Bounds.{Bounds}
@@ -48,41 +49,41 @@ module _ (f : ℕ → ℕ → ℕ) (first : ℕ) where
         ∙ sym (number-cell (upTo (i + 1)) j h))
 
 -- ---- a part of a box has no more than the box
-module _ {g : Grid} {t : Table} {x : Bounds} (c : CanAdd limit g t x) where
+module _ {layout : Layout} {g : Grid} {t : TableIn layout} {x : Bounds} (c : CanAdd layout limit g t x) where
   pub planes-small : (end : ℕ) → end ≤ x .r1 → (j : ℕ) → j < 5
-      → planesSum g (viewOf t) x (x .r0) (end - x .r0) j < 2 ^ 50
+      → planesSum g (viewIn layout t) x (x .r0) (end - x .r0) j < 2 ^ 50
   unfolding boxSum binSum sum3 planesSum planeSum rowSum
   planes-small end h j l =
       omega (
         arith,
-        sum-grow (x .r0) (end - x .r0) (x .r1 - x .r0) (λ y. planeSum g (viewOf t) x y (x .g0) (x .g1 - x .g0) j)
+        sum-grow (x .r0) (end - x .r0) (x .r1 - x .r0) (λ y. planeSum g (viewIn layout t) x y (x .g0) (x .g1 - x .g0) j)
             (omega arith),
         box-small (record { holds = c .is-sound }) (c .within) j l,
       )
 
-module _ {g : Grid} {t : Table} {x : Bounds} {r : ℕ} (p : InPlane limit g t x r) where
+module _ {layout : Layout} {g : Grid} {t : TableIn layout} {x : Bounds} {r : ℕ} (p : InPlane layout limit g t x r) where
   pub rows-small : (end : ℕ) → end ≤ x .g1 → (j : ℕ) → j < 5
-      → planeSum g (viewOf t) x r (x .g0) (end - x .g0) j < 2 ^ 50
+      → planeSum g (viewIn layout t) x r (x .g0) (end - x .g0) j < 2 ^ 50
   unfolding planesSum planeSum
   rows-small end h j l =
       omega (
         arith,
-        sum-grow (x .g0) (end - x .g0) (x .g1 - x .g0) (λ y. rowSum g (viewOf t) r y (x .b0) (x .b1 - x .b0) j)
+        sum-grow (x .g0) (end - x .g0) (x .g1 - x .g0) (λ y. rowSum g (viewIn layout t) r y (x .b0) (x .b1 - x .b0) j)
             (omega arith),
-        term-le (x .r0) (x .r1 - x .r0) (λ y. planeSum g (viewOf t) x y (x .g0) (x .g1 - x .g0) j) r (p .from)
+        term-le (x .r0) (x .r1 - x .r0) (λ y. planeSum g (viewIn layout t) x y (x .g0) (x .g1 - x .g0) j) r (p .from)
             (omega (arith, p .from, p .before)),
         planes-small (p .can-add) (x .r1) (omega arith) j l,
       )
 
-module _ {g : Grid} {t : Table} {x : Bounds} {r gr : ℕ} (p : InRow limit g t x r gr) where
+module _ {layout : Layout} {g : Grid} {t : TableIn layout} {x : Bounds} {r gr : ℕ} (p : InRow layout limit g t x r gr) where
   pub bins-small : (end : ℕ) → end ≤ x .b1 → (j : ℕ) → j < 5
-      → rowSum g (viewOf t) r gr (x .b0) (end - x .b0) j < 2 ^ 50
+      → rowSum g (viewIn layout t) r gr (x .b0) (end - x .b0) j < 2 ^ 50
   unfolding planeSum rowSum
   bins-small end h j l =
       omega (
         arith,
-        sum-grow (x .b0) (end - x .b0) (x .b1 - x .b0) (λ z. viewOf t (placeOf g r gr z) j) (omega arith),
-        term-le (x .g0) (x .g1 - x .g0) (λ y. rowSum g (viewOf t) r y (x .b0) (x .b1 - x .b0) j) gr (p .from)
+        sum-grow (x .b0) (end - x .b0) (x .b1 - x .b0) (λ z. viewIn layout t (placeOf g r gr z) j) (omega arith),
+        term-le (x .g0) (x .g1 - x .g0) (λ y. rowSum g (viewIn layout t) r y (x .b0) (x .b1 - x .b0) j) gr (p .from)
             (omega (arith, p .from, p .before)),
         rows-small (p .in-plane) (x .g1) (omega arith) j l,
       )

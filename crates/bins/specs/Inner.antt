@@ -4,19 +4,20 @@ use Rattle.basics.specs.Range.{sumFrom}
 use Rattle.grid.specs.declared.place.Grid.{Grid}
 use Rattle.grid.specs.Grid.{placeOf}
 use Rattle.table.specs.Cell.{View}
-use Rattle.table.specs.Table.{Table}
+use Rattle.table.specs.declared.layout.Layout.{Layout}
+use Rattle.table.specs.Layout.{TableIn}
 use Rattle.boxes.specs.declared.sides.Bounds.{Bounds}
 use Rattle.bins.specs.Sum.{CanAdd}
 
 -- a plane of it
-pub record InPlane (most : ℕ) (g : Grid) (t : Table) (x : Bounds) (r : ℕ) : Type 0 where
-  pub can-add : CanAdd most g t x
+pub record InPlane (l : Layout) (most : ℕ) (g : Grid) (t : TableIn l) (x : Bounds) (r : ℕ) : Type 0 where
+  pub can-add : CanAdd l most g t x
   pub from : x .r0 ≤ r
   pub before : r < x .r1
 
 -- a row of a plane of it
-pub record InRow (most : ℕ) (g : Grid) (t : Table) (x : Bounds) (r gr : ℕ) : Type 0 where
-  pub in-plane : InPlane most g t x r
+pub record InRow (l : Layout) (most : ℕ) (g : Grid) (t : TableIn l) (x : Bounds) (r gr : ℕ) : Type 0 where
+  pub in-plane : InPlane l most g t x r
   pub from : x .g0 ≤ gr
   pub before : gr < x .g1
 

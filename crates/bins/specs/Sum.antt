@@ -8,7 +8,8 @@ use Rattle.basics.specs.Range.{sumFrom}
 use Rattle.grid.specs.Grid.{placeOf}
 use Rattle.table.specs.declared.cell.Cell.{Cell}
 use Rattle.table.specs.Cell.{View, cellOf}
-use Rattle.table.specs.Table.{Table, viewOf, TableOf}
+use Rattle.table.specs.declared.layout.Layout.{Layout}
+use Rattle.table.specs.Layout.{TableIn, viewIn, TableOfIn}
 use Rattle.table.specs.Sound.{sound}
 use Rattle.boxes.specs.declared.sides.Bounds.{Bounds}
 use Rattle.boxes.specs.Box.{Within}
@@ -30,9 +31,9 @@ unfoldable pub boxCell : Grid → View → Bounds → Cell
 boxCell g v x = cellOf (boxSum g v x)
 
 -- what adding it up asks for: a table that is sound for a limit, and a box of its grid
-pub record CanAdd (most : ℕ) (g : Grid) (t : Table) (x : Bounds) : Type 0 where
-  pub table : TableOf g t
-  pub is-sound : sound most g (viewOf t) ≡ true
+pub record CanAdd (l : Layout) (most : ℕ) (g : Grid) (t : TableIn l) (x : Bounds) : Type 0 where
+  pub table : TableOfIn l g t
+  pub is-sound : sound most g (viewIn l t) ≡ true
   pub within : Within g x
 
 -- a view with 1 at each occupied bin, weight above 0

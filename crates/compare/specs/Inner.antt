@@ -9,7 +9,8 @@ use lib.ListN.{length, set}
 use Rattle.grid.specs.declared.place.Grid.{Grid}
 use Rattle.grid.specs.Grid.{binsOf}
 use Rattle.table.specs.declared.cell.Cell.{Cell}
-use Rattle.table.specs.Table.{Table, TableOf, tableLen, viewOf}
+use Rattle.table.specs.Table.{Table, tableLen, viewOf}
+use Rattle.table.specs.Layout.{TableOf}
 use Rattle.table.specs.Sound.{sound}
 
 -- the numbers of one cell taken from those of another, by which of the five it is

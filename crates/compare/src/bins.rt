@@ -3,7 +3,7 @@ use crate::call::Compared;
 use grid::place::Grid;
 use grid::place::bins;
 use table::cell::Cell;
-use table::layout::cell_at;
+use table::wide::cell_at;
 ghost use mathlib.Core.Path.{_≡_};
 ghost use mathlib.Core.Bool.{cond, _&&_};
 ghost use Prim.Native.Nat.{_+_, _*_, _^_, _≤_, _<_};

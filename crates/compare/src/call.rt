@@ -2,9 +2,9 @@
 use crate::bins::compare_bins;
 use grid::place::Chosen;
 use grid::place::grid_of;
-use table::layout::table_len;
 use table::sound::SoundTotal;
 use table::sound::sound_total;
+use table::wide::table_len;
 ghost use mathlib.Core.Path.{_≡_};
 ghost use Rattle.compare.specs.Compare.{compareRecord, compareLater};
 

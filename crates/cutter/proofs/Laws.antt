@@ -4,25 +4,24 @@
 -- Assumes nothing.
 use mathlib.Core.Path.{_≡_, refl, sym, ap, _∙_}
 use mathlib.Core.Bool.{Bool, true}
-use mathlib.Core.List.{List}
 use Prim.Native.Nat.{ℕ, zero, suc}
 use native.Mathlib.Omega.{arith}
-use lib.ListN.{length}
 use Rattle.grid.specs.declared.place.Grid.{Grid}
 use Rattle.grid.specs.declared.place.Chosen.{Chosen}
 use Rattle.grid.specs.declared.place.Chosen.the-variants as chosen
 use Rattle.basics.specs.Answer.{whenDone}
-use Rattle.grid.specs.Grid.{gridOf, gridAnswer, onGrid, numberOn, Accepted}
+use Rattle.grid.specs.Grid.{gridOf, gridAnswer, onGrid, numberOn, Accepted, binsOf}
 use Rattle.grid.proofs.Places.{chose}
 use Rattle.table.specs.Cell.{View}
-use Rattle.table.specs.Table.{viewOf}
-use Rattle.table.specs.Sound.{limit}
+use Rattle.table.specs.declared.layout.Layout.{Layout}
+use Rattle.table.specs.Layout.{TableIn, isSizedIn, viewIn}
+use Rattle.table.specs.Sound.{limitOf}
 use Rattle.rounds.specs.Loop.{boxesOf}
 use Rattle.sums.specs.declared.source.Source.{Source}
 use Rattle.sums.specs.declared.source.Source.the-variants.{Bins}
 use Rattle.cutter.specs.declared.call.CutRecord.{CutRecord}
-use Rattle.cutter.specs.Cut.{Buffers, lengthsOf, lengthsRight, cutNumberOn, cutNumber, CanCut, LengthsFit}
-use Rattle.cutter.specs.Cut.{refusedRecord, doneRecord, recordOn, cutRecord, laterOn, cutLater}
+use Rattle.cutter.specs.Cut.{BuffersIn, lengthsOf, lengthsRight, cutNumberOn, cutNumberIn, CanCut, LengthsFit}
+use Rattle.cutter.specs.Cut.{refusedRecord, doneRecord, recordOn, cutRecordIn, laterOn, cutLaterIn}
 use Rattle.cutter.proofs.Refusals.{accepts, lengths-fit, fit-lengths, can-cut}
 
 -- nothing refuses a cut of a sound table with a total above 0, k in 1..256, where the lengths fit
@@ -31,10 +30,10 @@ pub nothing-refuses : {limit : ℕ} {g : Grid} {k : ℕ} {fit : Bool} {v : View}
 nothing-refuses {limit} {g} {k} {fit} {v} c e =
     accepts limit g k fit v (c .least) (c .most) e (c .is-sound) (λ z. omega (arith, c .some))
 
-module _ (source : Source) (b1 b2 b3 k : ℕ) (t : List ℕ) (b : Buffers) where
+module _ (layout : Layout) (source : Source) (b1 b2 b3 k : ℕ) (t : TableIn layout) (b : BuffersIn layout) where
   -- the answer of the record
-  pub record-number : cutRecord source b1 b2 b3 k t b .number ≡ cutNumber source b1 b2 b3 k t b
-  unfolding cutRecord cutNumber recordOn numberOn onGrid gridAnswer whenDone refusedRecord doneRecord
+  pub record-number : cutRecordIn layout source b1 b2 b3 k t b .number ≡ cutNumberIn layout source b1 b2 b3 k t b
+  unfolding cutRecordIn cutNumberIn recordOn numberOn onGrid gridAnswer whenDone refusedRecord doneRecord
   record-number = go (gridOf b1 b2 b3)
     where
       of : (n : ℕ) (r : CutRecord) → r .number ≡ 0 → whenDone n r (refusedRecord n) .number ≡ n
@@ -43,53 +42,53 @@ module _ (source : Source) (b1 b2 b3 k : ℕ) (t : List ℕ) (b : Buffers) where
 
       go : (c : Chosen)
           → onGrid c (refusedRecord (gridAnswer c .number))
-          (λ g. whenDone (cutNumberOn limit g k (lengthsRight source g k t b) (viewOf t))
-          (doneRecord (boxesOf g (viewOf t) k))
-          (refusedRecord (cutNumberOn limit g k (lengthsRight source g k t b) (viewOf t)))) .number
-          ≡ onGrid c (gridAnswer c .number) (λ g. cutNumberOn limit g k (lengthsRight source g k t b) (viewOf t))
+          (λ g. whenDone (cutNumberOn (limitOf layout) g k (lengthsRight layout source g k t b) (viewIn layout t))
+          (doneRecord (boxesOf g (viewIn layout t) k))
+          (refusedRecord (cutNumberOn (limitOf layout) g k (lengthsRight layout source g k t b) (viewIn layout t)))) .number
+          ≡ onGrid c (gridAnswer c .number) (λ g. cutNumberOn (limitOf layout) g k (lengthsRight layout source g k t b) (viewIn layout t))
       go (chosen.Accepted g) =
-          of (cutNumberOn limit g k (lengthsRight source g k t b) (viewOf t)) (doneRecord (boxesOf g (viewOf t) k)) refl
+          of (cutNumberOn (limitOf layout) g k (lengthsRight layout source g k t b) (viewIn layout t)) (doneRecord (boxesOf g (viewIn layout t) k)) refl
       go chosen.Refused = refl
 
   -- "A refusal writes nothing. A refused cut hands back its answer, zero boxes, zero rounds and box places all zero."
-  pub cut-refuses : {n : ℕ} → cutNumber source b1 b2 b3 k t b ≡ suc n
-      → (cutRecord source b1 b2 b3 k t b ≡ refusedRecord (suc n)) × (cutLater source b1 b2 b3 k t b ≡ b)
-  unfolding cutRecord cutLater cutNumber recordOn numberOn onGrid gridAnswer whenDone
+  pub cut-refuses : {n : ℕ} → cutNumberIn layout source b1 b2 b3 k t b ≡ suc n
+      → (cutRecordIn layout source b1 b2 b3 k t b ≡ refusedRecord (suc n)) × (cutLaterIn layout source b1 b2 b3 k t b ≡ b)
+  unfolding cutRecordIn cutLaterIn cutNumberIn recordOn numberOn onGrid gridAnswer whenDone
   cut-refuses {n} = go (gridOf b1 b2 b3)
     where
       of : {A : Type 0} (m : ℕ) (x y : A) → m ≡ suc n → whenDone m x y ≡ y
       of m x y e = rw e refl
 
       go : (c : Chosen)
-          → onGrid c (gridAnswer c .number) (λ g. cutNumberOn limit g k (lengthsRight source g k t b) (viewOf t))
+          → onGrid c (gridAnswer c .number) (λ g. cutNumberOn (limitOf layout) g k (lengthsRight layout source g k t b) (viewIn layout t))
           ≡ suc n
           → (onGrid c (refusedRecord (gridAnswer c .number))
-          (λ g. whenDone (cutNumberOn limit g k (lengthsRight source g k t b) (viewOf t))
-          (doneRecord (boxesOf g (viewOf t) k))
-          (refusedRecord (cutNumberOn limit g k (lengthsRight source g k t b) (viewOf t)))) ≡ refusedRecord (suc n))
+          (λ g. whenDone (cutNumberOn (limitOf layout) g k (lengthsRight layout source g k t b) (viewIn layout t))
+          (doneRecord (boxesOf g (viewIn layout t) k))
+          (refusedRecord (cutNumberOn (limitOf layout) g k (lengthsRight layout source g k t b) (viewIn layout t)))) ≡ refusedRecord (suc n))
           × (onGrid c b
-          (λ g. whenDone (cutNumberOn limit g k (lengthsRight source g k t b) (viewOf t))
-          (laterOn source g (viewOf t) k b) b)
+          (λ g. whenDone (cutNumberOn (limitOf layout) g k (lengthsRight layout source g k t b) (viewIn layout t))
+          (laterOn layout source g (viewIn layout t) k b) b)
           ≡ b)
       go (chosen.Accepted g) e = (
-        of (cutNumberOn limit g k (lengthsRight source g k t b) (viewOf t)) _ _ e
+        of (cutNumberOn (limitOf layout) g k (lengthsRight layout source g k t b) (viewIn layout t)) _ _ e
             ∙ ap refusedRecord e,
-        of (cutNumberOn limit g k (lengthsRight source g k t b) (viewOf t)) _ _ e,
+        of (cutNumberOn (limitOf layout) g k (lengthsRight layout source g k t b) (viewIn layout t)) _ _ e,
       )
       go chosen.Refused e = (ap refusedRecord e, refl)
 
   -- what a cut that is done tells
   pub record CutDone (g : Grid) : Type 0 where
     pub accepted : Accepted g
-    pub can : CanCut limit g k (viewOf t)
-    pub fit : LengthsFit source g k (length t) (lengthsOf b)
-    pub hands : cutRecord source b1 b2 b3 k t b ≡ doneRecord (boxesOf g (viewOf t) k)
-    pub leaves : cutLater source b1 b2 b3 k t b ≡ laterOn source g (viewOf t) k b
+    pub can : CanCut (limitOf layout) g k (viewIn layout t)
+    pub fit : LengthsFit source g k (isSizedIn layout t (binsOf g)) (lengthsOf layout g b)
+    pub hands : cutRecordIn layout source b1 b2 b3 k t b ≡ doneRecord (boxesOf g (viewIn layout t) k)
+    pub leaves : cutLaterIn layout source b1 b2 b3 k t b ≡ laterOn layout source g (viewIn layout t) k b
 
-  pub cut-says : {g : Grid} → gridOf b1 b2 b3 ≡ chosen.Accepted g → cutNumber source b1 b2 b3 k t b ≡ 0 → CutDone g
-  unfolding cutNumber cutRecord cutLater recordOn numberOn onGrid whenDone
+  pub cut-says : {g : Grid} → gridOf b1 b2 b3 ≡ chosen.Accepted g → cutNumberIn layout source b1 b2 b3 k t b ≡ 0 → CutDone g
+  unfolding cutNumberIn cutRecordIn cutLaterIn recordOn numberOn onGrid whenDone
   cut-says {g} e n =
-      let m : cutNumberOn limit g k (lengthsRight source g k t b) (viewOf t) ≡ 0 = sym (rw e refl) ∙ n in
+      let m : cutNumberOn (limitOf layout) g k (lengthsRight layout source g k t b) (viewIn layout t) ≡ 0 = sym (rw e refl) ∙ n in
       record {
         accepted = chose b1 b2 b3 g e .accepted;
         can = can-cut m .0;
@@ -99,24 +98,24 @@ module _ (source : Source) (b1 b2 b3 k : ℕ) (t : List ℕ) (b : Buffers) where
       }
 
   -- "where none applies, the answer is 0"
-  pub cut-accepts : {g : Grid} → gridOf b1 b2 b3 ≡ chosen.Accepted g → CanCut limit g k (viewOf t)
-      → LengthsFit source g k (length t) (lengthsOf b)
-      → cutNumber source b1 b2 b3 k t b ≡ 0
-  unfolding cutNumber numberOn onGrid
+  pub cut-accepts : {g : Grid} → gridOf b1 b2 b3 ≡ chosen.Accepted g → CanCut (limitOf layout) g k (viewIn layout t)
+      → LengthsFit source g k (isSizedIn layout t (binsOf g)) (lengthsOf layout g b)
+      → cutNumberIn layout source b1 b2 b3 k t b ≡ 0
+  unfolding cutNumberIn numberOn onGrid
   cut-accepts e c f = rw e (nothing-refuses c (fit-lengths f))
 
 -- a cut that adds up bins leaves its work table alone
-pub bins-leave-work : (b1 b2 b3 k : ℕ) (t : List ℕ) (b : Buffers) → cutLater Bins b1 b2 b3 k t b .work ≡ b .work
-unfolding cutLater onGrid whenDone laterOn
-bins-leave-work b1 b2 b3 k t b = go (gridOf b1 b2 b3)
+pub bins-leave-work : (layout : Layout) (b1 b2 b3 k : ℕ) (t : TableIn layout) (b : BuffersIn layout) → cutLaterIn layout Bins b1 b2 b3 k t b .work ≡ b .work
+unfolding cutLaterIn onGrid whenDone laterOn
+bins-leave-work layout b1 b2 b3 k t b = go (gridOf b1 b2 b3)
   where
-    of : (g : Grid) (n : ℕ) → whenDone n (laterOn Bins g (viewOf t) k b) b .work ≡ b .work
+    of : (g : Grid) (n : ℕ) → whenDone n (laterOn layout Bins g (viewIn layout t) k b) b .work ≡ b .work
     of g zero = refl
     of g (suc n) = refl
 
     go : (c : Chosen)
         → onGrid c b
-        (λ g. whenDone (cutNumberOn limit g k (lengthsRight Bins g k t b) (viewOf t)) (laterOn Bins g (viewOf t) k b) b)
+        (λ g. whenDone (cutNumberOn (limitOf layout) g k (lengthsRight layout Bins g k t b) (viewIn layout t)) (laterOn layout Bins g (viewIn layout t) k b) b)
         .work ≡ b .work
-    go (chosen.Accepted g) = of g (cutNumberOn limit g k (lengthsRight Bins g k t b) (viewOf t))
+    go (chosen.Accepted g) = of g (cutNumberOn (limitOf layout) g k (lengthsRight layout Bins g k t b) (viewIn layout t))
     go chosen.Refused = refl

@@ -2,7 +2,6 @@
 -- Assumes nothing.
 use mathlib.Core.Path.{_≡_, refl, _∙_}
 use mathlib.Core.Bool.{Bool, true, false, _&&_}
-use mathlib.Core.List.{List}
 use Prim.Native.Nat.{ℕ, _*_, _≤_, _<_}
 use native.Mathlib.Omega.{arith}
 use borrow.Author.Tests.{eq-eqb, ne-eqb, le-leb, lt-leb, leb-true, eqb-true, eqb-false, not-false}
@@ -14,54 +13,55 @@ use Rattle.grid.specs.Grid.{gridOf, gridAnswer, onGrid, binsOf}
 use Rattle.basics.proofs.Range.{and-left, and-right}
 use Rattle.basics.proofs.Ends.{refused-keeps, passed}
 use Rattle.table.specs.Cell.{View}
-use Rattle.table.specs.Table.{tableLen, viewOf}
-use Rattle.table.specs.Sound.{limit, total, sound}
+use Rattle.table.specs.declared.layout.Layout.{Layout}
+use Rattle.table.specs.Layout.{TableIn, viewIn}
+use Rattle.table.specs.Sound.{limitOf, total, sound}
 use Rattle.rounds.specs.Loop.{boxesOf}
 use Rattle.cutter.specs.declared.call.CutRecord.{CutRecord}
 use Rattle.sums.specs.declared.source.Source.{Source}
 use Rattle.sums.specs.declared.source.Source.the-variants.{Moments}
-use Rattle.cutter.specs.Cut.{Buffers, Lengths, workFits, lengthsRight, longEnough, cutNumberOn, CanCut}
+use Rattle.cutter.specs.Cut.{BuffersIn, Lengths, workFits, lengthsRight, longEnough, cutNumberOn, CanCut}
 use Rattle.cutter.specs.Cut.{LengthsFit}
-use Rattle.cutter.specs.Cut.{refusedRecord, doneRecord, recordOn, cutRecord, laterOn, cutLater}
+use Rattle.cutter.specs.Cut.{refusedRecord, doneRecord, recordOn, cutRecordIn, laterOn, cutLaterIn}
 
 -- ---- the work table
-pub moments-fit : (g : Grid) (n : ℕ) → workFits Moments g n ≡ true → n ≡ tableLen (binsOf g)
+pub moments-fit : {sized : Bool} → workFits Moments sized ≡ true → sized ≡ true
 unfolding workFits
-moments-fit g n e = eqb-true _ _ e
+moments-fit e = e
 
-pub fit-moments : (g : Grid) (n : ℕ) → n ≡ tableLen (binsOf g) → workFits Moments g n ≡ true
+pub fit-moments : {sized : Bool} → sized ≡ true → workFits Moments sized ≡ true
 unfolding workFits
-fit-moments g n e = eq-eqb _ _ e
+fit-moments e = e
 
 -- ---- the lengths
-module _ (source : Source) (g : Grid) (k table : ℕ) (l : Lengths) where
-  pub table-wrong : (table ≡ tableLen (binsOf g) → ⊥) → longEnough source g k table l ≡ false
+module _ (source : Source) (g : Grid) (k : ℕ) (table : Bool) (l : Lengths) where
+  pub table-wrong : table ≡ false → longEnough source g k table l ≡ false
   unfolding longEnough
-  table-wrong n = simp (ne-eqb _ _ n)
+  table-wrong n = simp n
 
-  module _ (t : table ≡ tableLen (binsOf g)) where
-    pub work-wrong : workFits source g (l .work) ≡ false → longEnough source g k table l ≡ false
+  module _ (t : table ≡ true) where
+    pub work-wrong : workFits source (l .work) ≡ false → longEnough source g k table l ≡ false
     unfolding longEnough
-    work-wrong n = simp (eq-eqb _ _ t, n)
+    work-wrong n = simp (t, n)
 
-    module _ (w : workFits source g (l .work) ≡ true) where
+    module _ (w : workFits source (l .work) ≡ true) where
       pub palette-short : l .palette < 3 * k → longEnough source g k table l ≡ false
       unfolding longEnough
-      palette-short n = simp (eq-eqb _ _ t, w, lt-leb _ _ n)
+      palette-short n = simp (t, w, lt-leb _ _ n)
 
       module _ (p : 3 * k ≤ l .palette) where
         pub counts-short : l .counts < k → longEnough source g k table l ≡ false
         unfolding longEnough
-        counts-short n = simp (eq-eqb _ _ t, w, le-leb _ _ p, lt-leb _ _ n)
+        counts-short n = simp (t, w, le-leb _ _ p, lt-leb _ _ n)
 
         module _ (c : k ≤ l .counts) where
           pub remainders-short : l .remainders < 3 * k → longEnough source g k table l ≡ false
           unfolding longEnough
-          remainders-short n = simp (eq-eqb _ _ t, w, le-leb _ _ p, le-leb _ _ c, lt-leb _ _ n)
+          remainders-short n = simp (t, w, le-leb _ _ p, le-leb _ _ c, lt-leb _ _ n)
 
           pub only-map : 3 * k ≤ l .remainders → longEnough source g k table l ≡ eqb (l .map) (binsOf g)
           unfolding longEnough
-          only-map r = simp (eq-eqb _ _ t, w, le-leb _ _ p, le-leb _ _ c, le-leb _ _ r)
+          only-map r = simp (t, w, le-leb _ _ p, le-leb _ _ c, le-leb _ _ r)
 
 -- ---- the chain
 module _ (limit : ℕ) (g : Grid) (k : ℕ) (fit : Bool) (v : View) where
@@ -96,8 +96,8 @@ module _ (limit : ℕ) (g : Grid) (k : ℕ) (fit : Bool) (v : View) where
 both-true : (a b : Bool) → (a && b) ≡ true → (a ≡ true) × (b ≡ true)
 both-true a b e = (and-left a b e, and-right a b e)
 
-pub lengths-fit : {source : Source} {g : Grid} {k n : ℕ} {l : Lengths} → longEnough source g k n l ≡ true
-    → LengthsFit source g k n l
+pub lengths-fit : {source : Source} {g : Grid} {k : ℕ} {table : Bool} {l : Lengths}
+    → longEnough source g k table l ≡ true → LengthsFit source g k table l
 unfolding longEnough
 lengths-fit e =
     let one = both-true _ _ e in
@@ -106,7 +106,7 @@ lengths-fit e =
     let four = both-true _ _ (three .1) in
     let five = both-true _ _ (four .1) in
     record {
-      table = eqb-true _ _ (one .0);
+      sized = one .0;
       work = two .0;
       palette = leb-true _ _ (three .0);
       counts = leb-true _ _ (four .0);
@@ -114,10 +114,10 @@ lengths-fit e =
       map = eqb-true _ _ (five .1);
     }
 
-pub fit-lengths : {source : Source} {g : Grid} {k n : ℕ} {l : Lengths} → LengthsFit source g k n l
-    → longEnough source g k n l ≡ true
-fit-lengths {source} {g} {k} {n} {l} f =
-    only-map source g k n l (f .table) (f .work) (f .palette) (f .counts) (f .remainders) ∙ eq-eqb _ _ (f .map)
+pub fit-lengths : {source : Source} {g : Grid} {k : ℕ} {table : Bool} {l : Lengths} → LengthsFit source g k table l
+    → longEnough source g k table l ≡ true
+fit-lengths {source} {g} {k} {table} {l} f =
+    only-map source g k table l (f .sized) (f .work) (f .palette) (f .counts) (f .remainders) ∙ eq-eqb _ _ (f .map)
 
 pub can-cut : {limit : ℕ} {g : Grid} {k : ℕ} {fit : Bool} {v : View} → cutNumberOn limit g k fit v ≡ 0
     → CanCut limit g k v × (fit ≡ true)
@@ -141,23 +141,23 @@ can-cut e =
     positive n h = omega arith
 
 -- ---- the call: what it hands back, and what it leaves behind
-module _ (source : Source) (b1 b2 b3 k : ℕ) (t : List ℕ) (b : Buffers) where
-  abbrev Ends : CutRecord → Buffers → Type 0
-  Ends r e = (r ≡ cutRecord source b1 b2 b3 k t b) × (e ≡ cutLater source b1 b2 b3 k t b)
+module _ (layout : Layout) (source : Source) (b1 b2 b3 k : ℕ) (t : TableIn layout) (b : BuffersIn layout) where
+  abbrev Ends : CutRecord → BuffersIn layout → Type 0
+  Ends r e = (r ≡ cutRecordIn layout source b1 b2 b3 k t b) × (e ≡ cutLaterIn layout source b1 b2 b3 k t b)
 
   pub cut-no-grid : gridOf b1 b2 b3 ≡ chosen.Refused → {r : CutRecord} → r ≡ refusedRecord 1 → Ends r b
-  unfolding cutRecord cutLater onGrid gridAnswer
+  unfolding cutRecordIn cutLaterIn onGrid gridAnswer
   cut-no-grid e q = (q ∙ rw e refl, rw e refl)
 
   module _ {g : Grid} (e : gridOf b1 b2 b3 ≡ chosen.Accepted g) where
-    pub cut-refused : {n : ℕ} → n ≡ cutNumberOn limit g k (lengthsRight source g k t b) (viewOf t) → (n ≡ 0 → ⊥)
+    pub cut-refused : {n : ℕ} → n ≡ cutNumberOn (limitOf layout) g k (lengthsRight layout source g k t b) (viewIn layout t) → (n ≡ 0 → ⊥)
         → {r : CutRecord}
         → r ≡ refusedRecord n → Ends r b
-    unfolding cutRecord cutLater recordOn onGrid
+    unfolding cutRecordIn cutLaterIn recordOn onGrid
     cut-refused {n} p h {r} q =
         (q ∙ rw (e, ← p) (refused-keeps n h (refusedRecord n) _), rw (e, ← p) (refused-keeps n h b _))
 
-    pub cut-done : cutNumberOn limit g k (lengthsRight source g k t b) (viewOf t) ≡ 0 → {r : CutRecord}
-        → r ≡ doneRecord (boxesOf g (viewOf t) k) → {l : Buffers} → l ≡ laterOn source g (viewOf t) k b → Ends r l
-    unfolding cutRecord cutLater recordOn onGrid whenDone
+    pub cut-done : cutNumberOn (limitOf layout) g k (lengthsRight layout source g k t b) (viewIn layout t) ≡ 0 → {r : CutRecord}
+        → r ≡ doneRecord (boxesOf g (viewIn layout t) k) → {l : BuffersIn layout} → l ≡ laterOn layout source g (viewIn layout t) k b → Ends r l
+    unfolding cutRecordIn cutLaterIn recordOn onGrid whenDone
     cut-done p q s = (q ∙ rw (e, p) refl, s ∙ rw (e, p) refl)

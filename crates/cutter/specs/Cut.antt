@@ -10,8 +10,11 @@ use Rattle.grid.specs.declared.place.Grid.{Grid}
 use Rattle.basics.specs.Answer.{refuse, whenDone}
 use Rattle.grid.specs.Grid.{gridOf, gridAnswer, onGrid, numberOn, binsOf}
 use Rattle.table.specs.Cell.{View}
-use Rattle.table.specs.Table.{Table, tableLen, viewOf, written}
-use Rattle.table.specs.Sound.{limit, total, sound, unsoundNumber}
+use Rattle.table.specs.declared.layout.Layout.{Layout}
+use Rattle.table.specs.declared.layout.Layout.the-variants.{Wide}
+use Rattle.table.specs.Table.{Table}
+use Rattle.table.specs.Layout.{TableIn, laid, isSizedIn, viewIn, writtenIn}
+use Rattle.table.specs.Sound.{limitOf, total, sound, unsoundNumber}
 use Rattle.boxes.specs.declared.sides.Bounds.{Bounds}
 use Rattle.boxes.specs.Box.{noBox}
 use Rattle.sums.specs.declared.source.Source.{Source}
@@ -80,30 +83,37 @@ resultsOn g v k r =
     }
 
 -- ---- the call on lent lists
--- what is lent to be written, and its lengths
-pub record Buffers : Type 0 where
-  pub work : Table
+-- what is lent to be written: a work table in the table's layout, and the results
+pub record BuffersIn (l : Layout) : Type 0 where
+  pub work : TableIn l
   pub results : Results
 
-abbrev pub buffers : List ℕ → List ℕ → List ℕ → List ℕ → List ℕ → Buffers
-buffers work palette counts remainders map =
+abbrev pub Buffers : Type 0
+Buffers = BuffersIn Wide
+
+abbrev pub buffersIn : (l : Layout) → TableIn l → List ℕ → List ℕ → List ℕ → List ℕ → BuffersIn l
+buffersIn l work palette counts remainders map =
     record {
       work = work;
       results = record { palette = palette; counts = counts; remainders = remainders; map = map };
     }
 
+abbrev pub buffers : Table → List ℕ → List ℕ → List ℕ → List ℕ → Buffers
+buffers work palette counts remainders map = buffersIn Wide work palette counts remainders map
+
+-- whether the work table is one of the grid, and the lengths of the rest
 pub record Lengths : Type 0 where
-  pub work : ℕ
+  pub work : Bool
   pub palette : ℕ
   pub counts : ℕ
   pub remainders : ℕ
   pub map : ℕ
 
-abbrev pub lengthsOf : Buffers → Lengths
-lengthsOf b =
+abbrev pub lengthsOf : (l : Layout) → Grid → BuffersIn l → Lengths
+lengthsOf l g b =
     let r = b .results in
     record {
-      work = length (b .work);
+      work = isSizedIn l (b .work) (binsOf g);
       palette = length (r .palette);
       counts = length (r .counts);
       remainders = length (r .remainders);
@@ -111,55 +121,72 @@ lengthsOf b =
           (r .map);
     }
 
--- ---- what a source of sums asks of the work table's length, and leaves in it
-unfoldable pub workFits : Source → Grid → ℕ → Bool
-workFits Moments g numbers = eqb numbers (tableLen (binsOf g))
-workFits Bins g numbers = true
+-- ---- what a source of sums asks of the work table's lengths, and leaves in it
+unfoldable pub workFits : Source → Bool → Bool
+workFits Moments sized = sized
+workFits Bins sized = true
 
 -- "the work table holds the moments of the whole table"
-abbrev pub workLater : Source → Grid → View → Table → Table
-workLater Moments g v old = written (binsOf g) (momentsOf g v)
-workLater Bins g v old = old
+abbrev pub workLater : Source → (l : Layout) → Grid → View → TableIn l → TableIn l
+workLater Moments l g v old = writtenIn l (binsOf g) (momentsOf g v)
+workLater Bins l g v old = old
 
 -- where no work table is lent
-abbrev pub noWork : Table
-noWork = []
+abbrev pub noWorkIn : (l : Layout) → TableIn l
+noWorkIn l = laid l [] []
 
--- "table and work table exactly 5·bins; map exactly bins", "palette at least 3·k bytes, counts (u32) at least k,
--- remainders (u32) at least 3·k"
-pub record LengthsFit (source : Source) (g : Grid) (k numbers : ℕ) (l : Lengths) : Type 0 where
-  pub table : numbers ≡ tableLen (binsOf g)
-  pub work : workFits source g (l .work) ≡ true
+abbrev pub noWork : Table
+noWork = noWorkIn Wide
+
+-- "table and work table exactly 5·bins", or in the narrow layout "both lists of exact length"; "map exactly bins",
+-- "palette at least 3·k bytes, counts (u32) at least k, remainders (u32) at least 3·k"
+pub record LengthsFit (source : Source) (g : Grid) (k : ℕ) (table : Bool) (l : Lengths) : Type 0 where
+  pub sized : table ≡ true
+  pub work : workFits source (l .work) ≡ true
   pub palette : 3 * k ≤ l .palette
   pub counts : k ≤ l .counts
   pub remainders : 3 * k ≤ l .remainders
   pub map : l .map ≡ binsOf g
 
-unfoldable pub longEnough : Source → Grid → ℕ → ℕ → Lengths → Bool
+unfoldable pub longEnough : Source → Grid → ℕ → Bool → Lengths → Bool
 longEnough source g k table l =
-    eqb table (tableLen (binsOf g))
-    && (workFits source g (l .work) &&
+    table
+    && (workFits source (l .work) &&
     (leb (3 * k) (l .palette) && (leb k (l .counts) && (leb (3 * k) (l .remainders) && eqb (l .map) (binsOf g)))))
 
 -- whether what is lent has the right lengths
-abbrev pub lengthsRight : Source → Grid → ℕ → Table → Buffers → Bool
-lengthsRight source g k t b = longEnough source g k (length t) (lengthsOf b)
+abbrev pub lengthsRight : (l : Layout) → Source → Grid → ℕ → TableIn l → BuffersIn l → Bool
+lengthsRight l source g k t b = longEnough source g k (isSizedIn l t (binsOf g)) (lengthsOf l g b)
 
-unfoldable pub cutNumber : Source → ℕ → ℕ → ℕ → ℕ → Table → Buffers → ℕ
-cutNumber source b1 b2 b3 k t b =
-    numberOn (gridOf b1 b2 b3) (λ g. cutNumberOn limit g k (lengthsRight source g k t b) (viewOf t))
+-- its answer, in either layout
+unfoldable pub cutNumberIn : (l : Layout) → Source → ℕ → ℕ → ℕ → ℕ → TableIn l → BuffersIn l → ℕ
+cutNumberIn l source b1 b2 b3 k t b =
+    numberOn (gridOf b1 b2 b3) (λ g. cutNumberOn (limitOf l) g k (lengthsRight l source g k t b) (viewIn l t))
 
-unfoldable pub cutRecord : Source → ℕ → ℕ → ℕ → ℕ → Table → Buffers → CutRecord
-cutRecord source b1 b2 b3 k t b =
+unfoldable pub cutRecordIn : (l : Layout) → Source → ℕ → ℕ → ℕ → ℕ → TableIn l → BuffersIn l → CutRecord
+cutRecordIn l source b1 b2 b3 k t b =
     let c = gridOf b1 b2 b3 in
-    onGrid c (refusedRecord (gridAnswer c .number)) (λ g. recordOn limit g k (lengthsRight source g k t b) (viewOf t))
+    onGrid c (refusedRecord (gridAnswer c .number))
+    (λ g. recordOn (limitOf l) g k (lengthsRight l source g k t b) (viewIn l t))
 
 -- what stands in the work table then, and the results of the boxes
-unfoldable pub laterOn : Source → Grid → View → ℕ → Buffers → Buffers
-laterOn source g v k b = record { work = workLater source g v (b .work); results = resultsOn g v k (b .results) }
+unfoldable pub laterOn : (l : Layout) → Source → Grid → View → ℕ → BuffersIn l → BuffersIn l
+laterOn l source g v k b =
+    record { work = workLater source l g v (b .work); results = resultsOn g v k (b .results) }
 
 -- "A refusal writes nothing."
-unfoldable pub cutLater : Source → ℕ → ℕ → ℕ → ℕ → Table → Buffers → Buffers
-cutLater source b1 b2 b3 k t b =
+unfoldable pub cutLaterIn : (l : Layout) → Source → ℕ → ℕ → ℕ → ℕ → TableIn l → BuffersIn l → BuffersIn l
+cutLaterIn l source b1 b2 b3 k t b =
     onGrid (gridOf b1 b2 b3) b
-    (λ g. whenDone (cutNumberOn limit g k (lengthsRight source g k t b) (viewOf t)) (laterOn source g (viewOf t) k b) b)
+    (λ g. whenDone (cutNumberOn (limitOf l) g k (lengthsRight l source g k t b) (viewIn l t))
+    (laterOn l source g (viewIn l t) k b) b)
+
+-- and of a table in the wide layout
+abbrev pub cutNumber : Source → ℕ → ℕ → ℕ → ℕ → Table → Buffers → ℕ
+cutNumber source b1 b2 b3 k t b = cutNumberIn Wide source b1 b2 b3 k t b
+
+abbrev pub cutRecord : Source → ℕ → ℕ → ℕ → ℕ → Table → Buffers → CutRecord
+cutRecord source b1 b2 b3 k t b = cutRecordIn Wide source b1 b2 b3 k t b
+
+abbrev pub cutLater : Source → ℕ → ℕ → ℕ → ℕ → Table → Buffers → Buffers
+cutLater source b1 b2 b3 k t b = cutLaterIn Wide source b1 b2 b3 k t b

@@ -8,7 +8,8 @@ unfoldable pub joinAll : {A B : Type 0} → (A → List B) → List A → List B
 joinAll f [] = []
 joinAll f (x ∷ xs) = f x ++ joinAll f xs
 
--- an array whose front they fill, w values an item: "Places past the filled front of palette, counts and remainders stay"
+-- an array whose front they fill, w values an item: "Places past the filled front of palette, counts and remainders
+-- stay"
 unfoldable pub filled : {A B : Type 0} → ℕ → (A → List B) → List A → List B → List B
 filled w f xs old = joinAll f xs ++ drop (w * length xs) old
 

@@ -2,35 +2,35 @@
 use grid::place::Grid;
 use grid::place::bins;
 use sums::source::Source;
-use table::layout::table_len;
+use table::layout::Layout;
+use table::layout::lengths_fit;
 use table::sound::SoundTotal;
-use table::sound::sound_total;
+use table::sound::total_in;
 ghost use mathlib.Core.Path.{_≡_};
 ghost use Prim.Native.Nat.{_≤_};
-ghost use lib.ListN.{length};
-ghost use Rattle.grid.specs.Grid.{Accepted};
-ghost use Rattle.table.specs.Table.{viewOf};
-ghost use Rattle.table.specs.Sound.{limit};
+ghost use Rattle.grid.specs.Grid.{Accepted, binsOf};
+ghost use Rattle.table.specs.Layout.{laid, laidView, isSizedIn};
+ghost use Rattle.table.specs.Sound.{limitOf};
 ghost use Rattle.cutter.specs.Cut.{workFits, longEnough, cutNumberOn};
 
-// Whether the length of the work table is what its source of sums asks for.
-fn work_fits(source: Source, g: Grid, work: usize) -> bool
-    requires { ⌜ Accepted g ⌝ }
-    ensures { λ r. ⌜ r ≡ workFits source g work ⌝ }
+// Whether the work table is what its source of sums asks for, from whether it is one of the grid.
+fn work_fits(source: Source, sized: bool) -> bool
+    ensures { λ r. ⌜ r ≡ workFits source sized ⌝ }
 {
     match source {
-        Source::Moments => work == table_len(g),
+        Source::Moments => sized,
         Source::Bins => true,
     }
 }
 
-// Whether the lengths of what is lent are right for a k within its bounds.
+// Whether the lengths of what is lent are right for a k within its bounds. Of table and work table it is told whether
+// they are tables of the grid.
 fn long_enough(
     source: Source,
     g: Grid,
     k: usize,
-    table: usize,
-    work: usize,
+    table: bool,
+    work: bool,
     palette: usize,
     counts: usize,
     remainders: usize,
@@ -41,11 +41,10 @@ fn long_enough(
         ≡ longEnough source g k table
         (record { work = work; palette = palette; counts = counts; remainders = remainders; map = map }) ⌝ }
 {
-    let n = bins(g);
-    if table != table_len(g) {
+    if !table {
         return false;
     }
-    if !work_fits(source, g, work) {
+    if !work_fits(source, work) {
         return false;
     }
     if palette < 3 * k {
@@ -57,16 +56,18 @@ fn long_enough(
     if remainders < 3 * k {
         return false;
     }
-    map == n
+    map == bins(g)
 }
 
 // The answer to a cut on an accepted grid.
 pub(crate) fn number_on(
     source: Source,
+    layout: Layout,
+    small: &[u32],
+    large: &[u64],
     g: Grid,
     k: usize,
-    table: &[u64],
-    work: usize,
+    work: bool,
     palette: usize,
     counts: usize,
     remainders: usize,
@@ -74,10 +75,10 @@ pub(crate) fn number_on(
 ) -> u8
     requires { ⌜ Accepted g ⌝ }
     ensures { λ r. ⌜ r
-        ≡ cutNumberOn limit g k
-        (longEnough source g k (length (now (table .entry)))
+        ≡ cutNumberOn (limitOf layout) g k
+        (longEnough source g k (isSizedIn layout (laid layout (now (small .entry)) (now (large .entry))) (binsOf g))
         (record { work = work; palette = palette; counts = counts; remainders = remainders; map = map }))
-        (viewOf (now (table .entry))) ⌝ }
+        (laidView layout (now (small .entry)) (now (large .entry))) ⌝ }
 {
     if k < 1 {
         return 2;
@@ -85,20 +86,11 @@ pub(crate) fn number_on(
     if 256 < k {
         return 2;
     }
-    if !long_enough(
-        source,
-        g,
-        k,
-        table.len(),
-        work,
-        palette,
-        counts,
-        remainders,
-        map,
-    ) {
+    let table = lengths_fit(layout, small.len(), large.len(), g);
+    if !long_enough(source, g, k, table, work, palette, counts, remainders, map) {
         return 5;
     }
-    let SoundTotal::Total(total) = sound_total(table, g) else {
+    let SoundTotal::Total(total) = total_in(layout, small, large, g) else {
         return 6;
     };
     if total == 0 {

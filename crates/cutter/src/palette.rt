@@ -5,10 +5,11 @@ use grid::place::Grid;
 use sums::box_sums::Stats;
 use sums::box_sums::box_sum;
 use sums::source::Source;
+use table::layout::Layout;
 ghost use mathlib.Core.Path.{_≡_};
 ghost use Prim.Native.Nat.{_+_, _*_, _≤_, _<_};
 ghost use lib.ListN.{length, set};
-ghost use Rattle.table.specs.Table.{viewOf};
+ghost use Rattle.table.specs.Layout.{laid, laidView};
 ghost use Rattle.table.specs.Sound.{limit};
 ghost use Rattle.sums.specs.Moments.{CanSum};
 ghost use Rattle.cutter.specs.Palette.{meanOf, colourOf, countOf, itsRemainders, frontOf};
@@ -71,8 +72,11 @@ fn put_count(counts: &mut [u32], i: usize, weight: u64)
 
 // Writes colour, count (`cube_color_and_count`) and remainders of a box at place i.
 pub(crate) fn put_result(
-    table: &[u64],
-    work: &[u64],
+    layout: Layout,
+    small: &[u32],
+    large: &[u64],
+    smallwork: &[u32],
+    largework: &[u64],
     source: Source,
     g: Grid,
     x: Bounds,
@@ -81,17 +85,20 @@ pub(crate) fn put_result(
     counts: &mut [u32],
     remainders: &mut [u32],
 )
-    requires { ⌜ CanSum limit source g (now table) (now work) × Occupied g (viewOf (now table)) x ⌝ }
+    requires { ⌜ CanSum layout limit source g (laid layout (now small) (now large))
+        (laid layout (now smallwork) (now largework)) × Occupied g (laidView layout (now small) (now large)) x ⌝ }
     requires { ⌜ (3 * i + 2 < length (now palette)) × (i < length (now counts))
         × (3 * i + 2 < length (now remainders)) ⌝ }
     ensures palette { λ r. ⌜ now (palette .exit)
-        ≡ withColourAt (now (palette .entry)) i (colourOf g (viewOf (now (table .entry))) x) ⌝ }
+        ≡ withColourAt (now (palette .entry)) i
+        (colourOf g (laidView layout (now (small .entry)) (now (large .entry))) x) ⌝ }
     ensures counts { λ r. ⌜ now (counts .exit)
-        ≡ set (now (counts .entry)) i (countOf g (viewOf (now (table .entry))) x) ⌝ }
+        ≡ set (now (counts .entry)) i (countOf g (laidView layout (now (small .entry)) (now (large .entry))) x) ⌝ }
     ensures remainders { λ r. ⌜ now (remainders .exit)
-        ≡ withThreeAt (now (remainders .entry)) i (itsRemainders g (viewOf (now (table .entry))) x) ⌝ }
+        ≡ withThreeAt (now (remainders .entry)) i
+        (itsRemainders g (laidView layout (now (small .entry)) (now (large .entry))) x) ⌝ }
 {
-    let s = box_sum(table, work, source, g, x);
+    let s = box_sum(layout, small, large, smallwork, largework, source, g, x);
     put_colour(palette, i, s);
     put_count(counts, i, s.weight);
     put_remainders(remainders, i, s);

@@ -4,11 +4,12 @@ use crate::palette::put_result;
 use grid::place::Grid;
 use rounds::gather::Boxes;
 use sums::source::Source;
+use table::layout::Layout;
 ghost use mathlib.Core.Path.{_≡_};
 ghost use Prim.Native.Nat.{_*_, _≤_};
 ghost use lib.ListN.{length};
 ghost use Rattle.grid.specs.Grid.{binsOf};
-ghost use Rattle.table.specs.Table.{viewOf};
+ghost use Rattle.table.specs.Layout.{laid, laidView};
 ghost use Rattle.table.specs.Sound.{limit};
 ghost use Rattle.sums.specs.Moments.{CanSum};
 ghost use Rattle.cutter.specs.Palette.{paletteLater, countsLater, remaindersLater};
@@ -17,8 +18,11 @@ ghost use Rattle.cutter.specs.Inner.{fillFrom, Placed, Found};
 
 // Writes colours, counts and remainders of all boxes.
 pub(crate) fn put_results(
-    table: &[u64],
-    work: &[u64],
+    layout: Layout,
+    small: &[u32],
+    large: &[u64],
+    smallwork: &[u32],
+    largework: &[u64],
     source: Source,
     g: Grid,
     b: Boxes,
@@ -26,15 +30,19 @@ pub(crate) fn put_results(
     counts: &mut [u32],
     remainders: &mut [u32],
 )
-    requires { ⌜ CanSum limit source g (now table) (now work) × Found g (viewOf (now table)) b ⌝ }
+    requires { ⌜ CanSum layout limit source g (laid layout (now small) (now large))
+        (laid layout (now smallwork) (now largework)) × Found g (laidView layout (now small) (now large)) b ⌝ }
     requires { ⌜ (3 * b .boxes ≤ length (now palette)) × (b .boxes ≤ length (now counts))
         × (3 * b .boxes ≤ length (now remainders)) ⌝ }
     ensures palette { λ r. ⌜ now (palette .exit)
-        ≡ paletteLater g (viewOf (now (table .entry))) (listOf (b .boxes) (b .places)) (now (palette .entry)) ⌝ }
+        ≡ paletteLater g (laidView layout (now (small .entry)) (now (large .entry))) (listOf (b .boxes) (b .places))
+        (now (palette .entry)) ⌝ }
     ensures counts { λ r. ⌜ now (counts .exit)
-        ≡ countsLater g (viewOf (now (table .entry))) (listOf (b .boxes) (b .places)) (now (counts .entry)) ⌝ }
+        ≡ countsLater g (laidView layout (now (small .entry)) (now (large .entry))) (listOf (b .boxes) (b .places))
+        (now (counts .entry)) ⌝ }
     ensures remainders { λ r. ⌜ now (remainders .exit)
-        ≡ remaindersLater g (viewOf (now (table .entry))) (listOf (b .boxes) (b .places)) (now (remainders .entry)) ⌝ }
+        ≡ remaindersLater g (laidView layout (now (small .entry)) (now (large .entry))) (listOf (b .boxes) (b .places))
+        (now (remainders .entry)) ⌝ }
 {
     let places = b.places;
     let n = b.boxes;
@@ -42,8 +50,11 @@ pub(crate) fn put_results(
     while i < n {
         let x = places[i];
         put_result(
-            table,
-            work,
+            layout,
+            small,
+            large,
+            smallwork,
+            largework,
             source,
             g,
             x.bounds,

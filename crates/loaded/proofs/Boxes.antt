@@ -18,8 +18,9 @@ use Rattle.grid.specs.Grid.{shiftAt, placeOf, colourPlace}
 use Rattle.basics.proofs.Range.{hit, hit-yes, hit-no}
 use Rattle.grid.proofs.Places.{Bytes, colour-inside, colour-bin}
 use Rattle.table.specs.Cell.{zeros}
-use Rattle.loader.specs.Load.{Weighted, share, adds, sumOver, loaded, ColourAt}
-use Rattle.loader.proofs.Loading.{AllBytes, share-weight, loaded-at, adds-at, over-none, over-more}
+use Rattle.adder.specs.Batch.{Weighted, share, adds, sumOver, loaded}
+use Rattle.loader.specs.Load.{ColourAt}
+use Rattle.adder.proofs.Loading.{AllBytes, share-weight, loaded-at, adds-at, over-none, over-more}
 use Rattle.boxes.specs.declared.sides.Bounds.{Bounds}
 use Rattle.boxes.specs.Box.{Within}
 use Rattle.boxes.specs.Holds.{holds, holdsAt}

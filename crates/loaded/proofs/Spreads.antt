@@ -22,8 +22,9 @@ use Rattle.table.specs.Cell.{View}
 use Rattle.table.specs.Table.{viewOf}
 use Rattle.table.specs.Sound.{limit}
 use Rattle.table.specs.Cell.{zeros}
-use Rattle.loader.specs.Load.{Weighted, share, sumOver, weightOf, loaded, tableOf, ColourAt}
-use Rattle.loader.proofs.Loading.{AllBytes, share-weight, share-sum, share-squares, load-sound, over-none, over-more}
+use Rattle.adder.specs.Batch.{Weighted, share, sumOver, weightOf, loaded}
+use Rattle.loader.specs.Load.{tableOf, ColourAt}
+use Rattle.adder.proofs.Loading.{AllBytes, share-weight, share-sum, share-squares, load-sound, over-none, over-more}
 use Rattle.loader.proofs.Order.{table-holds}
 use Rattle.table.proofs.Soundness.{zeros-total, zeros-sound}
 use Rattle.boxes.specs.declared.sides.Bounds.{Bounds}

@@ -17,12 +17,16 @@ use Rattle.grid.specs.Grid.{gridOf, Accepted}
 use Rattle.pixels.specs.Colour.{colourAt}
 use Rattle.basics.proofs.Range.{length-list, list-at, list-is}
 use Rattle.grid.proofs.Places.{chose}
-use Rattle.table.specs.Sound.{limit}
-use Rattle.loader.specs.Load.{Weighted, weightOf, weightedAt, batchOf, loadNumber, loadLater, tableOf}
-use Rattle.loader.proofs.Loading.{AllBytes}
-use Rattle.loader.proofs.Parts.{batch-weight}
-use Rattle.loader.proofs.Calls.{load-not-threes, load-over, load-done}
-use Rattle.loader.proofs.Order.{table-holds, table-total, table-sound, load-table}
+use Rattle.table.specs.declared.layout.Layout.{Layout}
+use Rattle.table.specs.declared.layout.Layout.the-variants.{Wide}
+use Rattle.table.specs.Sound.{limit, limitOf}
+use Rattle.adder.specs.Batch.{Weighted, weightOf, weightedAt, batchOf}
+use Rattle.adder.specs.Add.{passedNumber}
+use Rattle.loader.specs.Load.{loadNumberIn, loadLaterIn, loadNumber, loadLater, tableIn, tableOf}
+use Rattle.adder.proofs.Loading.{AllBytes}
+use Rattle.adder.proofs.Parts.{batch-weight}
+use Rattle.loader.proofs.Calls.{load-not-threes, load-over, load-done-in}
+use Rattle.loader.proofs.Order.{table-holds-in, table-total-in, table-sound-in, load-table-in}
 
 -- ---- colours
 pub batch-none : (weights : List ℕ) → batchOf [] false weights ≡ []
@@ -120,13 +124,13 @@ module _ (xs ys weights : List ℕ) (whole : length xs % 3 ≡ 0) where
       pixels = omega (arith, length-append xs ys, three)
 
 -- ---- a load into the table of some colours
-module _ (b1 b2 b3 : ℕ) {g : Grid} (e : gridOf b1 b2 b3 ≡ chosen.Accepted g) (cs : List Weighted) (y : AllBytes cs)
-    (few : weightOf cs ≤ limit) (bytes weights : List ℕ) where
+module _ (l : Layout) (b1 b2 b3 : ℕ) {g : Grid} (e : gridOf b1 b2 b3 ≡ chosen.Accepted g) (cs : List Weighted)
+    (y : AllBytes cs) (few : weightOf cs ≤ limitOf l) (bytes weights : List ℕ) where
   -- its answer, and the colours of the table that it leaves
   abbrev Loads : ℕ → List Weighted → Type 0
   Loads n ds =
-      (loadNumber b1 b2 b3 (tableOf g cs) bytes false weights ≡ n)
-      × (loadLater b1 b2 b3 (tableOf g cs) bytes false weights ≡ tableOf g ds)
+      (loadNumberIn l b1 b2 b3 (tableIn l g cs) bytes false weights ≡ n)
+      × (loadLaterIn l b1 b2 b3 (tableIn l g cs) bytes false weights ≡ tableIn l g ds)
 
   a : Accepted g
   a = chose b1 b2 b3 g e .accepted
@@ -134,19 +138,38 @@ module _ (b1 b2 b3 : ℕ) {g : Grid} (e : gridOf b1 b2 b3 ≡ chosen.Accepted g)
   weighs : weightOf (batchOf bytes false weights) ≡ length bytes / 3
   weighs = batch-weight bytes false weights (λ t. absurd (true≢false (sym t)))
 
-  pub load-stray : (length bytes % 3 ≡ 0 → ⊥) → Loads 3 cs
-  load-stray n = let l = load-not-threes b1 b2 b3 (tableOf g cs) bytes false weights e n in (sym (l .0), sym (l .1))
+  pub load-stray-in : (length bytes % 3 ≡ 0 → ⊥) → Loads 3 cs
+  load-stray-in n =
+      let q = load-not-threes l b1 b2 b3 (tableIn l g cs) bytes false weights e n in (sym (q .0), sym (q .1))
 
   module _ (whole : length bytes % 3 ≡ 0) where
-    pub load-fits : weightOf cs + length bytes / 3 ≤ limit → Loads 0 (cs ++ batchOf bytes false weights)
-    load-fits h =
-        let l = load-done b1 b2 b3 (tableOf g cs) bytes false weights e whole refl (table-holds g cs .lent)
-        (table-sound g a cs y few) (omega (arith, table-total g a cs y, weighs))
-        (sym (load-table g cs (batchOf bytes false weights))) in
-        (sym (l .0), sym (l .1))
+    pub load-fits-in : weightOf cs + length bytes / 3 ≤ limitOf l → Loads 0 (cs ++ batchOf bytes false weights)
+    load-fits-in h =
+        let q = load-done-in l b1 b2 b3 (tableIn l g cs) bytes false weights e whole refl (table-holds-in l g cs .lent)
+        (table-sound-in l g a cs y few) (omega (arith, table-total-in l g a cs y, weighs))
+        (sym (load-table-in l g cs (batchOf bytes false weights))) in
+        (sym (q .0), sym (q .1))
 
-    pub load-passes : limit < weightOf cs + length bytes / 3 → Loads 7 cs
-    load-passes h =
-        let l = load-over b1 b2 b3 (tableOf g cs) bytes false weights e whole refl (table-holds g cs .lent)
-        (table-sound g a cs y few) (omega (arith, table-total g a cs y, weighs)) in
-        (sym (l .0), sym (l .1))
+    pub load-passes-in : limitOf l < weightOf cs + length bytes / 3 → Loads (passedNumber l) cs
+    load-passes-in h =
+        let q = load-over l b1 b2 b3 (tableIn l g cs) bytes false weights e whole refl (table-holds-in l g cs .lent)
+        (table-sound-in l g a cs y few) (omega (arith, table-total-in l g a cs y, weighs)) in
+        (sym (q .0), sym (q .1))
+
+-- in the wide layout
+module _ (b1 b2 b3 : ℕ) {g : Grid} (e : gridOf b1 b2 b3 ≡ chosen.Accepted g) (cs : List Weighted) (y : AllBytes cs)
+    (few : weightOf cs ≤ limit) (bytes weights : List ℕ) where
+  abbrev WideLoads : ℕ → List Weighted → Type 0
+  WideLoads n ds =
+      (loadNumber b1 b2 b3 (tableOf g cs) bytes false weights ≡ n)
+      × (loadLater b1 b2 b3 (tableOf g cs) bytes false weights ≡ tableOf g ds)
+
+  pub load-stray : (length bytes % 3 ≡ 0 → ⊥) → WideLoads 3 cs
+  load-stray = load-stray-in Wide b1 b2 b3 e cs y few bytes weights
+
+  pub load-fits : length bytes % 3 ≡ 0 → weightOf cs + length bytes / 3 ≤ limit
+      → WideLoads 0 (cs ++ batchOf bytes false weights)
+  load-fits = load-fits-in Wide b1 b2 b3 e cs y few bytes weights
+
+  pub load-passes : length bytes % 3 ≡ 0 → limit < weightOf cs + length bytes / 3 → WideLoads 7 cs
+  load-passes = load-passes-in Wide b1 b2 b3 e cs y few bytes weights

@@ -1,11 +1,7 @@
-pub mod Loading
-pub mod Totals
-pub mod Parts
-pub mod Scaled
-pub mod StepTable
 pub mod Merging
 pub mod Calls
-pub mod Adding
+pub mod Once
+pub mod ByAdding
 pub mod Laws
 pub mod Order
 pub mod Plans

@@ -17,13 +17,17 @@ use Rattle.basics.specs.Range.{sumFrom, listFrom}
 use Rattle.grid.specs.Grid.{gridOf, onGrid, numberOn, binsOf, colourPlace}
 use Rattle.pixels.specs.Colour.{colourAt}
 use Rattle.basics.proofs.Range.{sum-same, sum-append, sum-shift}
-use Rattle.table.specs.Table.{Table, isSized, viewOf, written}
-use Rattle.table.specs.Sound.{limit, total, sound, unsoundNumber}
-use Rattle.table.proofs.Tables.{holds-list, holds-itself, holds-same}
-use Rattle.loader.specs.Load.{Weighted, share, adds, sumOver, weightOf, loaded, weightedAt, batchOf, loadNumberOn}
-use Rattle.loader.specs.Load.{loadNumber, loadLater}
-use Rattle.loader.proofs.Loading.{over-list}
-use Rattle.loader.proofs.Laws.{load-refused, load-says}
+use Rattle.table.specs.declared.layout.Layout.{Layout}
+use Rattle.table.specs.declared.layout.Layout.the-variants.{Wide}
+use Rattle.table.specs.Table.{Table}
+use Rattle.table.specs.Layout.{TableIn, isSizedIn, viewIn, writtenIn}
+use Rattle.table.specs.Sound.{limitOf, total, sound, unsoundNumber}
+use Rattle.table.proofs.Layouts.{holds-list-in, holds-itself-in, holds-same-in}
+use Rattle.adder.specs.Batch.{Weighted, share, adds, sumOver, weightOf, loaded, weightedAt, batchOf}
+use Rattle.adder.specs.Add.{passedNumber}
+use Rattle.loader.specs.Load.{loadNumberOn, loadNumberIn, loadLaterIn, loadNumber, loadLater}
+use Rattle.adder.proofs.Loading.{over-list}
+use Rattle.loader.proofs.Laws.{load-refused-in, load-says-in}
 
 -- ---- a colour of weight 0 adds nothing
 share-none : (c : Weighted) → c .weight ≡ 0 → (j : ℕ) → share c j ≡ 0
@@ -46,31 +50,32 @@ unfolding adds
 adds-none g p j c e = either-none (eqb (colourPlace g (c .colour)) p) (share c j) (share-none c e j)
 
 -- ---- two batches whose sums are the same, of whatever is 0 at weight 0, load alike
-module _ (b1 b2 b3 : ℕ) (t : Table) (weighted : Bool) (colours weights colours' weights' : List ℕ)
+module _ (l : Layout) (b1 b2 b3 : ℕ) (t : TableIn l) (weighted : Bool) (colours weights colours' weights' : List ℕ)
     (threes : length colours % 3 ≡ length colours' % 3)
     (paired : eqb (length weights) (length colours / 3) ≡ eqb (length weights') (length colours' / 3))
     (sums : (f : Weighted → ℕ) → ((c : Weighted) → c .weight ≡ 0 → f c ≡ 0)
     → sumOver (batchOf colours weighted weights) f ≡ sumOver (batchOf colours' weighted weights') f) where
   number-alike : (g : Grid)
-      → loadNumberOn limit 7 g (isSized t (binsOf g)) (viewOf t) colours weighted weights
-      ≡ loadNumberOn limit 7 g (isSized t (binsOf g)) (viewOf t) colours' weighted weights'
+      → loadNumberOn (limitOf l) (passedNumber l) g (isSizedIn l t (binsOf g)) (viewIn l t) colours weighted weights
+      ≡ loadNumberOn (limitOf l) (passedNumber l) g (isSizedIn l t (binsOf g)) (viewIn l t) colours' weighted weights'
   unfolding loadNumberOn weightOf
   number-alike g =
       λ i. refuse (not (eqb (threes i) 0)) 3
       (refuse (weighted && not (paired i)) 4
-      (refuse (not (isSized t (binsOf g))) 5
-      (refuse (not (sound limit g (viewOf t))) unsoundNumber
-      (refuse (ltb limit (total g (viewOf t) + sums (λ c. c .weight) (λ c e. e) i)) 7 0))))
+      (refuse (not (isSizedIn l t (binsOf g))) 5
+      (refuse (not (sound (limitOf l) g (viewIn l t))) unsoundNumber
+      (refuse (ltb (limitOf l) (total g (viewIn l t) + sums (λ c. c .weight) (λ c e. e) i)) (passedNumber l) 0))))
 
   table-alike : (g : Grid)
-      → written (binsOf g) (loaded g (batchOf colours weighted weights) (viewOf t))
-      ≡ written (binsOf g) (loaded g (batchOf colours' weighted weights') (viewOf t))
+      → writtenIn l (binsOf g) (loaded g (batchOf colours weighted weights) (viewIn l t))
+      ≡ writtenIn l (binsOf g) (loaded g (batchOf colours' weighted weights') (viewIn l t))
   unfolding loaded
-  table-alike g = λ i. written (binsOf g) (λ p j. viewOf t p j + sums (λ c. adds g c p j) (adds-none g p j) i)
+  table-alike g = λ i. writtenIn l (binsOf g) (λ p j. viewIn l t p j + sums (λ c. adds g c p j) (adds-none g p j) i)
 
-  loads-alike : (loadNumber b1 b2 b3 t colours weighted weights ≡ loadNumber b1 b2 b3 t colours' weighted weights')
-      × (loadLater b1 b2 b3 t colours weighted weights ≡ loadLater b1 b2 b3 t colours' weighted weights')
-  unfolding loadNumber loadLater
+  loads-alike :
+      (loadNumberIn l b1 b2 b3 t colours weighted weights ≡ loadNumberIn l b1 b2 b3 t colours' weighted weights')
+      × (loadLaterIn l b1 b2 b3 t colours weighted weights ≡ loadLaterIn l b1 b2 b3 t colours' weighted weights')
+  unfolding loadNumberIn loadLaterIn
   loads-alike = (
     λ i. numberOn (gridOf b1 b2 b3) (λ g. number-alike g i),
     λ i. onGrid (gridOf b1 b2 b3) t (λ g. whenDone (number-alike g i) (table-alike g i) t),
@@ -172,11 +177,11 @@ module _ (xs ys us ws : List ℕ) (c1 c2 c3 : ℕ) (pairs : length xs ≡ 3 * le
       next n = omega arith
 
   -- "Weight 0 adds nothing": the answer is the same, and so is the table
-  pub weightless : (b1 b2 b3 : ℕ) (t : Table)
-      → (loadNumber b1 b2 b3 t more true (us ++ (0 ∷ ws)) ≡ loadNumber b1 b2 b3 t fewer true (us ++ ws))
-      × (loadLater b1 b2 b3 t more true (us ++ (0 ∷ ws)) ≡ loadLater b1 b2 b3 t fewer true (us ++ ws))
-  weightless b1 b2 b3 t =
-      loads-alike b1 b2 b3 t true more (us ++ (0 ∷ ws)) fewer (us ++ ws)
+  pub weightless-in : (l : Layout) (b1 b2 b3 : ℕ) (t : TableIn l)
+      → (loadNumberIn l b1 b2 b3 t more true (us ++ (0 ∷ ws)) ≡ loadNumberIn l b1 b2 b3 t fewer true (us ++ ws))
+      × (loadLaterIn l b1 b2 b3 t more true (us ++ (0 ∷ ws)) ≡ loadLaterIn l b1 b2 b3 t fewer true (us ++ ws))
+  weightless-in l b1 b2 b3 t =
+      loads-alike l b1 b2 b3 t true more (us ++ (0 ∷ ws)) fewer (us ++ ws)
       (omega (arith, length-append xs (c1 ∷ c2 ∷ c3 ∷ ys), length-append xs ys))
       paired
       sums-alike
@@ -192,23 +197,35 @@ module _ (xs ys us ws : List ℕ) (c1 c2 c3 : ℕ) (pairs : length xs ≡ 3 * le
       paired = both (length (us ++ (0 ∷ ws))) (length (us ++ ws)) (length more / 3) (length fewer / 3)
           (omega (arith, length-append us (0 ∷ ws), length-append us ws)) (omega (arith, one-more, none-more))
 
+  -- in the wide layout
+  pub weightless : (b1 b2 b3 : ℕ) (t : Table)
+      → (loadNumber b1 b2 b3 t more true (us ++ (0 ∷ ws)) ≡ loadNumber b1 b2 b3 t fewer true (us ++ ws))
+      × (loadLater b1 b2 b3 t more true (us ++ (0 ∷ ws)) ≡ loadLater b1 b2 b3 t fewer true (us ++ ws))
+  weightless = weightless-in Wide
+
 -- ---- an empty batch
 pub empty-weight : (weighted : Bool) (weights : List ℕ) → weightOf (batchOf [] weighted weights) ≡ 0
 unfolding batchOf weightOf sumOver listFrom
 empty-weight weighted weights = refl
 
-module _ (b1 b2 b3 : ℕ) (t : Table) (weighted : Bool) (weights : List ℕ) where
+module _ (l : Layout) (b1 b2 b3 : ℕ) (t : TableIn l) (weighted : Bool) (weights : List ℕ) where
   -- "An empty batch changes nothing", refused or not
-  pub empty-kept : loadLater b1 b2 b3 t [] weighted weights ≡ t
+  pub empty-kept-in : loadLaterIn l b1 b2 b3 t [] weighted weights ≡ t
   unfolding loaded batchOf sumOver listFrom
-  empty-kept = go (loadNumber b1 b2 b3 t [] weighted weights) refl
+  empty-kept-in = go (loadNumberIn l b1 b2 b3 t [] weighted weights) refl
     where
       nothing : (x : ℕ) → x + 0 ≡ x
       nothing x = omega arith
 
-      go : (n : ℕ) → loadNumber b1 b2 b3 t [] weighted weights ≡ n → loadLater b1 b2 b3 t [] weighted weights ≡ t
+      go : (n : ℕ) → loadNumberIn l b1 b2 b3 t [] weighted weights ≡ n
+          → loadLaterIn l b1 b2 b3 t [] weighted weights ≡ t
       go zero e =
-          let d = load-says b1 b2 b3 t [] weighted weights e in
-          holds-list (holds-same (d .holds) (λ p j h k. nothing (viewOf t p j)))
-          ∙ sym (holds-list (holds-itself (binsOf (d .g)) t (d .lent)))
-      go (suc n) e = load-refused b1 b2 b3 t [] weighted weights e
+          let d = load-says-in l b1 b2 b3 t [] weighted weights e in
+          holds-list-in l (holds-same-in (d .holds) (λ p j h k. nothing (viewIn l t p j)))
+          ∙ sym (holds-list-in l (holds-itself-in l (binsOf (d .g)) t (d .lent)))
+      go (suc n) e = load-refused-in l b1 b2 b3 t [] weighted weights e
+
+-- in the wide layout
+pub empty-kept : (b1 b2 b3 : ℕ) (t : Table) (weighted : Bool) (weights : List ℕ)
+    → loadLater b1 b2 b3 t [] weighted weights ≡ t
+empty-kept = empty-kept-in Wide

@@ -14,9 +14,9 @@ use Rattle.grid.specs.Grid.{colourPlace}
 use Rattle.pixels.specs.Colour.{colourAt}
 use Rattle.table.specs.Table.{tableLen, isSized, viewOf, written}
 use Rattle.table.specs.Sound.{between, squaredSpan, plusSpan, squaresSpan, inBounds, spanAt, binSound, total, sound}
-use Rattle.loader.specs.Load.{share, adds, sumOver, weightOf, loaded, weightedAt, batchOf, loadNumberOn}
-use Rattle.loader.specs.Load.{loadNumber, loadLater}
-use Rattle.loader.specs.Merge.{merged, mergeNumberOn, mergeNumber, mergeLater}
+use Rattle.adder.specs.Batch.{share, adds, sumOver, weightOf, loaded, weightedAt, batchOf}
+use Rattle.loader.specs.Load.{loadNumberOn, loadNumberIn, loadLaterIn, loadNumber, loadLater}
+use Rattle.loader.specs.Merge.{merged, mergeNumberOn, mergeNumberIn, mergeLaterIn, mergeNumber, mergeLater}
 
 -- an answer, and the table then
 record Outcome : Type 0 where
@@ -85,7 +85,7 @@ worked : map loads cases ≡ map (λ c. c .expected) cases
 unfolding loads one cases refuse whenDone listFrom sumFrom allFrom choices shiftIn shiftOf binOf spanOf choose shiftAt
     gridWith gridOf gridAnswer onGrid numberOn binsOf placeOf binAt colourPlace colourAt
     tableLen isSized viewOf written between squaredSpan plusSpan squaresSpan inBounds spanAt binSound total sound
-    share adds sumOver weightOf loaded weightedAt batchOf loadNumberOn loadNumber loadLater
+    share adds sumOver weightOf loaded weightedAt batchOf loadNumberOn loadNumberIn loadLaterIn
 worked = refl
 
 -- merged into itself, a table has each number twice; the full one passes the limit
@@ -96,5 +96,5 @@ worked-merge :
 unfolding full one refuse whenDone listFrom sumFrom allFrom choices shiftIn shiftOf spanOf choose shiftAt
     gridWith gridOf gridAnswer onGrid numberOn binsOf binAt
     tableLen isSized viewOf written between squaredSpan plusSpan squaresSpan inBounds spanAt binSound total sound
-    merged mergeNumberOn mergeNumber mergeLater
+    merged mergeNumberOn mergeNumberIn mergeLaterIn
 worked-merge = (refl, refl, refl)

@@ -1,5 +1,4 @@
 pub mod Load
 pub mod Merge
 pub mod Plan
-pub mod Add
 pub mod Inner

@@ -6,9 +6,13 @@ use Prim.Native.Nat.{ℕ, zero, suc, _*_, _/_, _%_, _<_}
 use lib.Dec.{eqb}
 use lib.ListN.{length, getD}
 use Rattle.basics.specs.Answer.{refuse}
-use Rattle.table.specs.Table.{Table, emptyOf}
-use Rattle.loader.specs.Load.{Weighted, batchOf, loadNumber, loadLater}
-use Rattle.loader.specs.Merge.{mergeNumber, mergeLater}
+use Rattle.table.specs.declared.layout.Layout.{Layout}
+use Rattle.table.specs.declared.layout.Layout.the-variants.{Wide}
+use Rattle.table.specs.Table.{Table}
+use Rattle.table.specs.Layout.{TableIn, emptyIn}
+use Rattle.adder.specs.Batch.{Weighted, batchOf}
+use Rattle.loader.specs.Load.{loadNumberIn, loadLaterIn}
+use Rattle.loader.specs.Merge.{mergeNumberIn, mergeLaterIn}
 
 -- what a caller lends to a load
 pub record Batch : Type 0 where
@@ -22,31 +26,42 @@ pub data Plan : Type 0 where
   load : Plan → Batch → Plan
   merge : Plan → Plan → Plan
 
--- how a plan ends: stopped by the answer of the first refusal, or with a table filled
-pub data Ended : Type 0 where
-  Stopped : ℕ → Ended
-  Filled : Table → Ended
+-- how a plan ends in a layout: stopped by the answer of the first refusal, or with a table filled
+pub data EndedIn (l : Layout) : Type 0 where
+  Stopped : ℕ → EndedIn l
+  Filled : TableIn l → EndedIn l
 
-unfoldable pub endedOf : ℕ → Table → Ended
-endedOf zero t = Filled t
-endedOf (suc n) t = Stopped (suc n)
+unfoldable pub endedOfIn : (l : Layout) → ℕ → TableIn l → EndedIn l
+endedOfIn l zero t = Filled t
+endedOfIn l (suc n) t = Stopped (suc n)
 
 -- the next load, and the next merge, unless a refusal came before
-unfoldable pub thenLoad : ℕ → ℕ → ℕ → Ended → Batch → Ended
-thenLoad b1 b2 b3 (Stopped n) b = Stopped n
-thenLoad b1 b2 b3 (Filled t) b =
-    endedOf (loadNumber b1 b2 b3 t (b .colours) (b .weighted) (b .weights))
-    (loadLater b1 b2 b3 t (b .colours) (b .weighted) (b .weights))
+unfoldable pub thenLoadIn : (l : Layout) → ℕ → ℕ → ℕ → EndedIn l → Batch → EndedIn l
+thenLoadIn l b1 b2 b3 (Stopped n) b = Stopped n
+thenLoadIn l b1 b2 b3 (Filled t) b =
+    endedOfIn l (loadNumberIn l b1 b2 b3 t (b .colours) (b .weighted) (b .weights))
+    (loadLaterIn l b1 b2 b3 t (b .colours) (b .weighted) (b .weights))
 
-unfoldable pub thenMerge : ℕ → ℕ → ℕ → Ended → Ended → Ended
-thenMerge b1 b2 b3 (Stopped n) r = Stopped n
-thenMerge b1 b2 b3 (Filled t) (Stopped n) = Stopped n
-thenMerge b1 b2 b3 (Filled t) (Filled s) = endedOf (mergeNumber b1 b2 b3 t s) (mergeLater b1 b2 b3 t s)
+unfoldable pub thenMergeIn : (l : Layout) → ℕ → ℕ → ℕ → EndedIn l → EndedIn l → EndedIn l
+thenMergeIn l b1 b2 b3 (Stopped n) r = Stopped n
+thenMergeIn l b1 b2 b3 (Filled t) (Stopped n) = Stopped n
+thenMergeIn l b1 b2 b3 (Filled t) (Filled s) =
+    endedOfIn l (mergeNumberIn l b1 b2 b3 t s) (mergeLaterIn l b1 b2 b3 t s)
 
-unfoldable pub ends : ℕ → ℕ → ℕ → Plan → Ended
-ends b1 b2 b3 empty = Filled (emptyOf (b1 * b2 * b3))
-ends b1 b2 b3 (load p b) = thenLoad b1 b2 b3 (ends b1 b2 b3 p) b
-ends b1 b2 b3 (merge p q) = thenMerge b1 b2 b3 (ends b1 b2 b3 p) (ends b1 b2 b3 q)
+unfoldable pub endsIn : (l : Layout) → ℕ → ℕ → ℕ → Plan → EndedIn l
+endsIn l b1 b2 b3 empty = Filled (emptyIn l (b1 * b2 * b3))
+endsIn l b1 b2 b3 (load p b) = thenLoadIn l b1 b2 b3 (endsIn l b1 b2 b3 p) b
+endsIn l b1 b2 b3 (merge p q) = thenMergeIn l b1 b2 b3 (endsIn l b1 b2 b3 p) (endsIn l b1 b2 b3 q)
+
+-- in the wide layout
+abbrev pub Ended : Type 0
+Ended = EndedIn Wide
+
+abbrev pub endedOf : ℕ → Table → Ended
+endedOf n t = endedOfIn Wide n t
+
+abbrev pub ends : ℕ → ℕ → ℕ → Plan → Ended
+ends b1 b2 b3 p = endsIn Wide b1 b2 b3 p
 
 -- the weighted colours of a plan
 unfoldable pub leaves : Plan → List Weighted

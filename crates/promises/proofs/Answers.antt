@@ -18,9 +18,9 @@ use Rattle.grid.specs.Grid.{gridWith, gridOf, gridAnswer}
 use Rattle.table.specs.Cell.{View}
 use Rattle.table.specs.Sound.{limit, total, sound, soundTotal, soundAnswer}
 use Rattle.table.proofs.Total.{total-told, unsound-told}
-use Rattle.loader.specs.Load.{Weighted, weightOf}
-use Rattle.loader.specs.Add.{addedTo, addedAnswer}
-use Rattle.loader.proofs.Adding.{added-fits, added-passes}
+use Rattle.adder.specs.Batch.{Weighted, weightOf}
+use Rattle.adder.specs.Add.{addedTo, addedAnswer}
+use Rattle.adder.proofs.Adding.{added-fits, added-passes}
 use Rattle.boxes.specs.declared.sides.Bounds.{Bounds}
 use Rattle.boxes.specs.Box.{Within}
 use Rattle.spread.specs.Cut.{positionAnswer, bestCut}

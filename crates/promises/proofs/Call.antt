@@ -16,13 +16,15 @@ use Rattle.rounds.specs.declared.gather.BoxSpread.{BoxSpread}
 use Rattle.boxes.specs.Box.{noBox}
 use Rattle.rounds.specs.Loop.{withZero}
 use Rattle.sums.specs.declared.source.Source.{Source}
+use Rattle.table.specs.declared.layout.Layout.{Layout}
+use Rattle.table.specs.Layout.{TableIn}
 use Rattle.cutter.specs.declared.call.CutRecord.{CutRecord}
 use Rattle.cutter.specs.Fronts.{filled}
-use Rattle.cutter.specs.Cut.{listOf, cutNumber, cutRecord, cutLater}
+use Rattle.cutter.specs.Cut.{listOf, cutNumberIn, cutRecordIn, cutLaterIn}
 use Rattle.cutter.proofs.RecordSize.{few, all-places}
 use Rattle.cutter.proofs.Fronts.{length-filled, filled-at, filled-past}
 use Rattle.cutter.proofs.Laws.{record-number}
-use Rattle.seluvava.specs.Cut.{Lent, itsBytes, spreadOf, told, callNumber, cutAnswer, callLater}
+use Rattle.seluvava.specs.Cut.{LentIn, itsBytes, spreadOf, told, callNumberIn, cutAnswerIn, callLaterIn}
 use Rattle.seluvava.specs.Inner.{roomNumber}
 use Rattle.seluvava.proofs.Boxes.{six, one, told-length}
 use Rattle.seluvava.proofs.Calls.{roomy, room-on, room-enough, in-stages, call-kept, call-has}
@@ -75,19 +77,19 @@ stays w f each xs e old j past =
     (filled-past w f each xs old j past)
 
 -- ---- the call
-module _ (source : Source) (b1 b2 b3 k : ℕ) (t : List ℕ) (l : Lent) where
+module _ (layout : Layout) (source : Source) (b1 b2 b3 k : ℕ) (t : TableIn layout) (l : LentIn layout) where
   abbrev number : ℕ
-  number = cutAnswer source b1 b2 b3 k t l .number
+  number = cutAnswerIn layout source b1 b2 b3 k t l .number
 
   abbrev r : CutRecord
-  r = cutRecord source b1 b2 b3 k t (l .buffers)
+  r = cutRecordIn layout source b1 b2 b3 k t (l .buffers)
 
   abbrev room : ℕ
   room = roomNumber b1 b2 b3 k (length (l .boxes)) (length (l .spreads))
 
   -- the answer that is given
-  is-number : number ≡ callNumber source b1 b2 b3 k t l
-  unfolding cutAnswer
+  is-number : number ≡ callNumberIn layout source b1 b2 b3 k t l
+  unfolding cutAnswerIn
   is-number = refl
 
   has-room : number ≡ 0 → room ≡ 0
@@ -99,20 +101,20 @@ module _ (source : Source) (b1 b2 b3 k : ℕ) (t : List ℕ) (l : Lent) where
 
       go : (n : ℕ) → room ≡ n → room ≡ 0
       go zero q = q
-      go (suc n) q = absurd (never n (sym (sym e ∙ is-number ∙ in-stages source b1 b2 b3 k t l ∙ rw q refl)))
+      go (suc n) q = absurd (never n (sym (sym e ∙ is-number ∙ in-stages layout source b1 b2 b3 k t l ∙ rw q refl)))
 
-  cut-number : room ≡ 0 → number ≡ cutNumber source b1 b2 b3 k t (l .buffers)
+  cut-number : room ≡ 0 → number ≡ cutNumberIn layout source b1 b2 b3 k t (l .buffers)
   unfolding whenDone
-  cut-number e = is-number ∙ in-stages source b1 b2 b3 k t l ∙ rw e refl
+  cut-number e = is-number ∙ in-stages layout source b1 b2 b3 k t l ∙ rw e refl
 
-  pub call-is-cut : (cutAnswer source b1 b2 b3 k t l .number ≡ 0)
-      ↔ ((cutNumber source b1 b2 b3 k t (l .buffers) ≡ 0) × Room k l)
+  pub call-is-cut : (cutAnswerIn layout source b1 b2 b3 k t l .number ≡ 0)
+      ↔ ((cutNumberIn layout source b1 b2 b3 k t (l .buffers) ≡ 0) × Room layout k l)
   call-is-cut = (
     λ e.
         let enough = roomy b1 b2 b3 k (length (l .boxes)) (length (l .spreads)) (has-room e) in
         (sym (cut-number (has-room e)) ∙ e, record { boxes = enough .boxes-fit; spreads = enough .spreads-fit }),
     λ d.
-        let o = cut-exactly b1 b2 b3 source k t (l .buffers) .0 (d .0) in
+        let o = cut-exactly b1 b2 b3 layout source k t (l .buffers) .0 (d .0) in
         cut-number
         (room-on b1 b2 b3 k (length (l .boxes)) (length (l .spreads)) (o .chosen)
         ∙ room-enough k (length (l .boxes)) (length (l .spreads)) (o .can .0 .least) (o .can .0 .most) (d .1 .boxes)
@@ -121,32 +123,32 @@ module _ (source : Source) (b1 b2 b3 k : ℕ) (t : List ℕ) (l : Lent) where
   )
 
   -- "A refusal writes nothing." And it has no boxes and no rounds
-  pub refused-call : {n : ℕ} → cutAnswer source b1 b2 b3 k t l .number ≡ suc n
-      → (cutAnswer source b1 b2 b3 k t l ≡ record { number = suc n; boxes = 0; rounds = 0 })
-      × (callLater source b1 b2 b3 k t l ≡ l)
-  refused-call e = call-kept source b1 b2 b3 k t l (sym is-number ∙ e)
+  pub refused-call : {n : ℕ} → cutAnswerIn layout source b1 b2 b3 k t l .number ≡ suc n
+      → (cutAnswerIn layout source b1 b2 b3 k t l ≡ record { number = suc n; boxes = 0; rounds = 0 })
+      × (callLaterIn layout source b1 b2 b3 k t l ≡ l)
+  refused-call e = call-kept layout source b1 b2 b3 k t l (sym is-number ∙ e)
 
-  pub call-tells : cutAnswer source b1 b2 b3 k t l .number ≡ 0
-      → TellsCut (cutRecord source b1 b2 b3 k t (l .buffers)) (cutLater source b1 b2 b3 k t (l .buffers)) l
-      (cutAnswer source b1 b2 b3 k t l) (callLater source b1 b2 b3 k t l)
+  pub call-tells : cutAnswerIn layout source b1 b2 b3 k t l .number ≡ 0
+      → TellsCut layout (cutRecordIn layout source b1 b2 b3 k t (l .buffers)) (cutLaterIn layout source b1 b2 b3 k t (l .buffers)) l
+      (cutAnswerIn layout source b1 b2 b3 k t l) (callLaterIn layout source b1 b2 b3 k t l)
   call-tells e =
       let enough = roomy b1 b2 b3 k (length (l .boxes)) (length (l .spreads)) (has-room e) in
-      let has = call-has source b1 b2 b3 k t l (sym is-number ∙ e) in
-      let most : r .boxes ≤ k = few source k (enough .least) (enough .most) t b1 b2 b3 (l .buffers) refl in
-      let many = told-length r (all-places source k t b1 b2 b3 (l .buffers) refl) (omega (arith, most, enough .most)) in
+      let has = call-has layout source b1 b2 b3 k t l (sym is-number ∙ e) in
+      let most : r .boxes ≤ k = few layout source k (enough .least) (enough .most) t b1 b2 b3 (l .buffers) refl in
+      let many = told-length r (all-places layout source k t b1 b2 b3 (l .buffers) refl) (omega (arith, most, enough .most)) in
       record {
         answer = has .0
             ∙ ap (λ (n : ℕ). record { number = n; boxes = r .boxes; rounds = r .rounds })
-            (sym (record-number source b1 b2 b3 k t (l .buffers) ∙ sym (cut-number (has-room e)) ∙ e));
-        buffers = ap (λ (x : Lent). x .buffers) (has .1);
-        box = λ i h. ap (λ (x : Lent). boxRead (x .boxes) i) (has .1) ∙ read-box r many i h (l .boxes);
-        spread = λ i h. ap (λ (x : Lent). getD (x .spreads) i nan) (has .1) ∙ read-spread r many i h (l .spreads);
-        boxes-stay = λ j. ap (λ (x : Lent). getD (x .boxes) (6 * r .boxes + j) 0) (has .1)
+            (sym (record-number layout source b1 b2 b3 k t (l .buffers) ∙ sym (cut-number (has-room e)) ∙ e));
+        buffers = ap (λ (x : LentIn layout). x .buffers) (has .1);
+        box = λ i h. ap (λ (x : LentIn layout). boxRead (x .boxes) i) (has .1) ∙ read-box r many i h (l .boxes);
+        spread = λ i h. ap (λ (x : LentIn layout). getD (x .spreads) i nan) (has .1) ∙ read-spread r many i h (l .spreads);
+        boxes-stay = λ j. ap (λ (x : LentIn layout). getD (x .boxes) (6 * r .boxes + j) 0) (has .1)
             ∙ stays 6 itsBytes six (told r) (ap (λ (n : ℕ). 6 * n) many) (l .boxes) j 0;
-        spreads-stay = λ j. ap (λ (x : Lent). getD (x .spreads) (r .boxes + j) nan) (has .1)
+        spreads-stay = λ j. ap (λ (x : LentIn layout). getD (x .spreads) (r .boxes + j) nan) (has .1)
             ∙ stays 1 spreadOf one (told r) (one-mul (length (told r)) ∙ many) (l .spreads) j nan;
-        boxes-long = ap (λ (x : Lent). length (x .boxes)) (has .1)
+        boxes-long = ap (λ (x : LentIn layout). length (x .boxes)) (has .1)
             ∙ length-filled 6 itsBytes six (told r) (l .boxes) (omega (arith, many, most, enough .boxes-fit));
-        spreads-long = ap (λ (x : Lent). length (x .spreads)) (has .1)
+        spreads-long = ap (λ (x : LentIn layout). length (x .spreads)) (has .1)
             ∙ length-filled 1 spreadOf one (told r) (l .spreads) (omega (arith, many, most, enough .spreads-fit));
       }

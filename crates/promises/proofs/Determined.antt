@@ -1,8 +1,8 @@
 -- For every public function of every crate: any two results, and any two later contents of what it was lent, that its
 -- contract allows are equal. `Learnt` is what a contract tells its caller of the arguments a, the result r and the
--- parameters at exit e.
+-- parameters at exit e. What is lent in a layout is seen by `lentLists`: a wide table has no small list.
 -- Assumes nothing.
-use mathlib.Core.Path.{_≡_}
+use mathlib.Core.Path.{_≡_, ap}
 use mathlib.Core.List.{List}
 use Prim.Native.Nat.{ℕ}
 use lib.IntN.{ℤ}
@@ -10,7 +10,10 @@ use lib.Ieee.{Float}
 use denote.Ref.{now}
 use Rattle.basics.proofs.Determined.{determined}
 use Rattle.cutter.specs.declared.call.CutRecord.{CutRecord}
-use Rattle.cutter.specs.Cut.{Buffers, buffers, noWork}
+use Rattle.table.specs.declared.layout.Layout.the-variants.{Narrow}
+use Rattle.table.specs.Narrow.{NarrowTable, narrowTable}
+use Rattle.cutter.specs.Cut.{Results, Buffers, buffers, noWork, buffersIn, noWorkIn}
+use Rattle.promises.specs.Layouts.{listsIn, lentLists, DeterminesBy}
 use Rattle.grid.proofs.dimension.shift_of as shift-of
 use Rattle.grid.proofs.place.grid_of as grid-of
 use Rattle.grid.proofs.place.Grid.rgb as rgb
@@ -21,19 +24,30 @@ use Rattle.grid.proofs.place.place as place
 use Rattle.pixels.proofs.colour.colour as colour
 use Rattle.grid.proofs.steps.steps as steps
 use Rattle.pixels.proofs.equal.equal_colours as equal-colours
-use Rattle.table.proofs.layout.table_len as table-len
-use Rattle.table.proofs.layout.cell_at as cell-at
-use Rattle.table.proofs.layout.put_at as put-at
+use Rattle.table.proofs.wide.table_len as table-len
+use Rattle.table.proofs.wide.cell_at as cell-at
+use Rattle.table.proofs.wide.put_at as put-at
+use Rattle.table.proofs.layout.lengths_fit as lengths-fit
+use Rattle.table.proofs.layout.cell_in as cell-in
+use Rattle.table.proofs.layout.put_cell as put-cell
 use Rattle.table.proofs.cell.plus as plus
 use Rattle.table.proofs.cell.minus as minus
-use Rattle.table.proofs.sound.row_squares as row-squares
+use Rattle.table.proofs.spans.row_spans as row-spans
+use Rattle.table.proofs.spans.fill_spans as fill-spans
 use Rattle.table.proofs.sound.keeps_bounds as keeps-bounds
+use Rattle.table.proofs.sound.limit_of as limit-of
+use Rattle.table.proofs.sound.total_in as total-in
 use Rattle.table.proofs.sound.sound_total as sound-total
-use Rattle.loader.specs.declared.add.Added.{Added}
-use Rattle.loader.proofs.steps.fill_steps as fill-steps
-use Rattle.loader.proofs.add.add_batch as add-batch
+use Rattle.adder.specs.declared.add.Added.{Added}
+use Rattle.adder.proofs.shares.add_at as add-at
+use Rattle.adder.proofs.steps.fill_steps as fill-steps
+use Rattle.adder.proofs.add.add_batch_in as add-batch-in
+use Rattle.adder.proofs.add.add_batch as add-batch
+use Rattle.loader.proofs.load.load_scaled_in as load-scaled-in
 use Rattle.loader.proofs.load.load_scaled as load-scaled
+use Rattle.loader.proofs.load.load_in as load-in
 use Rattle.loader.proofs.load.load as load
+use Rattle.loader.proofs.merge.merge_in as merge-in
 use Rattle.loader.proofs.merge.merge as merge
 use Rattle.recorder.specs.declared.session.SessionAnswer.{SessionAnswer}
 use Rattle.recorder.proofs.session.begin as begin
@@ -45,6 +59,7 @@ use Rattle.ppm.proofs.load.load_ppm as load-ppm
 use Rattle.compare.specs.declared.call.Compared.{Compared}
 use Rattle.compare.proofs.call.compare as compare
 use Rattle.rescue.proofs.call.rescue as rescue
+use Rattle.widen.proofs.call.widen as widen
 use Rattle.bins.proofs.add_up.add_up as add-up
 use Rattle.sums.proofs.moments.moments as moments
 use Rattle.sums.proofs.box_sums.in_float as in-float
@@ -91,7 +106,7 @@ use Rattle.cutter.proofs.call.cut_from as cut-from
 use Rattle.cutter.proofs.call.cut as cut
 use Rattle.cutter.proofs.call.cut_slowly as cut-slowly
 use Rattle.seluvava.specs.declared.cut.CutAnswer.{CutAnswer}
-use Rattle.seluvava.specs.Cut.{Lent, lent}
+use Rattle.seluvava.specs.Cut.{Lent, lent, LentIn, lentIn}
 use Rattle.seluvava.proofs.sizes.seluvava_bins as exported-bins
 use Rattle.seluvava.proofs.tables.seluvava_table_len as exported-table-len
 use Rattle.seluvava.proofs.tables.seluvava_load as exported-load
@@ -106,6 +121,11 @@ use Rattle.seluvava.proofs.recordings.seluvava_batch as exported-batch
 use Rattle.seluvava.proofs.recordings.seluvava_replay as exported-replay
 use Rattle.seluvava.proofs.cut.seluvava_cut as exported-cut
 use Rattle.seluvava.proofs.cut.seluvava_cut_slowly as exported-cut-slowly
+use Rattle.seluvava.proofs.narrow.seluvava_narrow_load as exported-narrow-load
+use Rattle.seluvava.proofs.narrow.seluvava_narrow_merge as exported-narrow-merge
+use Rattle.seluvava.proofs.narrow.seluvava_narrow_cut as exported-narrow-cut
+use Rattle.seluvava.proofs.narrow.seluvava_narrow_cut_slowly as exported-narrow-cut-slowly
+use Rattle.seluvava.proofs.narrow.seluvava_widen as exported-widen
 use Rattle.seluvava.proofs.frames.seluvava_map as exported-map
 use Rattle.seluvava.proofs.frames.seluvava_paint as exported-paint
 use Rattle.seluvava.proofs.terminals.seluvava_nearest as exported-nearest
@@ -179,6 +199,16 @@ table-len-determined κs a r s x y p q = determined p q
 pub cell-at-determined : Determines 1 cell-at.Kinds.ps cell-at.Kinds.r cell-at.Reads.Learnt (λ κs r e. r)
 cell-at-determined κs a r s x y p q = determined p q
 
+pub lengths-fit-determined : Determines 0 lengths-fit.Kinds.ps lengths-fit.Kinds.r lengths-fit.Reads.Learnt (λ κs r e. r)
+lengths-fit-determined κs a r s x y p q = determined p q
+
+pub cell-in-determined : Determines 2 cell-in.Kinds.ps cell-in.Kinds.r cell-in.Reads.Learnt (λ κs r e. r)
+cell-in-determined κs a r s x y p q = determined p q
+
+pub put-cell-determined : DeterminesBy 2 put-cell.Kinds.ps put-cell.Kinds.r put-cell.Reads.Learnt
+    (λ κs a r e. lentLists (a .0) (now (e .1 .0)) (now (e .1 .1 .0)))
+put-cell-determined κs a r s x y p q = ap (listsIn (a .0)) (determined p q)
+
 pub put-at-determined : Determines 1 put-at.Kinds.ps put-at.Kinds.r put-at.Reads.Learnt (λ κs r e. now (e .0))
 put-at-determined κs a r s x y p q = determined p q
 
@@ -188,34 +218,69 @@ plus-determined κs a r s x y p q = determined p q
 pub minus-determined : Determines 0 minus.Kinds.ps minus.Kinds.r minus.Reads.Learnt (λ κs r e. r)
 minus-determined κs a r s x y p q = determined p q
 
-pub row-squares-determined : Determines 0 row-squares.Kinds.ps row-squares.Kinds.r row-squares.Reads.Learnt
-    (λ κs r e. r)
-row-squares-determined κs a r s x y p q = determined p q
+pub row-spans-determined : Determines 0 row-spans.Kinds.ps row-spans.Kinds.r row-spans.Reads.Learnt (λ κs r e. r)
+row-spans-determined κs a r s x y p q = determined p q
 
-pub keeps-bounds-determined : Determines 0 keeps-bounds.Kinds.ps keeps-bounds.Kinds.r keeps-bounds.Reads.Learnt
+pub fill-spans-determined : Determines 1 fill-spans.Kinds.ps fill-spans.Kinds.r fill-spans.Reads.Learnt
+    (λ κs r e. now (e .0))
+fill-spans-determined κs a r s x y p q = determined p q
+
+pub keeps-bounds-determined : Determines 1 keeps-bounds.Kinds.ps keeps-bounds.Kinds.r keeps-bounds.Reads.Learnt
     (λ κs r e. r)
 keeps-bounds-determined κs a r s x y p q = determined p q
+
+pub limit-of-determined : Determines 0 limit-of.Kinds.ps limit-of.Kinds.r limit-of.Reads.Learnt (λ κs r e. r)
+limit-of-determined κs a r s x y p q = determined p q
+
+pub total-in-determined : Determines 2 total-in.Kinds.ps total-in.Kinds.r total-in.Reads.Learnt (λ κs r e. r)
+total-in-determined κs a r s x y p q = determined p q
 
 pub sound-total-determined : Determines 1 sound-total.Kinds.ps sound-total.Kinds.r sound-total.Reads.Learnt
     (λ κs r e. r)
 sound-total-determined κs a r s x y p q = determined p q
 
--- ---- loader
+-- ---- adder
+pub add-at-determined : DeterminesBy 2 add-at.Kinds.ps add-at.Kinds.r add-at.Reads.Learnt
+    (λ κs a r e. lentLists (a .0) (now (e .1 .0)) (now (e .1 .1 .0)))
+add-at-determined κs a r s x y p q = ap (listsIn (a .0)) (determined p q)
+
 pub fill-steps-determined : Determines 1 fill-steps.Kinds.ps fill-steps.Kinds.r fill-steps.Reads.Learnt
     (λ κs r e. now (e .0))
 fill-steps-determined κs a r s x y p q = determined p q
+
+pub add-batch-in-determined : DeterminesBy {A = Added × (List ℕ × List ℕ)} 5 add-batch-in.Kinds.ps
+    add-batch-in.Kinds.r add-batch-in.Reads.Learnt (λ κs a r e. (r, lentLists (a .0) (now (e .1 .1 .0)) (now (e .1 .1 .1 .0))))
+add-batch-in-determined κs a r s x y p q =
+    both (determined (p .0) (q .0)) (ap (listsIn (a .0)) (determined (p .1) (q .1)))
 
 pub add-batch-determined : Determines {A = Added × List ℕ} 4 add-batch.Kinds.ps add-batch.Kinds.r add-batch.Reads.Learnt
     (λ κs r e. (r, now (e .1 .0)))
 add-batch-determined κs a r s x y p q = both (determined (p .0) (q .0)) (determined (p .1) (q .1))
 
+-- ---- loader
+pub load-scaled-in-determined : DeterminesBy {A = ℕ × (List ℕ × List ℕ)} 4 load-scaled-in.Kinds.ps
+    load-scaled-in.Kinds.r load-scaled-in.Reads.Learnt
+    (λ κs a r e. (r, lentLists (a .0) (now (e .1 .1 .1 .1 .1 .0)) (now (e .1 .1 .1 .1 .1 .1 .0))))
+load-scaled-in-determined κs a r s x y p q =
+    both (determined (p .0) (q .0)) (ap (listsIn (a .0)) (determined (p .1) (q .1)))
+
 pub load-scaled-determined : Determines {A = ℕ × List ℕ} 3 load-scaled.Kinds.ps load-scaled.Kinds.r
     load-scaled.Reads.Learnt (λ κs r e. (r, now (e .1 .1 .1 .1 .0)))
 load-scaled-determined κs a r s x y p q = both (determined (p .0) (q .0)) (determined (p .1) (q .1))
 
+pub load-in-determined : DeterminesBy {A = ℕ × (List ℕ × List ℕ)} 4 load-in.Kinds.ps load-in.Kinds.r
+    load-in.Reads.Learnt (λ κs a r e. (r, lentLists (a .0) (now (e .1 .1 .1 .1 .0)) (now (e .1 .1 .1 .1 .1 .0))))
+load-in-determined κs a r s x y p q =
+    both (determined (p .0) (q .0)) (ap (listsIn (a .0)) (determined (p .1) (q .1)))
+
 pub load-determined : Determines {A = ℕ × List ℕ} 3 load.Kinds.ps load.Kinds.r load.Reads.Learnt
     (λ κs r e. (r, now (e .1 .1 .1 .0)))
 load-determined κs a r s x y p q = both (determined (p .0) (q .0)) (determined (p .1) (q .1))
+
+pub merge-in-determined : DeterminesBy {A = ℕ × (List ℕ × List ℕ)} 4 merge-in.Kinds.ps merge-in.Kinds.r
+    merge-in.Reads.Learnt (λ κs a r e. (r, lentLists (a .0) (now (e .1 .1 .1 .1 .0)) (now (e .1 .1 .1 .1 .1 .0))))
+merge-in-determined κs a r s x y p q =
+    both (determined (p .0) (q .0)) (ap (listsIn (a .0)) (determined (p .1) (q .1)))
 
 pub merge-determined : Determines {A = ℕ × List ℕ} 2 merge.Kinds.ps merge.Kinds.r merge.Reads.Learnt
     (λ κs r e. (r, now (e .1 .1 .1 .0)))
@@ -256,13 +321,19 @@ pub rescue-determined : Determines {A = ℕ × (List ℕ × List ℕ)} 2 rescue.
 rescue-determined κs a r s x y p q =
     both (determined (p .0) (q .0)) (both (determined (p .1 .0) (q .1 .0)) (determined (p .1 .1) (q .1 .1)))
 
+-- ---- widen
+pub widen-determined : Determines {A = ℕ × List ℕ} 3 widen.Kinds.ps widen.Kinds.r widen.Reads.Learnt
+    (λ κs r e. (r, now (e .1 .1 .1 .1 .1 .0)))
+widen-determined κs a r s x y p q = both (determined (p .0) (q .0)) (determined (p .1) (q .1))
+
 -- ---- bins
-pub add-up-determined : Determines 1 add-up.Kinds.ps add-up.Kinds.r add-up.Reads.Learnt (λ κs r e. r)
+pub add-up-determined : Determines 2 add-up.Kinds.ps add-up.Kinds.r add-up.Reads.Learnt (λ κs r e. r)
 add-up-determined κs a r s x y p q = determined p q
 
 -- ---- sums
-pub moments-determined : Determines 2 moments.Kinds.ps moments.Kinds.r moments.Reads.Learnt (λ κs r e. now (e .1 .1 .0))
-moments-determined κs a r s x y p q = determined p q
+pub moments-determined : DeterminesBy 4 moments.Kinds.ps moments.Kinds.r moments.Reads.Learnt
+    (λ κs a r e. lentLists (a .0) (now (e .1 .1 .1 .1 .0)) (now (e .1 .1 .1 .1 .1 .0)))
+moments-determined κs a r s x y p q = ap (listsIn (a .0)) (determined p q)
 
 pub in-float-determined : Determines 0 in-float.Kinds.ps in-float.Kinds.r in-float.Reads.Learnt (λ κs r e. r)
 in-float-determined κs a r s x y p q = determined p q
@@ -270,11 +341,11 @@ in-float-determined κs a r s x y p q = determined p q
 pub stats-of-determined : Determines 0 stats-of.Kinds.ps stats-of.Kinds.r stats-of.Reads.Learnt (λ κs r e. r)
 stats-of-determined κs a r s x y p q = determined p q
 
-pub sum-of-bins-determined : Determines 1 sum-of-bins.Kinds.ps sum-of-bins.Kinds.r sum-of-bins.Reads.Learnt
+pub sum-of-bins-determined : Determines 2 sum-of-bins.Kinds.ps sum-of-bins.Kinds.r sum-of-bins.Reads.Learnt
     (λ κs r e. r)
 sum-of-bins-determined κs a r s x y p q = determined p q
 
-pub box-sum-determined : Determines 2 box-sum.Kinds.ps box-sum.Kinds.r box-sum.Reads.Learnt (λ κs r e. r)
+pub box-sum-determined : Determines 4 box-sum.Kinds.ps box-sum.Kinds.r box-sum.Reads.Learnt (λ κs r e. r)
 box-sum-determined κs a r s x y p q = determined p q
 
 -- ---- spread
@@ -291,7 +362,7 @@ position-between-determined κs a r s x y p q = determined p q
 pub better-determined : Determines 0 better.Kinds.ps better.Kinds.r better.Reads.Learnt (λ κs r e. r)
 better-determined κs a r s x y p q = determined p q
 
-pub best-cut-determined : Determines 2 best-cut.Kinds.ps best-cut.Kinds.r best-cut.Reads.Learnt (λ κs r e. r)
+pub best-cut-determined : Determines 4 best-cut.Kinds.ps best-cut.Kinds.r best-cut.Reads.Learnt (λ κs r e. r)
 best-cut-determined κs a r s x y p q = determined p q
 
 -- ---- heap
@@ -304,21 +375,28 @@ pub take-out-determined : Determines {A = List Float × List ℕ} 2 take-out.Kin
 take-out-determined κs a r s x y p q = both (determined (p .0) (q .0)) (determined (p .1) (q .1))
 
 -- ---- rounds
-pub cut-boxes-determined : Determines 2 cut-boxes.Kinds.ps cut-boxes.Kinds.r cut-boxes.Reads.Learnt (λ κs r e. r)
+pub cut-boxes-determined : Determines 4 cut-boxes.Kinds.ps cut-boxes.Kinds.r cut-boxes.Reads.Learnt (λ κs r e. r)
 cut-boxes-determined κs a r s x y p q = determined p q
 
 -- ---- cutter
 pub front-determined : Determines 1 front.Kinds.ps front.Kinds.r front.Reads.Learnt (λ κs r e. now r)
 front-determined κs a r s x y p q = determined p q
 
-pub cut-from-determined : Determines {A = CutRecord × Buffers} 6 cut-from.Kinds.ps cut-from.Kinds.r
-    cut-from.Reads.Learnt
-    (λ κs r e. (
+pub cut-from-determined : DeterminesBy {A = CutRecord × (List ℕ × List ℕ) × Results} 8 cut-from.Kinds.ps
+    cut-from.Kinds.r cut-from.Reads.Learnt
+    (λ κs a r e. (
       r,
-      buffers (now (e .1 .1 .1 .1 .1 .1 .0)) (now (e .1 .1 .1 .1 .1 .1 .1 .0)) (now (e .1 .1 .1 .1 .1 .1 .1 .1 .0))
-          (now (e .1 .1 .1 .1 .1 .1 .1 .1 .1 .0)) (now (e .1 .1 .1 .1 .1 .1 .1 .1 .1 .1 .0)),
+      lentLists (a .1 .0) (now (e .1 .1 .1 .1 .1 .1 .1 .1 .0)) (now (e .1 .1 .1 .1 .1 .1 .1 .1 .1 .0)),
+      record {
+        palette = now (e .1 .1 .1 .1 .1 .1 .1 .1 .1 .1 .0);
+        counts = now (e .1 .1 .1 .1 .1 .1 .1 .1 .1 .1 .1 .0);
+        remainders = now (e .1 .1 .1 .1 .1 .1 .1 .1 .1 .1 .1 .1 .0);
+        map = now (e .1 .1 .1 .1 .1 .1 .1 .1 .1 .1 .1 .1 .1 .0);
+      },
     ))
-cut-from-determined κs a r s x y p q = both (determined (p .0) (q .0)) (determined (p .1) (q .1))
+cut-from-determined κs a r s x y p q =
+    let later = determined (p .1) (q .1) in
+    λ i. (determined (p .0) (q .0) i, listsIn (a .1 .0) (later i .work), later i .results)
 
 pub cut-determined : Determines {A = CutRecord × Buffers} 6 cut.Kinds.ps cut.Kinds.r cut.Reads.Learnt
     (λ κs r e. (
@@ -500,3 +578,38 @@ exported-paint-determined κs a r s x y p q = both (determined (p .0) (q .0)) (d
 pub exported-nearest-determined : Determines {A = ℕ × List ℕ} 2 exported-nearest.Kinds.ps exported-nearest.Kinds.r
     exported-nearest.Reads.Learnt (λ κs r e. (r, now (e .1 .0)))
 exported-nearest-determined κs a r s x y p q = both (determined (p .0) (q .0)) (determined (p .1) (q .1))
+
+pub exported-narrow-load-determined : Determines {A = ℕ × NarrowTable} 4 exported-narrow-load.Kinds.ps
+    exported-narrow-load.Kinds.r exported-narrow-load.Reads.Learnt
+    (λ κs r e. (r, narrowTable (now (e .1 .1 .1 .0)) (now (e .1 .1 .1 .1 .0))))
+exported-narrow-load-determined κs a r s x y p q = both (determined (p .0) (q .0)) (determined (p .1) (q .1))
+
+pub exported-narrow-merge-determined : Determines {A = ℕ × NarrowTable} 4 exported-narrow-merge.Kinds.ps
+    exported-narrow-merge.Kinds.r exported-narrow-merge.Reads.Learnt
+    (λ κs r e. (r, narrowTable (now (e .1 .1 .1 .0)) (now (e .1 .1 .1 .1 .0))))
+exported-narrow-merge-determined κs a r s x y p q = both (determined (p .0) (q .0)) (determined (p .1) (q .1))
+
+pub exported-narrow-cut-determined : Determines {A = CutAnswer × LentIn Narrow} 10 exported-narrow-cut.Kinds.ps
+    exported-narrow-cut.Kinds.r exported-narrow-cut.Reads.Learnt
+    (λ κs r e. (
+      r,
+      lentIn Narrow
+          (buffersIn Narrow (narrowTable (now (e .1 .1 .1 .1 .1 .1 .0)) (now (e .1 .1 .1 .1 .1 .1 .1 .0))) (now (e .1 .1 .1 .1 .1 .1 .1 .1 .0))
+          (now (e .1 .1 .1 .1 .1 .1 .1 .1 .1 .0)) (now (e .1 .1 .1 .1 .1 .1 .1 .1 .1 .1 .0)) (now (e .1 .1 .1 .1 .1 .1 .1 .1 .1 .1 .1 .0)))
+          (now (e .1 .1 .1 .1 .1 .1 .1 .1 .1 .1 .1 .1 .0)) (now (e .1 .1 .1 .1 .1 .1 .1 .1 .1 .1 .1 .1 .1 .0)),
+    ))
+exported-narrow-cut-determined κs a r s x y p q = both (determined (p .0) (q .0)) (determined (p .1) (q .1))
+
+pub exported-narrow-cut-slowly-determined : Determines {A = CutAnswer × LentIn Narrow} 8
+    exported-narrow-cut-slowly.Kinds.ps exported-narrow-cut-slowly.Kinds.r exported-narrow-cut-slowly.Reads.Learnt
+    (λ κs r e. (
+      r,
+      lentIn Narrow
+          (buffersIn Narrow (noWorkIn Narrow) (now (e .1 .1 .1 .1 .1 .1 .0)) (now (e .1 .1 .1 .1 .1 .1 .1 .0)) (now (e .1 .1 .1 .1 .1 .1 .1 .1 .0)) (now (e .1 .1 .1 .1 .1 .1 .1 .1 .1 .0)))
+          (now (e .1 .1 .1 .1 .1 .1 .1 .1 .1 .1 .0)) (now (e .1 .1 .1 .1 .1 .1 .1 .1 .1 .1 .1 .0)),
+    ))
+exported-narrow-cut-slowly-determined κs a r s x y p q = both (determined (p .0) (q .0)) (determined (p .1) (q .1))
+
+pub exported-widen-determined : Determines {A = ℕ × List ℕ} 3 exported-widen.Kinds.ps exported-widen.Kinds.r
+    exported-widen.Reads.Learnt (λ κs r e. (r, now (e .1 .1 .1 .1 .1 .0)))
+exported-widen-determined κs a r s x y p q = both (determined (p .0) (q .0)) (determined (p .1) (q .1))

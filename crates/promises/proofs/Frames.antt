@@ -16,10 +16,11 @@ use Rattle.grid.specs.declared.place.Chosen.the-variants as chosen
 use Rattle.grid.specs.Grid.{gridOf, gridAnswer, onGrid, binsOf}
 use Rattle.table.specs.Table.{Table, isSized, viewOf}
 use Rattle.table.specs.Sound.{limit, total, sound}
-use Rattle.loader.specs.Load.{weightOf, batchOf, loadNumber, loadLater}
+use Rattle.adder.specs.Batch.{weightOf, batchOf}
+use Rattle.loader.specs.Load.{loadNumber, loadLater}
+use Rattle.adder.proofs.Parts.{batch-weight}
 use Rattle.loader.proofs.Calls.{load-no-grid}
 use Rattle.loader.proofs.Laws.{load-tests, load-says, load-accepts}
-use Rattle.loader.proofs.Parts.{batch-weight}
 use Rattle.ppm.specs.declared.header.Frame.{Frame}
 use Rattle.ppm.specs.declared.header.Header.the-variants.{Image}
 use Rattle.ppm.specs.Header.{headerOf, headerAnswer}

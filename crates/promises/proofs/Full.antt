@@ -9,9 +9,12 @@ use Rattle.grid.specs.declared.place.Grid.{Grid}
 use Rattle.grid.specs.declared.place.Chosen.the-variants as chosen
 use Rattle.grid.specs.Grid.{gridOf, binsOf}
 use Rattle.grid.proofs.Places.{chose}
+use Rattle.table.specs.declared.layout.Layout.the-variants.{Wide}
 use Rattle.table.specs.Table.{viewOf}
 use Rattle.table.specs.Sound.{limit, total}
-use Rattle.loader.specs.Load.{weightOf, ColourAt}
+use Rattle.table.proofs.Tables.{sized-test}
+use Rattle.adder.specs.Batch.{weightOf}
+use Rattle.loader.specs.Load.{ColourAt}
 use Rattle.loader.specs.Plan.{Plan, Filled, ends, leaves, BytesIn}
 use Rattle.loader.proofs.Order.{table-holds, table-total, table-sound, leaves-bytes}
 use Rattle.loader.proofs.Plans.{filled-table}
@@ -32,7 +35,7 @@ module _ (source : Source) (b1 b2 b3 k : ℕ) (t : List ℕ) (b : Buffers) {g : 
       → cutRecord source b1 b2 b3 k t b .boxes ≡ min k (occupiedBins g t)
   unfolding doneRecord boxesOf occupiedBins
   full-above n spreads =
-      let d = cut-says source b1 b2 b3 k t b e n in
+      let d = cut-says Wide source b1 b2 b3 k t b e n in
       rw (d .hands)
       (full (record { holds = d .can .is-sound }) (d .accepted) (d .can .some) spreads k (d .can .least) (d .can .most)
       ∙ ap (min k) (occupied-whole g (viewOf t)))
@@ -51,7 +54,7 @@ module _ (source : Source) (b1 b2 b3 k : ℕ) (t : List ℕ) (b : Buffers) {g : 
         let a = chose b1 b2 b3 g e .accepted in
         let fits = filled-table b1 b2 b3 e p y ran in
         let bytes = leaves-bytes p y in
-        cut-accepts source b1 b2 b3 k t b e
+        cut-accepts Wide source b1 b2 b3 k t b e
         (rw (fits .1)
         (record {
           least = l .least;
@@ -61,7 +64,7 @@ module _ (source : Source) (b1 b2 b3 k : ℕ) (t : List ℕ) (b : Buffers) {g : 
         }))
         (rw (fits .1)
         (record {
-          table = table-holds g (leaves p) .lent .numbers;
+          sized = sized-test (table-holds g (leaves p) .lent);
           work = l .work;
           palette = l .palette;
           counts = l .counts;

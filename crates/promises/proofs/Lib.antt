@@ -33,3 +33,4 @@ pub mod RecorderParts
 pub mod RecorderNumbers
 pub mod RecorderCalls
 pub mod Grammar
+pub mod Narrow

@@ -21,13 +21,15 @@ use Rattle.basics.specs.Dimension.{choose}
 use Rattle.grid.specs.Grid.{gridWith, gridOf, onGrid, numberOn, Accepted, binsOf, placeOf}
 use Rattle.basics.proofs.Range.{and-left, and-right}
 use Rattle.grid.proofs.Places.{chose}
+use Rattle.table.specs.declared.layout.Layout.the-variants.{Wide}
 use Rattle.table.specs.Cell.{View}
-use Rattle.table.specs.Table.{viewOf}
+use Rattle.table.specs.Table.{isSized, viewOf}
 use Rattle.table.specs.Sound.{limit, total, sound}
-use Rattle.table.proofs.Tables.{empty-holds, view-at}
-use Rattle.loader.specs.Load.{Weighted, weightOf, tableOf, batchOf, loadNumber, loadLater}
-use Rattle.loader.proofs.Loading.{AllBytes}
-use Rattle.loader.proofs.Parts.{batch-weight, all-bytes-of}
+use Rattle.table.proofs.Tables.{sized-test, empty-holds, view-at}
+use Rattle.adder.specs.Batch.{Weighted, weightOf, batchOf}
+use Rattle.loader.specs.Load.{tableOf, loadNumber, loadLater}
+use Rattle.adder.proofs.Loading.{AllBytes}
+use Rattle.adder.proofs.Parts.{batch-weight, all-bytes-of}
 use Rattle.loader.proofs.Order.{bytes-append, weight-append, table-holds, table-total, table-sound, empty-table}
 use Rattle.loader.proofs.Batches.{batch-none, batch-append, load-stray, load-fits, load-passes}
 use Rattle.boxes.specs.Box.{minAt, maxAt, lowSide, highSide}
@@ -46,7 +48,7 @@ use Rattle.boxes.specs.Box.{wholeOf}
 use Rattle.sums.specs.declared.source.Source.the-variants.{Moments}
 use Rattle.cutter.specs.Fronts.{joinAll, filled}
 use Rattle.cutter.specs.Palette.{meanOf, colourOf, countOf, bytesOf, itsColour, itsCount, paletteLater, countsLater}
-use Rattle.cutter.specs.Cut.{longEnough, resultsOn, lengthsOf, cutNumber, cutRecord, doneRecord, listOf, boxList}
+use Rattle.cutter.specs.Cut.{longEnough, resultsOn, lengthsOf, cutNumber, cutNumberIn, cutRecord, doneRecord, listOf, boxList}
 use Rattle.cutter.specs.Cut.{laterOn}
 use Rattle.cutter.proofs.Refusals.{fit-moments, only-map, no-total}
 use Rattle.cutter.proofs.Laws.{record-number, cut-says, cut-accepts}
@@ -125,7 +127,7 @@ module _ (bytes : List ℕ) (whole : length bytes % 3 ≡ 0) (few : length bytes
     cuts : 0 < length bytes / 3 → cutNumber Moments 8 8 8 16 left lentZeros ≡ 0
     unfolding lentZeros binsOf
     cuts some =
-        cut-accepts Moments 8 8 8 16 left lentZeros is-grid8
+        cut-accepts Wide Moments 8 8 8 16 left lentZeros is-grid8
         (record {
           least = lit≤ tt;
           most = lit≤ tt;
@@ -133,8 +135,8 @@ module _ (bytes : List ℕ) (whole : length bytes % 3 ≡ 0) (few : length bytes
           some = omega (arith, its-total);
         })
         (record {
-          table = table-holds grid8 (batchOf bytes false []) .lent .numbers;
-          work = fit-moments grid8 _ (empty-holds (8 * 8 * 8) .lent .numbers);
+          sized = sized-test (table-holds grid8 (batchOf bytes false []) .lent);
+          work = fit-moments (sized-test (empty-holds (8 * 8 * 8) .lent));
           palette = lit≤ tt;
           counts = lit≤ tt;
           remainders = lit≤ tt;
@@ -142,13 +144,13 @@ module _ (bytes : List ℕ) (whole : length bytes % 3 ≡ 0) (few : length bytes
         })
 
     none-cut : length bytes / 3 ≡ 0 → cutNumber Moments 8 8 8 16 left lentZeros ≡ 8
-    unfolding lentZeros binsOf cutNumber numberOn onGrid
+    unfolding lentZeros binsOf cutNumberIn numberOn onGrid
     none-cut nothing =
-        let l = lengthsOf lentZeros in
+        let l = lengthsOf Wide grid8 lentZeros in
         rw is-grid8
-        (no-total limit grid8 16 (longEnough Moments grid8 16 (length left) l) (viewOf left) (lit≤ tt) (lit≤ tt)
-        (only-map Moments grid8 16 (length left) l (table-holds grid8 (batchOf bytes false []) .lent .numbers)
-        (fit-moments grid8 (l .work) (empty-holds (8 * 8 * 8) .lent .numbers)) (lit≤ tt) (lit≤ tt) (lit≤ tt))
+        (no-total limit grid8 16 (longEnough Moments grid8 16 (isSized left (8 * 8 * 8)) l) (viewOf left) (lit≤ tt) (lit≤ tt)
+        (only-map Moments grid8 16 (isSized left (8 * 8 * 8)) l (sized-test (table-holds grid8 (batchOf bytes false []) .lent))
+        (fit-moments (sized-test (empty-holds (8 * 8 * 8) .lent))) (lit≤ tt) (lit≤ tt) (lit≤ tt))
         its-sound
         (its-total ∙ nothing))
 
@@ -242,7 +244,7 @@ unfolding fourPixels cutText whenDone lentZeros doneRecord laterOn resultsOn box
 four-cut =
     let number = ap (λ (t : List ℕ). cutNumber Moments 8 8 8 16 t lentZeros) (sym four-added)
     ∙ cuts fourPixels refl (lit≤ tt) (byte-at fourPixels refl) (lit< tt) in
-    let d = cut-says Moments 8 8 8 16 fourTable lentZeros is-grid8 number in
+    let d = cut-says Wide Moments 8 8 8 16 fourTable lentZeros is-grid8 number in
     rw (d .hands, d .leaves) refl
 
 -- "For four pixels, one black and then three white, it writes exactly" its three lines
@@ -278,7 +280,7 @@ no-input =
     nothing = left [] refl (lit≤ tt)
 
     is-8 : cutRecord Moments 8 8 8 16 nothing lentZeros .number ≡ 8
-    is-8 = record-number Moments 8 8 8 16 nothing lentZeros ∙ none-cut [] refl (lit≤ tt) (λ k. lit< tt) refl
+    is-8 = record-number Wide Moments 8 8 8 16 nothing lentZeros ∙ none-cut [] refl (lit≤ tt) (λ k. lit< tt) refl
 
 -- ---- "from standard input in batches"
 -- where some bytes were read: the answer and, where it is 0, the table are those of one load of them all, and the table

@@ -14,8 +14,9 @@ use Rattle.grid.specs.declared.place.Chosen.the-variants as chosen
 use Rattle.grid.specs.Grid.{gridOf, onGrid, numberOn, binsOf, colourPlace}
 use Rattle.pixels.specs.Colour.{colourAt}
 use Rattle.grid.proofs.Places.{chose, colour-place-lt}
+use Rattle.table.specs.declared.layout.Layout.the-variants.{Wide}
 use Rattle.table.specs.Table.{viewOf}
-use Rattle.loader.proofs.Parts.{colour-bytes}
+use Rattle.adder.proofs.Parts.{colour-bytes}
 use Rattle.sums.specs.declared.source.Source.{Source}
 use Rattle.cutter.specs.Palette.{itsColour, coloursOf}
 use Rattle.boxes.specs.Holds.{holdsAt}
@@ -64,7 +65,7 @@ module _ (source : Source) (b1 b2 b3 k : ℕ) (t : List ℕ) (b : Buffers) {g : 
   full-map : length (cutMap source b1 b2 b3 k t b) ≡ binsOf g
   unfolding laterOn resultsOn
   full-map =
-      ap (λ (l : Buffers). length (l .results .map)) (cut-says source b1 b2 b3 k t b e n .leaves)
+      ap (λ (l : Buffers). length (l .results .map)) (cut-says Wide source b1 b2 b3 k t b e n .leaves)
       ∙ map-length g (boxList g (viewOf t) k)
 
   all-entries-below : allBelow (cutBoxes source b1 b2 b3 k t b) (cutMap source b1 b2 b3 k t b) ≡ true
@@ -109,7 +110,7 @@ mapped-in-bands b1 b2 b3 map paletteColours frame bs indices inside all =
 
 -- the same index for every pixel in any order of loading, over the call itself
 pub same-indices : {source : Source} {g : Grid} {b1 b2 b3 k : ℕ} {b : Buffers} {t s : List ℕ}
-    → SameCut source g b1 b2 b3 k b t s
+    → SameCut Wide source g b1 b2 b3 k b t s
     → SameIndices b1 b2 b3 (cutMap source b1 b2 b3 k t b) (cutMap source b1 b2 b3 k s b)
 same-indices {b1 = b1} {b2} {b3} c =
     record {

@@ -17,7 +17,7 @@ use Rattle.grid.specs.declared.place.Chosen.the-variants as chosen
 use Rattle.grid.specs.Grid.{gridOf, binsOf}
 use Rattle.table.specs.Table.{Table, viewOf, written}
 use Rattle.table.specs.Sound.{limit, total, sound}
-use Rattle.loader.specs.Load.{weightOf, loaded}
+use Rattle.adder.specs.Batch.{weightOf, loaded}
 use Rattle.recorder.specs.Session.{isInterval}
 use Rattle.recorder.specs.Replay.{kindAt, intervalAt, entriesIn, Standing, Recorded, replayNumber, replayed}
 use Rattle.recorder.specs.Replay.{replayAnswer, replayTable, replayBytes}

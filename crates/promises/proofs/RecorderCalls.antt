@@ -15,10 +15,11 @@ use Rattle.basics.proofs.Ends.{passed}
 use Rattle.grid.specs.Grid.{binsOf}
 use Rattle.table.specs.Table.{Table, viewOf, written}
 use Rattle.table.specs.Sound.{limit, total}
-use Rattle.loader.specs.Load.{weightOf, loaded, loadNumber, scaledWeights}
-use Rattle.loader.specs.Add.{scaledBatch}
+use Rattle.adder.specs.Batch.{weightOf, loaded, scaledWeights}
+use Rattle.adder.specs.Add.{scaledBatch}
+use Rattle.loader.specs.Load.{loadNumber}
+use Rattle.adder.proofs.Scaled.{given-length, scaled-weight}
 use Rattle.loader.proofs.Laws.{load-says}
-use Rattle.loader.proofs.Scaled.{given-length, scaled-weight}
 use Rattle.recorder.specs.declared.session.Session.{Session}
 use Rattle.recorder.specs.declared.session.SessionAnswer.{SessionAnswer}
 use Rattle.recorder.specs.Session.{isInterval, intervalNumber, begun, reloaded}

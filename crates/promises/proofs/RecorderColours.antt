@@ -10,8 +10,8 @@ use Rattle.grid.specs.Grid.{binsOf}
 use Rattle.table.specs.Cell.{View}
 use Rattle.table.specs.Table.{Table, Sized, viewOf, written}
 use Rattle.table.proofs.Tables.{list-holds, holds-list, holds-itself, holds-same}
-use Rattle.loader.specs.Load.{Weighted, adds, sumOver, weightOf, loaded}
-use Rattle.loader.proofs.Loading.{over-none, over-append, over-perm, loaded-at}
+use Rattle.adder.specs.Batch.{Weighted, adds, sumOver, weightOf, loaded}
+use Rattle.adder.proofs.Loading.{over-none, over-append, over-perm, loaded-at}
 use Rattle.loader.proofs.Weightless.{empty-weight}
 use Rattle.loader.proofs.Batches.{batch-none}
 

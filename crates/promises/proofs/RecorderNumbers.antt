@@ -19,10 +19,11 @@ use Rattle.grid.specs.declared.place.Chosen.the-variants as chosen
 use Rattle.grid.specs.Grid.{gridOf, gridAnswer, onGrid, binsOf}
 use Rattle.table.specs.Table.{Table, isSized, viewOf}
 use Rattle.table.specs.Sound.{limit, total, sound}
-use Rattle.loader.specs.Load.{loadNumber, scaledWeights}
+use Rattle.adder.specs.Batch.{scaledWeights}
+use Rattle.loader.specs.Load.{loadNumber}
+use Rattle.adder.proofs.Scaled.{scaled-pairs, scaled-weight}
 use Rattle.loader.proofs.Calls.{load-no-grid}
 use Rattle.loader.proofs.Laws.{load-tests}
-use Rattle.loader.proofs.Scaled.{scaled-pairs, scaled-weight}
 use Rattle.recorder.specs.declared.session.Session.{Session}
 use Rattle.recorder.specs.Session.{isInterval, intervalNumber, begun, reloaded}
 use Rattle.recorder.specs.Batch.{inForce, batchNumber}

@@ -9,9 +9,11 @@ use Rattle.grid.specs.declared.place.Grid.{Grid}
 use Rattle.grid.specs.declared.place.Chosen.the-variants as chosen
 use Rattle.grid.specs.Grid.{gridOf, binsOf}
 use Rattle.grid.proofs.Places.{chose}
+use Rattle.table.specs.declared.layout.Layout.the-variants.{Wide}
 use Rattle.table.specs.Table.{Table, viewOf, written}
 use Rattle.table.specs.Sound.{limit, total}
-use Rattle.loader.specs.Load.{Weighted, weightOf, loaded, tableOf}
+use Rattle.adder.specs.Batch.{Weighted, weightOf, loaded}
+use Rattle.loader.specs.Load.{tableOf}
 use Rattle.loader.specs.Plan.{Plan, Filled, ends, leaves, firstMalformed, BytesIn}
 use Rattle.loader.proofs.Order.{load-table, table-perm, table-total, leaves-bytes, any-order}
 use Rattle.loader.proofs.Plans.{filled-table}
@@ -52,7 +54,7 @@ module _ (first b1 b2 b3 : ℕ) (t : Table) (r : Recorded) (bytes : ColourBytes 
         second = tableOf g (leaves q);
         ran = any-order b1 b2 b3 e q q z z whole whole (Perm·refl (leaves q)) fits .0;
         same = same;
-        alike = λ source k b. same-cut source g b1 b2 b3 k b same;
+        alike = λ source k b. same-cut Wide source g b1 b2 b3 k b _ _ same;
       }
 
   -- two replays that took the same colours in another order leave the same table
@@ -65,5 +67,6 @@ module _ (first b1 b2 b3 : ℕ) (t : Table) (r : Recorded) (bytes : ColourBytes 
   pub replays-alike : (second : ℕ) (s : Recorded) → ColourBytes s → replayNumber second b1 b2 b3 t s ≡ 0
       → Perm (taken first b1 b2 b3 t r) (taken second b1 b2 b3 t s)
       → (source : Source) (k : ℕ) (b : Buffers)
-      → SameCut source g b1 b2 b3 k b (replayTable first b1 b2 b3 t r) (replayTable second b1 b2 b3 t s)
-  replays-alike second s its also π source k b = same-cut source g b1 b2 b3 k b (replays-same second s its also π)
+      → SameCut Wide source g b1 b2 b3 k b (replayTable first b1 b2 b3 t r) (replayTable second b1 b2 b3 t s)
+  replays-alike second s its also π source k b =
+      same-cut Wide source g b1 b2 b3 k b _ _ (replays-same second s its also π)

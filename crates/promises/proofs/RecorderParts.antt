@@ -11,7 +11,7 @@ use Rattle.grid.specs.declared.place.Chosen.the-variants as chosen
 use Rattle.grid.specs.Grid.{binsOf}
 use Rattle.table.specs.Table.{Table, Sized, viewOf}
 use Rattle.table.proofs.Tables.{list-holds}
-use Rattle.loader.specs.Load.{loaded}
+use Rattle.adder.specs.Batch.{loaded}
 use Rattle.recorder.specs.declared.session.SessionAnswer.{SessionAnswer}
 use Rattle.recorder.specs.Session.{isInterval}
 use Rattle.recorder.specs.Replay.{entriesIn, Entry, entriesOf}

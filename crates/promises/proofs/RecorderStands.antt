@@ -19,9 +19,9 @@ use Rattle.table.specs.Table.{Table, viewOf, written}
 use Rattle.table.specs.Sound.{limit, total, sound}
 use Rattle.table.proofs.Tables.{Holds, list-holds}
 use Rattle.table.proofs.Soundness.{total-high}
-use Rattle.loader.specs.Load.{Weighted, weightOf, loaded}
-use Rattle.loader.proofs.Loading.{AllBytes, held-sound, held-total}
-use Rattle.loader.proofs.Scaled.{scaled-bytes}
+use Rattle.adder.specs.Batch.{Weighted, weightOf, loaded}
+use Rattle.adder.proofs.Loading.{AllBytes, held-sound, held-total}
+use Rattle.adder.proofs.Scaled.{scaled-bytes}
 use Rattle.loader.proofs.Order.{bytes-append, weight-append}
 use Rattle.recorder.specs.declared.session.SessionAnswer.{SessionAnswer}
 use Rattle.recorder.specs.Session.{isInterval, intervalNumber, reloaded}

@@ -12,6 +12,7 @@ use Rattle.grid.specs.declared.place.Chosen.the-variants as chosen
 use Rattle.basics.specs.Range.{sumFrom}
 use Rattle.basics.proofs.Range.{sum-same}
 use Rattle.grid.specs.Grid.{gridOf, Accepted, binsOf}
+use Rattle.table.specs.declared.layout.Layout.the-variants.{Wide}
 use Rattle.table.specs.Table.{viewOf}
 use Rattle.table.specs.Sound.{limit}
 use Rattle.boxes.specs.declared.sides.Bounds.{Bounds}
@@ -43,7 +44,7 @@ module _ (source : Source) {g : Grid} {k : ℕ} (t : List ℕ) (b : Buffers) (a 
   in-list h = omega (arith, list-length (all-found g (viewOf t) k (c .most) a (c .some) .placed))
 
   back : (i d : ℕ) → i < found .boxes → d < 3
-      → givenBack (laterOn source g (viewOf t) k b) i d ≡ boxSum g (viewOf t) (getD boxes i noBox) (suc d)
+      → givenBack (laterOn Wide source g (viewOf t) k b) i d ≡ boxSum g (viewOf t) (getD boxes i noBox) (suc d)
   unfolding givenBack laterOn resultsOn boxList
   back i d h l =
       (λ j.
@@ -53,7 +54,7 @@ module _ (source : Source) {g : Grid} {k : ℕ} (t : List ℕ) (b : Buffers) (a 
       ∙ component-whole g (viewOf t) (getD boxes i noBox) d l
 
   back-all : (d : ℕ) → d < 3
-      → sumFrom 0 (found .boxes) (λ i. givenBack (laterOn source g (viewOf t) k b) i d)
+      → sumFrom 0 (found .boxes) (λ i. givenBack (laterOn Wide source g (viewOf t) k b) i d)
       ≡ sumFrom 0 (binsOf g) (λ p. viewOf t p (suc d))
   unfolding boxesOf boxList
   back-all d l =
@@ -62,7 +63,7 @@ module _ (source : Source) {g : Grid} {k : ℕ} (t : List ℕ) (b : Buffers) (a 
       (list-found g (viewOf t) k (c .most))
       ∙ sums-total g (viewOf t) k (c .most) (suc d)
 
-  done-remainders : Remainders g t (doneRecord found) (laterOn source g (viewOf t) k b)
+  done-remainders : Remainders g t (doneRecord found) (laterOn Wide source g (viewOf t) k b)
   unfolding boxesIn boxIn doneRecord laterOn resultsOn boxList
   done-remainders =
       let all = all-found g (viewOf t) k (c .most) a (c .some) in
@@ -82,5 +83,5 @@ pub remainders : (source : Source) (b1 b2 b3 k : ℕ) (t : List ℕ) (b : Buffer
     → cutNumber source b1 b2 b3 k t b ≡ 0
     → Remainders g t (cutRecord source b1 b2 b3 k t b) (cutLater source b1 b2 b3 k t b)
 remainders source b1 b2 b3 k t b e n =
-    let d = cut-says source b1 b2 b3 k t b e n in
+    let d = cut-says Wide source b1 b2 b3 k t b e n in
     rw (d .hands, d .leaves) (done-remainders source t b (d .accepted) (d .can))

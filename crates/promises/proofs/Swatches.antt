@@ -10,6 +10,7 @@ use Rattle.grid.specs.declared.place.Chosen.the-variants as chosen
 use Rattle.grid.specs.Size.{choices, shiftIn, shiftOf}
 use Rattle.grid.specs.Grid.{gridWith, gridOf}
 use Rattle.pixels.specs.Colour.{colourAt}
+use Rattle.table.specs.declared.layout.Layout.the-variants.{Wide}
 use Rattle.table.specs.Table.{viewOf}
 use Rattle.sums.specs.declared.source.Source.the-variants.{Moments}
 use Rattle.cutter.specs.Palette.{itsColour, paletteLater}
@@ -51,8 +52,8 @@ module _ (t : List ℕ) (done : cutNumber Moments 8 8 8 16 t lentZeros ≡ 0) wh
   long : length (listedPalette t) ≡ 48
   unfolding laterOn resultsOn boxList lentZeros paletteLater doneRecord
   long =
-      let d = cut-says Moments 8 8 8 16 t lentZeros is-grid8 done in
-      let most = few Moments 16 (lit≤ tt) (lit≤ tt) t 8 8 8 lentZeros (sym (d .hands)) in
+      let d = cut-says Wide Moments 8 8 8 16 t lentZeros is-grid8 done in
+      let most = few Wide Moments 16 (lit≤ tt) (lit≤ tt) t 8 8 8 lentZeros (sym (d .hands)) in
       let size = list-length (all-found grid8 (viewOf t) 16 (d .can .most) (d .accepted) (d .can .some) .placed) in
       ap (λ (b : Buffers). length (b .results .palette)) (d .leaves)
       ∙ length-filled 3 (itsColour grid8 (viewOf t)) (three grid8 (viewOf t)) (boxList grid8 (viewOf t) 16)
@@ -73,5 +74,5 @@ module _ (t : List ℕ) (done : cutNumber Moments 8 8 8 16 t lentZeros ≡ 0) wh
       → IsNearest (colourAt (listedPalette t) i) (getD (numbersOf (listedPalette t)) i 0)
   unfolding numbersOf
   swatch-nearest i h =
-      let most = few Moments 16 (lit≤ tt) (lit≤ tt) t 8 8 8 lentZeros refl in
+      let most = few Wide Moments 16 (lit≤ tt) (lit≤ tt) t 8 8 8 lentZeros refl in
       each-nearest (listedPalette t) (replicate 16 0) accepted i (rw long (omega (arith, h, most)))

@@ -15,11 +15,13 @@ use Rattle.basics.specs.Range.{sumFrom}
 use Rattle.grid.specs.Grid.{gridOf, Accepted, binsOf, colourPlace}
 use Rattle.basics.proofs.Range.{sum-same}
 use Rattle.grid.proofs.Places.{Bytes, colour-place-lt}
-use Rattle.table.specs.Table.{viewOf}
+use Rattle.table.specs.declared.layout.Layout.the-variants.{Wide}
+use Rattle.table.specs.Table.{isSized, viewOf}
 use Rattle.table.specs.Sound.{limit, total}
-use Rattle.loader.specs.Load.{Weighted, sumOver, tableOf}
+use Rattle.adder.specs.Batch.{Weighted, sumOver}
+use Rattle.loader.specs.Load.{tableOf}
 use Rattle.loader.specs.Plan.{Plan, Filled, ends, leaves, BytesIn}
-use Rattle.loader.proofs.Loading.{AllBytes, share-weight, over-none, over-more}
+use Rattle.adder.proofs.Loading.{AllBytes, share-weight, over-none, over-more}
 use Rattle.loader.proofs.Order.{table-holds, leaves-bytes}
 use Rattle.loader.proofs.Plans.{filled-table}
 use Rattle.boxes.specs.declared.sides.Bounds.{Bounds}
@@ -47,7 +49,7 @@ use Rattle.promises.specs.Tiling.{boxesIn, boxIn, Tiling, LoadedCounts}
 
 -- ---- a cut that nothing refuses
 module _ {source : Source} {g : Grid} {k : ℕ} (t : List ℕ) (b : Buffers) (a : Accepted g)
-    (c : CanCut limit g k (viewOf t)) (l : LengthsFit source g k (length t) (lengthsOf b)) where
+    (c : CanCut limit g k (viewOf t)) (l : LengthsFit source g k (isSized t (binsOf g)) (lengthsOf Wide g b)) where
   abbrev found : Boxes
   found = boxesOf g (viewOf t) k
 
@@ -78,7 +80,7 @@ module _ {source : Source} {g : Grid} {k : ℕ} (t : List ℕ) (b : Buffers) (a 
         l .palette,
       )
 
-  done-tiling : Tiling g t (doneRecord found) (laterOn source g (viewOf t) k b)
+  done-tiling : Tiling g t (doneRecord found) (laterOn Wide source g (viewOf t) k b)
   unfolding boxesIn boxIn doneRecord laterOn resultsOn boxList countOf
   done-tiling =
       let tiles = list-tiles g (viewOf t) k (c .most) a in
@@ -148,14 +150,14 @@ module _ (source : Source) (b1 b2 b3 k : ℕ) (t : List ℕ) (b : Buffers) {g : 
   -- at any total, of every table that a cut is done with
   pub tiling : Tiling g t (cutRecord source b1 b2 b3 k t b) (cutLater source b1 b2 b3 k t b)
   tiling =
-      let d = cut-says source b1 b2 b3 k t b e n in
+      let d = cut-says Wide source b1 b2 b3 k t b e n in
       rw (d .hands, d .leaves) (done-tiling t b (d .accepted) (d .can) (d .fit))
 
   -- and of every table that loads and merges gave
   pub loaded-counts : (p : Plan) → BytesIn p → ends b1 b2 b3 p ≡ Filled t
       → LoadedCounts g (leaves p) (cutRecord source b1 b2 b3 k t b) (cutLater source b1 b2 b3 k t b)
   loaded-counts p y ran =
-      let d = cut-says source b1 b2 b3 k t b e n in
+      let d = cut-says Wide source b1 b2 b3 k t b e n in
       let is = filled-table b1 b2 b3 e p y ran .1 in
       tiling-loaded (d .accepted) (leaves p) (leaves-bytes p y)
       (subst (λ (s : List ℕ). Tiling g s (cutRecord source b1 b2 b3 k t b) (cutLater source b1 b2 b3 k t b)) is tiling)

@@ -17,8 +17,8 @@ use Rattle.pixels.specs.Colour.{colourAt}
 use Rattle.table.specs.Table.{tableLen, isSized, viewOf, written}
 use Rattle.table.specs.Sound.{limit, between, squaredSpan, plusSpan, squaresSpan, inBounds, spanAt, binSound}
 use Rattle.table.specs.Sound.{total, sound}
-use Rattle.loader.specs.Load.{share, adds, sumOver, weightOf, loaded, tableOf, weightedAt, batchOf, loadNumberOn}
-use Rattle.loader.specs.Load.{loadNumber, loadLater}
+use Rattle.adder.specs.Batch.{share, adds, sumOver, weightOf, loaded, weightedAt, batchOf}
+use Rattle.loader.specs.Load.{tableOf, tableIn, loadNumberOn, loadNumberIn, loadLaterIn}
 use Rattle.boxes.specs.Box.{minAt, maxAt, lowSide, highSide}
 use Rattle.bins.specs.Sum.{sum3, binSum, boxSum}
 use Rattle.sums.specs.Box.{statsOf}
@@ -36,9 +36,9 @@ use Rattle.cutter.specs.Palette.{meanOf, colourOf, countOf, remainderOf, bytesO
 use Rattle.cutter.specs.Palette.{paletteLater, countsLater, remaindersLater}
 use Rattle.boxes.specs.Holds.{lies, holds, holdsAt}
 use Rattle.cutter.specs.Map.{indexFrom, mapOf}
-use Rattle.cutter.specs.Cut.{resultsOn, longEnough, cutNumberOn, cutNumber, refusedRecord, doneRecord, recordOn}
-use Rattle.cutter.specs.Cut.{workFits, cutRecord}
-use Rattle.cutter.specs.Cut.{listOf, boxList, laterOn, cutLater}
+use Rattle.cutter.specs.Cut.{resultsOn, longEnough, cutNumberOn, cutNumberIn, refusedRecord, doneRecord, recordOn}
+use Rattle.cutter.specs.Cut.{workFits, cutRecordIn}
+use Rattle.cutter.specs.Cut.{listOf, boxList, laterOn, cutLaterIn}
 use Rattle.promises.specs.Cases.{Case, loadsOf, tableAfter, positionIn, lentTo, outcome, times, empties, plain}
 use Rattle.promises.specs.Cases.{weighted, loadGives, at, nowhere, box, recordWith, done, refusedWith, blackWhite}
 use Rattle.promises.specs.Cases.{blackWhiteTable, blackWhiteMoments, reds, redsTable, redsMoments, fullCell}
@@ -54,7 +54,7 @@ unfolding loadsOf tableAfter positionIn lentTo outcome times empties plain weigh
     refuse whenDone listFrom sumFrom allFrom choices shiftIn shiftOf binOf spanOf choose shiftAt gridWith gridOf
     gridAnswer onGrid numberOn binsOf placeOf binAt colourPlace colourAt
     tableLen isSized viewOf written between squaredSpan plusSpan squaresSpan inBounds spanAt binSound total sound
-    share adds sumOver weightOf loaded weightedAt batchOf loadNumberOn loadNumber loadLater
+    share adds sumOver weightOf loaded weightedAt batchOf loadNumberOn loadNumberIn loadLaterIn
     minAt maxAt sum3 binSum boxSum statsOf lowSide highSide belowSum momentsOf
     quotientOf oneBin spreadOf scoreOf positionAnswer positionOf positionAt laterWins better bestRun bestIn bestCut
     climb putIn sink enter takeOut
@@ -64,8 +64,8 @@ unfolding loadsOf tableAfter positionIn lentTo outcome times empties plain weigh
     paletteLater countsLater remaindersLater lies holdsAt holds
     indexFrom
     mapOf
-    workFits longEnough cutNumberOn cutNumber refusedRecord doneRecord recordOn cutRecord listOf boxList laterOn
-    resultsOn cutLater
+    workFits longEnough cutNumberOn cutNumberIn refusedRecord doneRecord recordOn cutRecordIn listOf boxList laterOn
+    resultsOn cutLaterIn
     lib.Ieee.ofInt lib.Ieee.mul lib.Ieee.add lib.Ieee.sub lib.Ieee.div lib.Ieee.neg lib.Ieee.lt lib.Ieee.le
     lib.Ieee.round lib.Ieee.size lib.Ieee.span lib.Ieee.climb lib.Ieee.units lib.Ieee.odd lib.Ieee.sum lib.Ieee.eq
     lib.Count.trailingZeros
@@ -76,7 +76,7 @@ each-worked m = each outcome (λ c. c .expected) cases worked m
 
 -- the example of the listing program: the table of its four pixels
 pub four-added : tableOf grid8 (batchOf fourPixels false []) ≡ fourTable
-unfolding fourPixels fourTable tableOf listFrom binOf choose shiftAt binsOf placeOf binAt colourPlace colourAt tableLen
+unfolding fourPixels fourTable tableIn listFrom binOf choose shiftAt binsOf placeOf binAt colourPlace colourAt tableLen
     written
     share adds sumOver loaded weightedAt batchOf
 four-added = refl

@@ -4,17 +4,18 @@ use mathlib.Core.List.{List}
 use Prim.Native.Nat.{ℕ, _+_, _*_, _≤_, _<_}
 use lib.ListN.{length, getD}
 use lib.Ieee.{nan}
+use Rattle.table.specs.declared.layout.Layout.{Layout}
 use Rattle.boxes.specs.declared.sides.Bounds.{Bounds}
 use Rattle.boxes.specs.Box.{noBox}
 use Rattle.rounds.specs.Loop.{withZero}
 use Rattle.cutter.specs.declared.call.CutRecord.{CutRecord}
-use Rattle.cutter.specs.Cut.{Buffers}
+use Rattle.cutter.specs.Cut.{BuffersIn}
 use Rattle.seluvava.specs.declared.cut.CutAnswer.{CutAnswer}
-use Rattle.seluvava.specs.Cut.{Lent}
+use Rattle.seluvava.specs.Cut.{LentIn}
 use Rattle.promises.specs.Tiling.{boxIn}
 
 -- room for k boxes, six bytes each, and their spreads
-pub record Room (k : ℕ) (l : Lent) : Type 0 where
+pub record Room (layout : Layout) (k : ℕ) (l : LentIn layout) : Type 0 where
   pub boxes : 6 * k ≤ length (l .boxes)
   pub spreads : k ≤ length (l .spreads)
 
@@ -32,7 +33,8 @@ boxRead bytes i =
 
 -- what is told and left behind is the record r and the buffers after it: the boxes with their spreads in order, and
 -- behind them what stood there
-pub record TellsCut (r : CutRecord) (after : Buffers) (old : Lent) (told : CutAnswer) (later : Lent) : Type 0 where
+pub record TellsCut (layout : Layout) (r : CutRecord) (after : BuffersIn layout) (old : LentIn layout)
+    (told : CutAnswer) (later : LentIn layout) : Type 0 where
   pub answer : told ≡ record { number = r .number; boxes = r .boxes; rounds = r .rounds }
   pub buffers : later .buffers ≡ after
   pub box : (i : ℕ) → i < r .boxes → boxRead (later .boxes) i ≡ boxIn r i

@@ -7,7 +7,7 @@ use lib.ListN.{length}
 use Rattle.grid.specs.declared.place.Grid.{Grid}
 use Rattle.basics.specs.Range.{sumFrom}
 use Rattle.grid.specs.Grid.{binsOf}
-use Rattle.table.specs.Table.{viewOf}
+use Rattle.table.specs.Table.{isSized, viewOf}
 use Rattle.bins.specs.Sum.{marks}
 use Rattle.sums.specs.declared.source.Source.{Source}
 use Rattle.cutter.specs.Cut.{Buffers, workFits}
@@ -20,7 +20,7 @@ occupiedBins g t = sumFrom 0 (binsOf g) (λ p. marks (viewOf t) p 0)
 pub record Lends (source : Source) (g : Grid) (k : ℕ) (b : Buffers) : Type 0 where
   pub least : 1 ≤ k
   pub most : k ≤ 256
-  pub work : workFits source g (length (b .work)) ≡ true
+  pub work : workFits source (isSized (b .work) (binsOf g)) ≡ true
   pub palette : 3 * k ≤ length (b .results .palette)
   pub counts : k ≤ length (b .results .counts)
   pub remainders : 3 * k ≤ length (b .results .remainders)

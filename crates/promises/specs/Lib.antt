@@ -1,6 +1,7 @@
 pub mod Cases
 pub mod Answers
 pub mod Numbers
+pub mod Narrow
 pub mod Frames
 pub mod Compare
 pub mod Rescue
@@ -11,6 +12,7 @@ pub mod Order
 pub mod Mapping
 pub mod Criterion
 pub mod Half
+pub mod Layouts
 pub mod Listing
 pub mod Finite
 pub mod Rounds

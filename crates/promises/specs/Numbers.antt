@@ -2,7 +2,7 @@
 use mathlib.Core.Path.{_≡_}
 use mathlib.Core.Bool.{Bool, true, false, not, _&&_, _||_, cond}
 use mathlib.Core.List.{List, [], _∷_}
-use Prim.Native.Nat.{ℕ, zero, suc, _+_, _*_, _/_, _%_, _≤_}
+use Prim.Native.Nat.{ℕ, zero, suc, _+_, _/_, _%_, _≤_, _<_}
 use lib.Dec.{eqb, leb, ltb}
 use lib.IntN.{ℤ}
 use lib.ListN.{length}
@@ -11,13 +11,18 @@ use Rattle.grid.specs.declared.place.Grid.{Grid}
 use Rattle.grid.specs.declared.place.Chosen.{Chosen}
 use Rattle.grid.specs.declared.place.Chosen.the-variants as chosen
 use Rattle.grid.specs.Grid.{gridOf, gridAnswer, onGrid, binsOf}
+use Rattle.table.specs.declared.layout.Layout.{Layout}
+use Rattle.table.specs.declared.layout.Layout.the-variants.{Narrow}
 use Rattle.table.specs.Table.{tableLen, Sized, isSized, viewOf}
-use Rattle.table.specs.Sound.{limit, total, sound}
-use Rattle.loader.specs.Load.{weightOf, batchOf}
+use Rattle.table.specs.Narrow.{NarrowTable, NarrowSized, narrowView}
+use Rattle.table.specs.Layout.{TableIn, SizedIn, isSizedIn, viewIn}
+use Rattle.table.specs.Sound.{limit, limitOf, total, sound}
+use Rattle.adder.specs.Batch.{weightOf, batchOf}
+use Rattle.adder.specs.Add.{passedNumber}
 use Rattle.sums.specs.declared.source.Source.{Source}
-use Rattle.cutter.specs.Cut.{Buffers, lengthsOf, longEnough}
+use Rattle.cutter.specs.Cut.{BuffersIn, lengthsRight}
 use Rattle.band.specs.Band.{allBelow}
-use Rattle.seluvava.specs.Cut.{Lent, hasRoom}
+use Rattle.seluvava.specs.Cut.{LentIn, hasRoom}
 
 -- ---- which answers apply
 -- the tests of a call, each with its answer
@@ -61,33 +66,36 @@ noGrid c = eqb (gridAnswer c .number) 1
 unfoldable pub onBins : Chosen → (Grid → Bool) → Bool
 onBins c test = onGrid c false test
 
--- "load 1, 3, 4, 5, 6, 7"
-unfoldable pub loadTests : Chosen → List ℕ → List ℕ → Bool → List ℕ → Tests
-loadTests c t colours weighted weights =
+-- "load 1, 3, 4, 5, 6, 7", and in the narrow layout "refused with 15, in the place of 7"
+unfoldable pub loadTests : (l : Layout) → Chosen → TableIn l → List ℕ → Bool → List ℕ → Tests
+loadTests l c t colours weighted weights =
     (1, noGrid c)
     ∷ (3, not (eqb (length colours % 3) 0))
     ∷ (4, weighted && not (eqb (length weights) (length colours / 3)))
-    ∷ (5, onBins c (λ g. not (isSized t (binsOf g))))
-    ∷ (6, onBins c (λ g. not (sound limit g (viewOf t))))
-    ∷ (7, onBins c (λ g. ltb limit (total g (viewOf t) + weightOf (batchOf colours weighted weights))))
+    ∷ (5, onBins c (λ g. not (isSizedIn l t (binsOf g))))
+    ∷ (6, onBins c (λ g. not (sound (limitOf l) g (viewIn l t))))
+    ∷ (
+      passedNumber l,
+      onBins c (λ g. ltb (limitOf l) (total g (viewIn l t) + weightOf (batchOf colours weighted weights))),
+    )
     ∷ []
 
-unfoldable pub loadApplies : ℕ → ℕ → ℕ → List ℕ → List ℕ → Bool → List ℕ → ℕ → Bool
-loadApplies b1 b2 b3 t colours weighted weights = applies (loadTests (gridOf b1 b2 b3) t colours weighted weights)
+unfoldable pub loadApplies : (l : Layout) → ℕ → ℕ → ℕ → TableIn l → List ℕ → Bool → List ℕ → ℕ → Bool
+loadApplies l b1 b2 b3 t colours weighted weights = applies (loadTests l (gridOf b1 b2 b3) t colours weighted weights)
 
 -- "merge 1, 5, 6, 7 (either table unsound is 6)"
-unfoldable pub mergeTests : Chosen → List ℕ → List ℕ → Tests
-mergeTests c t s =
+unfoldable pub mergeTests : (l : Layout) → Chosen → TableIn l → TableIn l → Tests
+mergeTests l c t s =
     (1, noGrid c)
-    ∷ (5, onBins c (λ g. not (isSized t (binsOf g))))
-    ∷ (5, onBins c (λ g. not (isSized s (binsOf g))))
-    ∷ (6, onBins c (λ g. not (sound limit g (viewOf t))))
-    ∷ (6, onBins c (λ g. not (sound limit g (viewOf s))))
-    ∷ (7, onBins c (λ g. ltb limit (total g (viewOf t) + total g (viewOf s))))
+    ∷ (5, onBins c (λ g. not (isSizedIn l t (binsOf g))))
+    ∷ (5, onBins c (λ g. not (isSizedIn l s (binsOf g))))
+    ∷ (6, onBins c (λ g. not (sound (limitOf l) g (viewIn l t))))
+    ∷ (6, onBins c (λ g. not (sound (limitOf l) g (viewIn l s))))
+    ∷ (passedNumber l, onBins c (λ g. ltb (limitOf l) (total g (viewIn l t) + total g (viewIn l s))))
     ∷ []
 
-unfoldable pub mergeApplies : ℕ → ℕ → ℕ → List ℕ → List ℕ → ℕ → Bool
-mergeApplies b1 b2 b3 t s = applies (mergeTests (gridOf b1 b2 b3) t s)
+unfoldable pub mergeApplies : (l : Layout) → ℕ → ℕ → ℕ → TableIn l → TableIn l → ℕ → Bool
+mergeApplies l b1 b2 b3 t s = applies (mergeTests l (gridOf b1 b2 b3) t s)
 
 -- "compare 1, 5, 6 (likewise)"
 unfoldable pub compareTests : Chosen → List ℕ → List ℕ → List ℤ → Tests
@@ -115,22 +123,23 @@ unfoldable pub rescueApplies : ℕ → ℕ → ℕ → List ℕ → List ℕ →
 rescueApplies b1 b2 b3 t l = applies (rescueTests (gridOf b1 b2 b3) t l)
 
 -- "cut 1, 2, 5, 6, 8"; `room` is what only the call for C and Rust is lent besides
-unfoldable pub cutTests : Source → Chosen → ℕ → List ℕ → Buffers → Bool → Tests
-cutTests source c k t b room =
+unfoldable pub cutTests : (l : Layout) → Source → Chosen → ℕ → TableIn l → BuffersIn l → Bool → Tests
+cutTests l source c k t b room =
     (1, noGrid c)
     ∷ (2, not (leb 1 k && leb k 256))
-    ∷ (5, onBins c (λ g. not (longEnough source g k (length t) (lengthsOf b))))
+    ∷ (5, onBins c (λ g. not (lengthsRight l source g k t b)))
     ∷ (5, not room)
-    ∷ (6, onBins c (λ g. not (sound limit g (viewOf t))))
-    ∷ (8, onBins c (λ g. eqb (total g (viewOf t)) 0))
+    ∷ (6, onBins c (λ g. not (sound (limitOf l) g (viewIn l t))))
+    ∷ (8, onBins c (λ g. eqb (total g (viewIn l t)) 0))
     ∷ []
 
-unfoldable pub cutApplies : Source → ℕ → ℕ → ℕ → ℕ → List ℕ → Buffers → ℕ → Bool
-cutApplies source b1 b2 b3 k t b = applies (cutTests source (gridOf b1 b2 b3) k t b true)
+unfoldable pub cutApplies : (l : Layout) → Source → ℕ → ℕ → ℕ → ℕ → TableIn l → BuffersIn l → ℕ → Bool
+cutApplies l source b1 b2 b3 k t b = applies (cutTests l source (gridOf b1 b2 b3) k t b true)
 
-unfoldable pub callApplies : Source → ℕ → ℕ → ℕ → ℕ → List ℕ → Lent → ℕ → Bool
-callApplies source b1 b2 b3 k t l =
-    applies (cutTests source (gridOf b1 b2 b3) k t (l .buffers) (hasRoom k (length (l .boxes)) (length (l .spreads))))
+unfoldable pub callApplies : (l : Layout) → Source → ℕ → ℕ → ℕ → ℕ → TableIn l → LentIn l → ℕ → Bool
+callApplies l source b1 b2 b3 k t e =
+    applies
+    (cutTests l source (gridOf b1 b2 b3) k t (e .buffers) (hasRoom k (length (e .boxes)) (length (e .spreads))))
 
 -- "map and paint 1, 3, 5, 9"; `lengths` are those that only one of them is lent
 unfoldable pub bandTests : Chosen → List ℕ → ℕ → Bool → List ℕ → ℕ → ℕ → Tests
@@ -165,19 +174,36 @@ pub record OnGrid (b1 b2 b3 : ℕ) (Can : Grid → Type 0) : Type 0 where
   pub chosen : gridOf b1 b2 b3 ≡ chosen.Accepted g
   pub can : Can g
 
--- of a load, no 3, 4, 5, 6, 7
-pub record CanLoad (t colours : List ℕ) (weighted : Bool) (weights : List ℕ) (g : Grid) : Type 0 where
+-- of a load, no 3, 4, 5, 6, and no 7 or 15
+pub record CanLoad (l : Layout) (t : TableIn l) (colours : List ℕ) (weighted : Bool) (weights : List ℕ) (g : Grid)
+    : Type 0
+  where
+    pub threes : length colours % 3 ≡ 0
+    pub paired : weighted ≡ true → length weights ≡ length colours / 3
+    pub lent : SizedIn l t (binsOf g)
+    pub is-sound : sound (limitOf l) g (viewIn l t) ≡ true
+    pub fits : total g (viewIn l t) + weightOf (batchOf colours weighted weights) ≤ limitOf l
+
+-- of a merge, no 5, 6, and no 7 or 15
+pub record CanMerge (l : Layout) (t s : TableIn l) (g : Grid) : Type 0 where
+  pub lent : SizedIn l t (binsOf g) × SizedIn l s (binsOf g)
+  pub are-sound : (sound (limitOf l) g (viewIn l t) ≡ true) × (sound (limitOf l) g (viewIn l s) ≡ true)
+  pub fits : total g (viewIn l t) + total g (viewIn l s) ≤ limitOf l
+
+-- of a narrow load that is refused with 15: no 3, 4, 5, 6, and the total would pass the limit
+pub record PassesLoad (t : NarrowTable) (colours : List ℕ) (weighted : Bool) (weights : List ℕ) (g : Grid)
+    : Type 0 where
   pub threes : length colours % 3 ≡ 0
   pub paired : weighted ≡ true → length weights ≡ length colours / 3
-  pub lent : Sized t (binsOf g)
-  pub is-sound : sound limit g (viewOf t) ≡ true
-  pub fits : total g (viewOf t) + weightOf (batchOf colours weighted weights) ≤ limit
+  pub lent : NarrowSized t (binsOf g)
+  pub is-sound : sound (limitOf Narrow) g (narrowView t) ≡ true
+  pub past : limitOf Narrow < total g (narrowView t) + weightOf (batchOf colours weighted weights)
 
--- of a merge, no 5, 6, 7
-pub record CanMerge (t s : List ℕ) (g : Grid) : Type 0 where
-  pub lent : Sized t (binsOf g) × Sized s (binsOf g)
-  pub are-sound : (sound limit g (viewOf t) ≡ true) × (sound limit g (viewOf s) ≡ true)
-  pub fits : total g (viewOf t) + total g (viewOf s) ≤ limit
+-- and of such a merge: no 5, 6
+pub record PassesMerge (t s : NarrowTable) (g : Grid) : Type 0 where
+  pub lent : NarrowSized t (binsOf g) × NarrowSized s (binsOf g)
+  pub are-sound : (sound (limitOf Narrow) g (narrowView t) ≡ true) × (sound (limitOf Narrow) g (narrowView s) ≡ true)
+  pub past : limitOf Narrow < total g (narrowView t) + total g (narrowView s)
 
 -- of a comparison, no 5, 6
 pub record CanCompare (t s : List ℕ) (l : List ℤ) (g : Grid) : Type 0 where

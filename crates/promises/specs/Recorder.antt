@@ -10,10 +10,11 @@ use lib.ListN.{length, getD}
 use Rattle.basics.specs.Answer.{refuse}
 use Rattle.basics.specs.Range.{listFrom}
 use Rattle.grid.specs.declared.place.Grid.{Grid}
+use Rattle.table.specs.declared.layout.Layout.the-variants.{Wide}
 use Rattle.table.specs.Table.{Table, viewOf}
 use Rattle.table.specs.Sound.{limit, total}
-use Rattle.loader.specs.Load.{Weighted, weightOf}
-use Rattle.loader.specs.Add.{scaledBatch}
+use Rattle.adder.specs.Batch.{Weighted, weightOf}
+use Rattle.adder.specs.Add.{scaledBatch}
 use Rattle.loader.specs.Plan.{Plan, Filled, ends}
 use Rattle.sums.specs.declared.source.Source.{Source}
 use Rattle.cutter.specs.Cut.{Buffers}
@@ -88,7 +89,7 @@ pub record PlanAlike (g : Grid) (b1 b2 b3 : ℕ) (t : Table) (q : Plan) : Type 0
   pub second : Table
   pub ran : ends b1 b2 b3 q ≡ Filled second
   pub same : t ≡ second
-  pub alike : (source : Source) (k : ℕ) (b : Buffers) → SameCut source g b1 b2 b3 k b t second
+  pub alike : (source : Source) (k : ℕ) (b : Buffers) → SameCut Wide source g b1 b2 b3 k b t second
 
 -- ---- one call an entry
 -- an answer, and how the recording stands then

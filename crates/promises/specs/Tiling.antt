@@ -12,7 +12,7 @@ use Rattle.grid.specs.Grid.{binsOf, colourPlace}
 use Rattle.pixels.specs.Colour.{colourAt}
 use Rattle.table.specs.Table.{viewOf}
 use Rattle.table.specs.Sound.{total}
-use Rattle.loader.specs.Load.{Weighted, sumOver}
+use Rattle.adder.specs.Batch.{Weighted, sumOver}
 use Rattle.boxes.specs.declared.sides.Bounds.{Bounds}
 use Rattle.boxes.specs.Box.{Within}
 use Rattle.boxes.specs.Box.{noBox}

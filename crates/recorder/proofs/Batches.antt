@@ -15,11 +15,12 @@ use Rattle.grid.specs.Grid.{gridOf, binsOf}
 use Rattle.table.specs.Table.{Table, Sized, viewOf, written}
 use Rattle.table.specs.Sound.{limit, total, sound}
 use Rattle.table.proofs.Tables.{sized-test}
-use Rattle.loader.specs.Load.{Weighted, weightOf, loaded, loadNumber, loadLater, scaledWeights}
-use Rattle.loader.specs.Add.{scaledBatch}
+use Rattle.adder.specs.Batch.{Weighted, weightOf, loaded, scaledWeights}
+use Rattle.adder.specs.Add.{scaledBatch}
+use Rattle.loader.specs.Load.{loadNumber, loadLater}
+use Rattle.adder.proofs.Scaled.{scaled-pairs}
 use Rattle.loader.proofs.Calls.{pairs, load-done}
 use Rattle.loader.proofs.Laws.{load-refused, load-tests}
-use Rattle.loader.proofs.Scaled.{scaled-pairs}
 use Rattle.recorder.specs.declared.session.Session.{Session}
 use Rattle.recorder.specs.Session.{isInterval}
 use Rattle.recorder.specs.Batch.{inForce, batchNumber, batchLater}

@@ -12,7 +12,7 @@ use Rattle.basics.specs.Range.{listFrom}
 use Rattle.grid.specs.declared.place.Grid.{Grid}
 use Rattle.table.specs.Table.{Table}
 use Rattle.table.specs.Sound.{limit}
-use Rattle.loader.specs.Add.{Known, Whole}
+use Rattle.adder.specs.Add.{Known, Whole}
 use Rattle.recorder.specs.declared.session.Session.{Session}
 use Rattle.recorder.specs.Replay.{kindAt, intervalAt, countAt, entriesIn, coloursBefore, Entry, Standing}
 use Rattle.recorder.specs.Replay.{entryAt, entriesOf, standsAfter, answersTo}

@@ -10,11 +10,12 @@ use Rattle.grid.specs.declared.place.Grid.{Grid}
 use Rattle.grid.proofs.Places.{sizes-chosen}
 use Rattle.table.specs.Table.{Table}
 use Rattle.table.specs.Sound.{limit}
-use Rattle.loader.specs.declared.add.Added.{Added}
-use Rattle.loader.specs.declared.add.Added.the-variants.{Total, Passed}
-use Rattle.loader.specs.Add.{Known, Whole, scaledBatch, addedTo, addedAnswer, addedLater}
-use Rattle.loader.proofs.Scaled.{scaled-bytes}
-use Rattle.loader.proofs.Adding.{number-says, later-says, known-after, known-still}
+use Rattle.adder.specs.declared.add.Added.{Added}
+use Rattle.adder.specs.declared.add.Added.the-variants.{Total, Passed}
+use Rattle.adder.specs.Add.{Known, Whole, scaledBatch, addedTo, addedAnswer, addedLater}
+use Rattle.adder.proofs.Scaled.{scaled-bytes}
+use Rattle.adder.proofs.Adding.{known-after, known-still}
+use Rattle.loader.proofs.ByAdding.{number-says, later-says}
 use Rattle.recorder.specs.declared.session.Session.{Session}
 use Rattle.recorder.specs.declared.session.SessionAnswer.{SessionAnswer}
 use Rattle.recorder.specs.Session.{reloaded}

@@ -15,8 +15,8 @@ use Rattle.grid.specs.Grid.{colourPlace}
 use Rattle.pixels.specs.Colour.{colourAt}
 use Rattle.table.specs.Table.{Table, tableLen, isSized, viewOf, written}
 use Rattle.table.specs.Sound.{between, squaredSpan, plusSpan, squaresSpan, inBounds, spanAt, binSound, total, sound}
-use Rattle.loader.specs.Load.{share, adds, sumOver, weightOf, loaded, weightedAt, batchOf, scaledWeights, loadNumberOn}
-use Rattle.loader.specs.Load.{loadNumber, loadLater}
+use Rattle.adder.specs.Batch.{share, adds, sumOver, weightOf, loaded, weightedAt, batchOf, scaledWeights}
+use Rattle.loader.specs.Load.{loadNumberOn, loadNumberIn, loadLaterIn}
 use Rattle.recorder.specs.declared.session.Session.{Session}
 use Rattle.recorder.specs.declared.session.SessionAnswer.{SessionAnswer}
 use Rattle.recorder.specs.Session.{isInterval, intervalNumber, reloaded, begun}
@@ -141,7 +141,7 @@ unfolding session batch batches empty isInterval inForce batchNumber batchLater
     refuse whenDone listFrom sumFrom allFrom choices shiftIn shiftOf binOf spanOf choose shiftAt
     gridWith gridOf gridAnswer onGrid numberOn binsOf placeOf binAt colourPlace colourAt
     tableLen isSized viewOf written between squaredSpan plusSpan squaresSpan inBounds spanAt binSound total sound
-    share adds sumOver weightOf loaded weightedAt batchOf scaledWeights loadNumberOn loadNumber loadLater
+    share adds sumOver weightOf loaded weightedAt batchOf scaledWeights loadNumberOn loadNumberIn loadLaterIn
 worked-batches = refl
 
 -- ---- replays
@@ -235,5 +235,5 @@ unfolding session answered empty entries colours weights untold all refused case
     refuse whenDone listFrom sumFrom allFrom choices shiftIn shiftOf binOf spanOf choose shiftAt
     gridWith gridOf gridAnswer onGrid numberOn binsOf placeOf binAt colourPlace colourAt
     tableLen isSized viewOf written between squaredSpan plusSpan squaresSpan inBounds spanAt binSound total sound
-    share adds sumOver weightOf loaded weightedAt batchOf scaledWeights loadNumberOn loadNumber loadLater
+    share adds sumOver weightOf loaded weightedAt batchOf scaledWeights loadNumberOn loadNumberIn loadLaterIn
 worked-replays = refl

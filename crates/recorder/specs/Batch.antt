@@ -6,7 +6,8 @@ use lib.Dec.{eqb}
 use lib.ListN.{length}
 use Rattle.basics.specs.Answer.{refuse, whenDone}
 use Rattle.table.specs.Table.{Table}
-use Rattle.loader.specs.Load.{loadNumber, loadLater, scaledWeights}
+use Rattle.adder.specs.Batch.{scaledWeights}
+use Rattle.loader.specs.Load.{loadNumber, loadLater}
 use Rattle.recorder.specs.declared.session.Session.{Session}
 use Rattle.recorder.specs.Session.{isInterval}
 

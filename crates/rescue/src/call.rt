@@ -3,7 +3,7 @@ use crate::bins::walk;
 use grid::place::Chosen;
 use grid::place::bins;
 use grid::place::grid_of;
-use table::layout::table_len;
+use table::wide::table_len;
 ghost use mathlib.Core.Path.{_≡_};
 ghost use Rattle.rescue.specs.Rescue.{rescueNumber, rescueTable, rescueReasons};
 

@@ -6,9 +6,10 @@ use boxes::sides::Bounds;
 use boxes::sides::whole;
 use grid::place::Grid;
 use sums::source::Source;
+use table::layout::Layout;
 ghost use mathlib.Core.Path.{_≡_};
 ghost use Prim.Native.Nat.{_≤_};
-ghost use Rattle.table.specs.Table.{viewOf};
+ghost use Rattle.table.specs.Layout.{laid, laidView};
 ghost use Rattle.table.specs.Sound.{limit};
 ghost use Rattle.sums.specs.Moments.{CanSum};
 ghost use Rattle.heap.specs.TwoArrays.{TwoArrays};
@@ -52,15 +53,36 @@ fn gathered(spreads: &[f64; 256], boxes: &[u64; 256], len: usize) -> [BoxSpread;
 }
 
 // The boxes that a table is cut into, at most k, or one where k is 0 (`cubes_heap`).
-pub fn cut_boxes(table: &[u64], work: &[u64], source: Source, g: Grid, k: usize) -> Boxes
-    requires { ⌜ CanSum limit source g (now table) (now work) × (k ≤ 256) ⌝ }
-    ensures { λ r. ⌜ r ≡ boxesOf g (viewOf (now (table .entry))) k ⌝ }
+pub fn cut_boxes(
+    layout: Layout,
+    small: &[u32],
+    large: &[u64],
+    smallwork: &[u32],
+    largework: &[u64],
+    source: Source,
+    g: Grid,
+    k: usize,
+) -> Boxes
+    requires { ⌜ CanSum layout limit source g (laid layout (now small) (now large))
+        (laid layout (now smallwork) (now largework)) × (k ≤ 256) ⌝ }
+    ensures { λ r. ⌜ r ≡ boxesOf g (laidView layout (now (small .entry)) (now (large .entry))) k ⌝ }
 {
     let mut spreads = [0.0; 256];
     let mut boxes = [0u64; 256];
     spreads[0] = 1.0 / 0.0;
     boxes[0] = packed(whole(g));
-    let end = all_rounds(table, work, source, g, k, &mut spreads, &mut boxes);
+    let end = all_rounds(
+        layout,
+        small,
+        large,
+        smallwork,
+        largework,
+        source,
+        g,
+        k,
+        &mut spreads,
+        &mut boxes,
+    );
     let n = end.boxes;
     let places = gathered(&spreads, &boxes, n);
     Boxes {

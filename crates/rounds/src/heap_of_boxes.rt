@@ -7,9 +7,10 @@ use heap::arrays::take_out;
 use spread::spread::spread;
 use sums::box_sums::box_sum;
 use sums::source::Source;
+use table::layout::Layout;
 ghost use mathlib.Core.Path.{_≡_};
 ghost use Prim.Native.Nat.{_<_, _≤_};
-ghost use Rattle.table.specs.Table.{viewOf};
+ghost use Rattle.table.specs.Layout.{laid, laidView};
 ghost use Rattle.table.specs.Sound.{limit};
 ghost use Rattle.boxes.specs.Box.{Within};
 ghost use Rattle.boxes.specs.Bytes.{Bytes};
@@ -38,8 +39,11 @@ pub(crate) fn put_box(
 
 // Puts in a box with its own spread.
 pub(crate) fn put_with_spread(
-    table: &[u64],
-    work: &[u64],
+    layout: Layout,
+    small: &[u32],
+    large: &[u64],
+    smallwork: &[u32],
+    largework: &[u64],
     source: Source,
     g: Grid,
     spreads: &mut [f64; 256],
@@ -47,14 +51,18 @@ pub(crate) fn put_with_spread(
     len: usize,
     x: Bounds,
 )
-    requires { ⌜ CanSum limit source g (now table) (now work) × Within g x ⌝ }
+    requires { ⌜ CanSum layout limit source g (laid layout (now small) (now large))
+        (laid layout (now smallwork) (now largework)) × Within g x ⌝ }
     requires { ⌜ TwoArrays (now spreads) (now boxes) × (len < 256) ⌝ }
     ensures room { λ r. ⌜ roomIn (now (spreads .exit)) (now (boxes .exit))
         ≡ putIn bySpread noItem (roomIn (now (spreads .entry)) (now (boxes .entry))) len
-        (withSpread g (viewOf (now (table .entry))) x) ⌝ }
+        (withSpread g (laidView layout (now (small .entry)) (now (large .entry))) x) ⌝ }
     ensures arrays { λ r. ⌜ TwoArrays (now (spreads .exit)) (now (boxes .exit)) ⌝ }
 {
-    let s = spread(x, box_sum(table, work, source, g, x));
+    let s = spread(
+        x,
+        box_sum(layout, small, large, smallwork, largework, source, g, x),
+    );
     put_box(spreads, boxes, len, s, x);
 }
 

@@ -10,9 +10,10 @@ use grid::place::Grid;
 use spread::position::Position;
 use spread::search::best_cut;
 use sums::source::Source;
+use table::layout::Layout;
 ghost use mathlib.Core.Path.{_≡_};
 ghost use Prim.Native.Nat.{_+_, _<_, _≤_};
-ghost use Rattle.table.specs.Table.{viewOf};
+ghost use Rattle.table.specs.Layout.{laid, laidView};
 ghost use Rattle.table.specs.Sound.{limit};
 ghost use Rattle.boxes.specs.Box.{Within};
 ghost use Rattle.sums.specs.Moments.{CanSum};
@@ -24,8 +25,11 @@ ghost use Rattle.rounds.specs.Inner.{roomIn};
 
 // Cuts a box that was taken out, with `left` boxes left, and answers how many there are then.
 fn cut_top(
-    table: &[u64],
-    work: &[u64],
+    layout: Layout,
+    small: &[u32],
+    large: &[u64],
+    smallwork: &[u32],
+    largework: &[u64],
     source: Source,
     g: Grid,
     spreads: &mut [f64; 256],
@@ -33,47 +37,80 @@ fn cut_top(
     left: usize,
     x: Bounds,
 ) -> usize
-    requires { ⌜ CanSum limit source g (now table) (now work) × Within g x ⌝ }
+    requires { ⌜ CanSum layout limit source g (laid layout (now small) (now large))
+        (laid layout (now smallwork) (now largework)) × Within g x ⌝ }
     requires { ⌜ TwoArrays (now spreads) (now boxes) × (left + 1 < 256) ⌝ }
-    ensures number { λ r. ⌜ r ≡ boxesAfter left (bestCut g (viewOf (now (table .entry))) x) ⌝ }
+    ensures number { λ r. ⌜ r
+        ≡ boxesAfter left (bestCut g (laidView layout (now (small .entry)) (now (large .entry))) x) ⌝ }
     ensures room { λ r. ⌜ roomIn (now (spreads .exit)) (now (boxes .exit))
-        ≡ roomAfter g (viewOf (now (table .entry))) (roomIn (now (spreads .entry)) (now (boxes .entry))) left x
-        (bestCut g (viewOf (now (table .entry))) x) ⌝ }
+        ≡ roomAfter g (laidView layout (now (small .entry)) (now (large .entry)))
+        (roomIn (now (spreads .entry)) (now (boxes .entry))) left x
+        (bestCut g (laidView layout (now (small .entry)) (now (large .entry))) x) ⌝ }
     ensures arrays { λ r. ⌜ TwoArrays (now (spreads .exit)) (now (boxes .exit)) ⌝ }
 {
     let Position::At {
         dimension,
         bin,
         score: _,
-    } = best_cut(table, work, source, g, x)
+    } = best_cut(layout, small, large, smallwork, largework, source, g, x)
     else {
         put_box(spreads, boxes, left, 0.0, x);
         return left + 1;
     };
     let low = low_side(x, dimension, bin);
     let high = high_side(x, dimension, bin);
-    put_with_spread(table, work, source, g, spreads, boxes, left, low);
-    put_with_spread(table, work, source, g, spreads, boxes, left + 1, high);
+    put_with_spread(
+        layout,
+        small,
+        large,
+        smallwork,
+        largework,
+        source,
+        g,
+        spreads,
+        boxes,
+        left,
+        low,
+    );
+    put_with_spread(
+        layout,
+        small,
+        large,
+        smallwork,
+        largework,
+        source,
+        g,
+        spreads,
+        boxes,
+        left + 1,
+        high,
+    );
     left + 2
 }
 
 // One round with `len` boxes; answers how many there are then.
 fn round(
-    table: &[u64],
-    work: &[u64],
+    layout: Layout,
+    small: &[u32],
+    large: &[u64],
+    smallwork: &[u32],
+    largework: &[u64],
     source: Source,
     g: Grid,
     spreads: &mut [f64; 256],
     boxes: &mut [u64; 256],
     len: usize,
 ) -> usize
-    requires { ⌜ CanSum limit source g (now table) (now work) ⌝ }
+    requires { ⌜ CanSum layout limit source g (laid layout (now small) (now large))
+        (laid layout (now smallwork) (now largework)) ⌝ }
     requires { ⌜ TwoArrays (now spreads) (now boxes) × (0 < len) × (len < 256)
         × Within g (item noItem (roomIn (now spreads) (now boxes)) 0 .bounds) ⌝ }
     ensures number { λ r. ⌜ r
-        ≡ roundBoxes g (viewOf (now (table .entry))) (roomIn (now (spreads .entry)) (now (boxes .entry))) len ⌝ }
+        ≡ roundBoxes g (laidView layout (now (small .entry)) (now (large .entry)))
+        (roomIn (now (spreads .entry)) (now (boxes .entry))) len ⌝ }
     ensures room { λ r. ⌜ roomIn (now (spreads .exit)) (now (boxes .exit))
-        ≡ roundRoom g (viewOf (now (table .entry))) (roomIn (now (spreads .entry)) (now (boxes .entry))) len ⌝ }
+        ≡ roundRoom g (laidView layout (now (small .entry)) (now (large .entry)))
+        (roomIn (now (spreads .entry)) (now (boxes .entry))) len ⌝ }
     ensures arrays { λ r. ⌜ TwoArrays (now (spreads .exit)) (now (boxes .exit)) ⌝ }
 {
     let s = spreads[0];
@@ -81,7 +118,19 @@ fn round(
     let left = len - 1;
     take_top(spreads, boxes, len);
     if 0.0 < s {
-        return cut_top(table, work, source, g, spreads, boxes, left, x);
+        return cut_top(
+            layout,
+            small,
+            large,
+            smallwork,
+            largework,
+            source,
+            g,
+            spreads,
+            boxes,
+            left,
+            x,
+        );
     }
     put_box(spreads, boxes, left, s, x);
     len
@@ -95,27 +144,43 @@ pub struct Ended {
 
 // All rounds.
 pub(crate) fn all_rounds(
-    table: &[u64],
-    work: &[u64],
+    layout: Layout,
+    small: &[u32],
+    large: &[u64],
+    smallwork: &[u32],
+    largework: &[u64],
     source: Source,
     g: Grid,
     k: usize,
     spreads: &mut [f64; 256],
     boxes: &mut [u64; 256],
 ) -> Ended
-    requires { ⌜ CanSum limit source g (now table) (now work) × (k ≤ 256) ⌝ }
+    requires { ⌜ CanSum layout limit source g (laid layout (now small) (now large))
+        (laid layout (now smallwork) (now largework)) × (k ≤ 256) ⌝ }
     requires { ⌜ TwoArrays (now spreads) (now boxes) × (roomIn (now spreads) (now boxes) ≡ startRoom g) ⌝ }
-    ensures boxes { λ r. ⌜ r .boxes ≡ heapOf g (viewOf (now (table .entry))) k .boxes ⌝ }
-    ensures rounds { λ r. ⌜ r .rounds ≡ heapOf g (viewOf (now (table .entry))) k .rounds ⌝ }
+    ensures boxes { λ r. ⌜ r .boxes ≡ heapOf g (laidView layout (now (small .entry)) (now (large .entry))) k .boxes ⌝ }
+    ensures rounds { λ r. ⌜ r .rounds
+        ≡ heapOf g (laidView layout (now (small .entry)) (now (large .entry))) k .rounds ⌝ }
     ensures room { λ r. ⌜ roomIn (now (spreads .exit)) (now (boxes .exit))
-        ≡ heapOf g (viewOf (now (table .entry))) k .room ⌝ }
+        ≡ heapOf g (laidView layout (now (small .entry)) (now (large .entry))) k .room ⌝ }
     ensures arrays { λ r. ⌜ TwoArrays (now (spreads .exit)) (now (boxes .exit)) ⌝ }
 {
     let mut len = 1;
     let mut rounds = 0;
     while len < k {
         let more = 0.0 < spreads[0];
-        len = round(table, work, source, g, spreads, boxes, len);
+        len = round(
+            layout,
+            small,
+            large,
+            smallwork,
+            largework,
+            source,
+            g,
+            spreads,
+            boxes,
+            len,
+        );
         rounds = rounds + 1;
         if !more {
             return Ended { boxes: len, rounds };

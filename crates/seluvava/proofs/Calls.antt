@@ -14,24 +14,25 @@ use Rattle.grid.specs.declared.place.Chosen.{Chosen}
 use Rattle.grid.specs.declared.place.Chosen.the-variants as chosen
 use Rattle.basics.specs.Answer.{refuse, whenDone}
 use Rattle.grid.specs.Grid.{gridOf, gridAnswer, onGrid, numberOn, binsOf}
-use Rattle.grid.proofs.Places.{chose, bins-high}
 use Rattle.basics.proofs.Range.{and-left, and-right}
 use Rattle.basics.proofs.Ends.{passed}
-use Rattle.table.specs.Table.{tableLen, viewOf}
-use Rattle.table.specs.Sound.{limit, total, sound, unsoundNumber}
+use Rattle.table.specs.declared.layout.Layout.{Layout}
+use Rattle.table.specs.Table.{tableLen}
+use Rattle.table.specs.Layout.{TableIn, viewIn}
+use Rattle.table.specs.Sound.{limitOf, total, sound, unsoundNumber}
 use Rattle.sums.specs.declared.source.Source.{Source}
 use Rattle.sums.specs.declared.source.Source.the-variants.{Bins}
 use Rattle.cutter.specs.declared.call.CutRecord.{CutRecord}
 use Rattle.cutter.specs.Fronts.{filled}
-use Rattle.cutter.specs.Cut.{lengthsRight, Buffers, lengthsOf, longEnough, cutNumberOn, cutNumber, refusedRecord}
-use Rattle.cutter.specs.Cut.{cutRecord, cutLater}
+use Rattle.cutter.specs.Cut.{BuffersIn, lengthsRight, cutNumberOn, cutNumberIn, refusedRecord, cutRecordIn}
+use Rattle.cutter.specs.Cut.{cutLaterIn}
 use Rattle.cutter.proofs.Fronts.{filled-none}
 use Rattle.cutter.proofs.Laws.{record-number, cut-refuses, bins-leave-work}
 use Rattle.seluvava.specs.declared.cut.CutAnswer.{CutAnswer}
 use Rattle.seluvava.specs.Sizes.{binsFor, tableLenFor}
 use Rattle.seluvava.proofs.Boxes.{six, one}
-use Rattle.seluvava.specs.Cut.{Lent, lent, hasRoom, allLong, callNumberOn, callNumber, cutAnswer, itsBytes}
-use Rattle.seluvava.specs.Cut.{spreadOf, told, callLater}
+use Rattle.seluvava.specs.Cut.{LentIn, lentIn, hasRoom, allLong, callNumberOn, callNumberIn, cutAnswerIn}
+use Rattle.seluvava.specs.Cut.{itsBytes, spreadOf, told, callLaterIn}
 use Rattle.seluvava.specs.Inner.{roomOn, roomNumber}
 
 module _ (b1 b2 b3 : ℕ) where
@@ -140,48 +141,48 @@ stages true true false rest = refl
 stages true false true rest = refl
 stages true false false rest = refl
 
-module _ (source : Source) (b1 b2 b3 k : ℕ) (t : List ℕ) (l : Lent) where
+module _ (layout : Layout) (source : Source) (b1 b2 b3 k : ℕ) (t : TableIn layout) (l : LentIn layout) where
   abbrev room : ℕ
   room = roomNumber b1 b2 b3 k (length (l .boxes)) (length (l .spreads))
 
   -- the answer of the call is that of the room, and where that is 0 the answer of the cut
-  pub in-stages : callNumber source b1 b2 b3 k t l ≡ whenDone room (cutNumber source b1 b2 b3 k t (l .buffers)) room
-  unfolding callNumber callNumberOn allLong cutNumber cutNumberOn roomNumber roomOn numberOn onGrid gridAnswer whenDone
+  pub in-stages : callNumberIn layout source b1 b2 b3 k t l ≡ whenDone room (cutNumberIn layout source b1 b2 b3 k t (l .buffers)) room
+  unfolding callNumberIn callNumberOn allLong cutNumberIn cutNumberOn roomNumber roomOn numberOn onGrid gridAnswer whenDone
   in-stages = go (gridOf b1 b2 b3)
     where
       go : (c : Chosen)
-          → numberOn c (λ g. callNumberOn source g k t l)
+          → numberOn c (λ g. callNumberOn layout source g k t l)
           ≡ whenDone (numberOn c (λ g. roomOn k (length (l .boxes)) (length (l .spreads))))
-          (numberOn c (λ g. cutNumberOn limit g k (lengthsRight source g k t (l .buffers)) (viewOf t)))
+          (numberOn c (λ g. cutNumberOn (limitOf layout) g k (lengthsRight layout source g k t (l .buffers)) (viewIn layout t)))
           (numberOn c (λ g. roomOn k (length (l .boxes)) (length (l .spreads))))
       go (chosen.Accepted g) =
-          stages (leb 1 k && leb k 256) (longEnough source g k (length t) (lengthsOf (l .buffers)))
+          stages (leb 1 k && leb k 256) (lengthsRight layout source g k t (l .buffers))
           (hasRoom k (length (l .boxes)) (length (l .spreads)))
-          (refuse (not (sound limit g (viewOf t))) unsoundNumber (refuse (eqb (total g (viewOf t)) 0) 8 0))
+          (refuse (not (sound (limitOf layout) g (viewIn layout t))) unsoundNumber (refuse (eqb (total g (viewIn layout t)) 0) 8 0))
       go chosen.Refused = refl
 
-  abbrev Ends : CutAnswer → Lent → Type 0
-  Ends r e = (r ≡ cutAnswer source b1 b2 b3 k t l) × (e ≡ callLater source b1 b2 b3 k t l)
+  abbrev Ends : CutAnswer → LentIn layout → Type 0
+  Ends r e = (r ≡ cutAnswerIn layout source b1 b2 b3 k t l) × (e ≡ callLaterIn layout source b1 b2 b3 k t l)
 
   -- the boxes of a record written out, beside its buffers
-  abbrev written : CutRecord → Buffers → Lent
-  written r b = lent b (filled 6 itsBytes (told r) (l .boxes)) (filled 1 spreadOf (told r) (l .spreads))
+  abbrev written : CutRecord → BuffersIn layout → LentIn layout
+  written r b = lentIn layout b (filled 6 itsBytes (told r) (l .boxes)) (filled 1 spreadOf (told r) (l .spreads))
 
   -- what a cut with room leaves behind
-  abbrev cut : Lent
-  cut = written (cutRecord source b1 b2 b3 k t (l .buffers)) (cutLater source b1 b2 b3 k t (l .buffers))
+  abbrev cut : LentIn layout
+  cut = written (cutRecordIn layout source b1 b2 b3 k t (l .buffers)) (cutLaterIn layout source b1 b2 b3 k t (l .buffers))
 
   -- "A refusal writes nothing", and tells of no box and no round
-  pub call-kept : {n : ℕ} → callNumber source b1 b2 b3 k t l ≡ suc n
-      → (cutAnswer source b1 b2 b3 k t l ≡ refused-of (suc n)) × (callLater source b1 b2 b3 k t l ≡ l)
-  unfolding cutAnswer callLater whenDone
+  pub call-kept : {n : ℕ} → callNumberIn layout source b1 b2 b3 k t l ≡ suc n
+      → (cutAnswerIn layout source b1 b2 b3 k t l ≡ refused-of (suc n)) × (callLaterIn layout source b1 b2 b3 k t l ≡ l)
+  unfolding cutAnswerIn callLaterIn whenDone
   call-kept e = (rw e refl, rw e refl)
 
   -- and a call that is done has the boxes of the record
-  pub call-has : callNumber source b1 b2 b3 k t l ≡ 0
-      → (cutAnswer source b1 b2 b3 k t l ≡ told-of 0 (cutRecord source b1 b2 b3 k t (l .buffers)))
-      × (callLater source b1 b2 b3 k t l ≡ cut)
-  unfolding cutAnswer callLater whenDone
+  pub call-has : callNumberIn layout source b1 b2 b3 k t l ≡ 0
+      → (cutAnswerIn layout source b1 b2 b3 k t l ≡ told-of 0 (cutRecordIn layout source b1 b2 b3 k t (l .buffers)))
+      × (callLaterIn layout source b1 b2 b3 k t l ≡ cut)
+  unfolding cutAnswerIn callLaterIn whenDone
   call-has e = (rw e refl, rw e refl)
 
   -- ---- what the code shows of it, stage by stage
@@ -197,53 +198,53 @@ module _ (source : Source) (b1 b2 b3 k : ℕ) (t : List ℕ) (l : Lent) where
             (ap (λ (i : ℕ). refused-of i) z ∙ sym (kept .0), sym (kept .1))
 
     -- where there is room: the cut's answer, and its boxes written out
-    cut-ends : n ≡ 0 → Ends (answer-of (cutRecord source b1 b2 b3 k t (l .buffers))) cut
+    cut-ends : n ≡ 0 → Ends (answer-of (cutRecordIn layout source b1 b2 b3 k t (l .buffers))) cut
     unfolding whenDone told refusedRecord
-    cut-ends z = go (cutNumber source b1 b2 b3 k t (l .buffers)) refl
+    cut-ends z = go (cutNumberIn layout source b1 b2 b3 k t (l .buffers)) refl
       where
-        same : callNumber source b1 b2 b3 k t l ≡ cutNumber source b1 b2 b3 k t (l .buffers)
+        same : callNumberIn layout source b1 b2 b3 k t l ≡ cutNumberIn layout source b1 b2 b3 k t (l .buffers)
         same = in-stages ∙ rw (← e, z) refl
 
-        go : (m : ℕ) → cutNumber source b1 b2 b3 k t (l .buffers) ≡ m
-            → Ends (answer-of (cutRecord source b1 b2 b3 k t (l .buffers))) cut
+        go : (m : ℕ) → cutNumberIn layout source b1 b2 b3 k t (l .buffers) ≡ m
+            → Ends (answer-of (cutRecordIn layout source b1 b2 b3 k t (l .buffers))) cut
         go zero q =
             let has = call-has (same ∙ q) in (
-              ap (λ (i : ℕ). told-of i (cutRecord source b1 b2 b3 k t (l .buffers)))
-                  (record-number source b1 b2 b3 k t (l .buffers) ∙ q) ∙ sym (has .0),
+              ap (λ (i : ℕ). told-of i (cutRecordIn layout source b1 b2 b3 k t (l .buffers)))
+                  (record-number layout source b1 b2 b3 k t (l .buffers) ∙ q) ∙ sym (has .0),
               sym (has .1),
             )
         go (suc m) q =
             let kept = call-kept {n = m} (same ∙ q) in
-            let none = cut-refuses source b1 b2 b3 k t (l .buffers) q in (
+            let none = cut-refuses layout source b1 b2 b3 k t (l .buffers) q in (
               ap answer-of (none .0) ∙ sym (kept .0),
               (λ i. written (none .0 i) (none .1 i))
-                  ∙ (λ i. lent (l .buffers) (filled-none 6 itsBytes six (l .boxes) i)
+                  ∙ (λ i. lentIn layout (l .buffers) (filled-none 6 itsBytes six (l .boxes) i)
                   (filled-none 1 spreadOf one (l .spreads) i)) ∙ sym (kept .1),
             )
 
-    pub call-done : n ≡ 0 → {r : CutRecord} → r ≡ cutRecord source b1 b2 b3 k t (l .buffers)
-        → {b : Buffers} {boxes : List ℕ} {spreads : List Float} → b ≡ cutLater source b1 b2 b3 k t (l .buffers)
+    pub call-done : n ≡ 0 → {r : CutRecord} → r ≡ cutRecordIn layout source b1 b2 b3 k t (l .buffers)
+        → {b : BuffersIn layout} {boxes : List ℕ} {spreads : List Float} → b ≡ cutLaterIn layout source b1 b2 b3 k t (l .buffers)
         → boxes ≡ filled 6 itsBytes (told r) (l .boxes) → spreads ≡ filled 1 spreadOf (told r) (l .spreads)
-        → Ends (answer-of r) (lent b boxes spreads)
+        → Ends (answer-of r) (lentIn layout b boxes spreads)
     call-done z q later p s =
         let ends = cut-ends z in (
           ap answer-of q ∙ ends .0,
-          (λ i. lent (later i) (p i) (s i))
-              ∙ ap (λ (r : CutRecord). written r (cutLater source b1 b2 b3 k t (l .buffers))) q
+          (λ i. lentIn layout (later i) (p i) (s i))
+              ∙ ap (λ (r : CutRecord). written r (cutLaterIn layout source b1 b2 b3 k t (l .buffers))) q
               ∙ ends .1,
         )
 
 -- a cut that adds up bins leaves its work table alone
-pub call-leaves-work : (b1 b2 b3 k : ℕ) (t : List ℕ) (l : Lent)
-    → callLater Bins b1 b2 b3 k t l .buffers .work ≡ l .buffers .work
-unfolding callLater whenDone
-call-leaves-work b1 b2 b3 k t l = go (callNumber Bins b1 b2 b3 k t l)
+pub call-leaves-work : (layout : Layout) (b1 b2 b3 k : ℕ) (t : TableIn layout) (l : LentIn layout)
+    → callLaterIn layout Bins b1 b2 b3 k t l .buffers .work ≡ l .buffers .work
+unfolding callLaterIn whenDone
+call-leaves-work layout b1 b2 b3 k t l = go (callNumberIn layout Bins b1 b2 b3 k t l)
   where
     go : (n : ℕ)
         → whenDone n
-        (lent (cutLater Bins b1 b2 b3 k t (l .buffers))
-        (filled 6 itsBytes (told (cutRecord Bins b1 b2 b3 k t (l .buffers))) (l .boxes))
-        (filled 1 spreadOf (told (cutRecord Bins b1 b2 b3 k t (l .buffers))) (l .spreads))) l .buffers .work
+        (lentIn layout (cutLaterIn layout Bins b1 b2 b3 k t (l .buffers))
+        (filled 6 itsBytes (told (cutRecordIn layout Bins b1 b2 b3 k t (l .buffers))) (l .boxes))
+        (filled 1 spreadOf (told (cutRecordIn layout Bins b1 b2 b3 k t (l .buffers))) (l .spreads))) l .buffers .work
         ≡ l .buffers .work
-    go zero = bins-leave-work b1 b2 b3 k t (l .buffers)
+    go zero = bins-leave-work layout b1 b2 b3 k t (l .buffers)
     go (suc n) = refl

@@ -3,10 +3,12 @@ use crate::arrays::put_boxes;
 use crate::arrays::room_number;
 use cutter::call::cut_from;
 use sums::source::Source;
+use table::layout::Layout;
 ghost use mathlib.Core.Path.{_≡_};
 ghost use Rattle.sums.specs.declared.source.Source.the-variants.{Moments, Bins};
-ghost use Rattle.cutter.specs.Cut.{buffers, noWork};
-ghost use Rattle.seluvava.specs.Cut.{lent, cutAnswer, callLater};
+ghost use Rattle.table.specs.Layout.{laid};
+ghost use Rattle.cutter.specs.Cut.{buffersIn, buffers, noWork};
+ghost use Rattle.seluvava.specs.Cut.{lentIn, cutAnswerIn, callLaterIn, lent, cutAnswer, callLater};
 
 // What a cut answers; the boxes themselves go into lent arrays.
 #[repr(C)]
@@ -16,15 +18,18 @@ pub struct CutAnswer {
     pub rounds: usize,
 }
 
-// A cut with sums from where they come from, and its boxes and spreads written.
-fn cut_and_write(
+// A cut in either layout with sums from where they come from, and its boxes and spreads written.
+pub(crate) fn cut_and_write(
     source: Source,
+    layout: Layout,
     b1: usize,
     b2: usize,
     b3: usize,
     k: usize,
-    table: &[u64],
-    work: &mut [u64],
+    small: &[u32],
+    large: &[u64],
+    smallwork: &mut [u32],
+    largework: &mut [u64],
     palette: &mut [u8],
     counts: &mut [u32],
     remainders: &mut [u32],
@@ -33,17 +38,19 @@ fn cut_and_write(
     spreads: &mut [f64],
 ) -> CutAnswer
     ensures answer { λ r. ⌜ r
-        ≡ cutAnswer source b1 b2 b3 k (now (table .entry))
-        (lent (buffers (now (work .entry)) (now (palette .entry)) (now (counts .entry)) (now (remainders .entry))
-        (now (map .entry)))
+        ≡ cutAnswerIn layout source b1 b2 b3 k (laid layout (now (small .entry)) (now (large .entry)))
+        (lentIn layout
+        (buffersIn layout (laid layout (now (smallwork .entry)) (now (largework .entry))) (now (palette .entry))
+        (now (counts .entry)) (now (remainders .entry)) (now (map .entry)))
         (now (boxes .entry)) (now (spreads .entry))) ⌝ }
-    ensures later { λ r. ⌜
-        lent (buffers (now (work .exit)) (now (palette .exit)) (now (counts .exit)) (now (remainders .exit))
-        (now (map .exit)))
+    ensures later { λ r. ⌜ lentIn layout
+        (buffersIn layout (laid layout (now (smallwork .exit)) (now (largework .exit))) (now (palette .exit))
+        (now (counts .exit)) (now (remainders .exit)) (now (map .exit)))
         (now (boxes .exit)) (now (spreads .exit))
-        ≡ callLater source b1 b2 b3 k (now (table .entry))
-        (lent (buffers (now (work .entry)) (now (palette .entry)) (now (counts .entry)) (now (remainders .entry))
-        (now (map .entry)))
+        ≡ callLaterIn layout source b1 b2 b3 k (laid layout (now (small .entry)) (now (large .entry)))
+        (lentIn layout
+        (buffersIn layout (laid layout (now (smallwork .entry)) (now (largework .entry))) (now (palette .entry))
+        (now (counts .entry)) (now (remainders .entry)) (now (map .entry)))
         (now (boxes .entry)) (now (spreads .entry))) ⌝ }
 {
     let number = room_number(b1, b2, b3, k, boxes.len(), spreads.len());
@@ -56,12 +63,15 @@ fn cut_and_write(
     }
     let r = cut_from(
         source,
+        layout,
         b1,
         b2,
         b3,
         k,
-        table,
-        work,
+        small,
+        large,
+        smallwork,
+        largework,
         palette,
         counts,
         remainders,
@@ -107,13 +117,18 @@ pub extern "C" fn seluvava_cut(
         (now (map .entry)))
         (now (boxes .entry)) (now (spreads .entry))) ⌝ }
 {
+    let none = [0u32; 0];
+    let mut nowork = [0u32; 0];
     cut_and_write(
         Source::Moments,
+        Layout::Wide,
         b1,
         b2,
         b3,
         k,
+        &none,
         table,
+        &mut nowork,
         work,
         palette,
         counts,
@@ -153,15 +168,20 @@ pub extern "C" fn seluvava_cut_slowly(
         (now (map .entry)))
         (now (boxes .entry)) (now (spreads .entry))) ⌝ }
 {
-    let mut none = [0u64; 0];
+    let none = [0u32; 0];
+    let mut smallwork = [0u32; 0];
+    let mut largework = [0u64; 0];
     cut_and_write(
         Source::Bins,
+        Layout::Wide,
         b1,
         b2,
         b3,
         k,
+        &none,
         table,
-        &mut none,
+        &mut smallwork,
+        &mut largework,
         palette,
         counts,
         remainders,

@@ -3,6 +3,7 @@ mod arrays;
 pub mod cut;
 pub mod files;
 pub mod frames;
+pub mod narrow;
 pub mod recordings;
 pub mod sizes;
 pub mod tables;

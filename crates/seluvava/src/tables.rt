@@ -2,7 +2,7 @@
 use compare::call::Compared;
 use grid::place::Chosen;
 use grid::place::grid_of;
-use table::layout::table_len;
+use table::wide::table_len;
 ghost use mathlib.Core.Path.{_≡_};
 ghost use Rattle.compare.specs.Compare.{compareRecord, compareLater};
 ghost use Rattle.loader.specs.Load.{loadNumber, loadLater};

@@ -11,9 +11,9 @@ use Rattle.basics.specs.Dimension.{choose}
 use Rattle.grid.specs.Grid.{sizeAt, placeOf, strideAt, Accepted, Inside}
 use Rattle.grid.proofs.Size.{size-low}
 use Rattle.grid.proofs.Places.{one, two, three, place-lt, bins-high}
-use Rattle.table.specs.declared.cell.Cell.{Cell}
 use Rattle.table.specs.Cell.{View, numberOf, cellOf}
-use Rattle.table.specs.Table.{Table, viewOf}
+use Rattle.table.specs.declared.layout.Layout.{Layout}
+use Rattle.table.specs.Layout.{TableIn, viewIn}
 use Rattle.boxes.specs.declared.sides.Bounds.{Bounds}
 use Rattle.boxes.specs.Box.{minAt, maxAt, lowSide, highSide, slabTo, Within}
 use Rattle.bins.specs.Sum.{binSum, boxSum}
@@ -203,24 +203,24 @@ module _ {g : Grid} (a : Accepted g) {i k p q : ℕ} (e : p ≡ i - 1) (f : q �
       )
 
 -- what is read at a place: the record of five numbers
-pub record Reads (w : Table) (p : ℕ) (f : ℕ → ℕ) : Type 0 where
+pub record Reads (l : Layout) (w : TableIn l) (p : ℕ) (f : ℕ → ℕ) : Type 0 where
   pub low : p < 2097152
-  pub has : HasRecord w p
-  pub exact : {y : Stats} → y ≡ statsFrom (viewOf w p) → Exact y f
+  pub has : HasRecord l w p
+  pub exact : {y : Stats} → y ≡ statsFrom (viewIn l w p) → Exact y f
 
-module _ {g : Grid} {t w : Table} (can-sum : CanSum limit Moments g t w) where
+module _ {l : Layout} {g : Grid} {t w : TableIn l} (can-sum : CanSum l limit Moments g t w) where
   -- below r, gr and b
   at-corner : (r gr b : ℕ) → r ≤ g .size1 → gr ≤ g .size2 → b ≤ g .size3 → 0 < r → 0 < gr → 0 < b
-      → {p : ℕ} → p ≡ placeOf g (r - 1) (gr - 1) (b - 1) → Reads w p (binSum g (viewOf t) 0 r 0 gr 0 b)
-  at-corner r gr b h k l r0 gr0 b0 {p} at =
-      let c : Corner g t w r gr b = record {
+      → {p : ℕ} → p ≡ placeOf g (r - 1) (gr - 1) (b - 1) → Reads l w p (binSum g (viewIn l t) 0 r 0 gr 0 b)
+  at-corner r gr b h k m r0 gr0 b0 {p} at =
+      let c : Corner l g t w r gr b = record {
         can-sum = can-sum;
         some-one = r0;
         one = h;
         some-two = gr0;
         two = k;
         some-three = b0;
-        three = l;
+        three = m;
       } in
       let squares = corner-squares c in
       record {
@@ -231,14 +231,14 @@ module _ {g : Grid} {t w : Table} (can-sum : CanSum limit Moments g t w) where
         };
         exact = λ e.
             record {
-              is = e ∙ stats-by (viewOf w p) (binSum g (viewOf t) 0 r 0 gr 0 b) (corner-number c at);
+              is = e ∙ stats-by (viewIn l w p) (binSum g (viewIn l t) 0 r 0 gr 0 b) (corner-number c at);
               squares = squares;
             };
       }
 
   -- below n in dimension d, i and k in the two others
   reads : (d n i k : ℕ) → n ≤ sizeAt g d → i ≤ sizeAt g (outerOf d) → k ≤ sizeAt g (innerOf d) → 0 < n → 0 < i
-      → 0 < k → Reads w (startOf g d i k + strideAt g d * (n - 1)) (crossSum g (viewOf t) d n 0 i 0 k)
+      → 0 < k → Reads l w (startOf g d i k + strideAt g d * (n - 1)) (crossSum g (viewIn l t) d n 0 i 0 k)
   unfolding startOf strideAt sizeAt outerOf innerOf choose crossSum
   reads zero n i k N I K n0 i0 k0 = at-corner n i k N I K n0 i0 k0 (along-first g (n - 1) (i - 1) (k - 1))
   reads (suc zero) n i k N I K n0 i0 k0 = at-corner i n k I N K i0 n0 k0 (along-second g (n - 1) (i - 1) (k - 1))
@@ -247,7 +247,7 @@ module _ {g : Grid} {t w : Table} (can-sum : CanSum limit Moments g t w) where
   -- the corners of a box
   pub box-reads : {x : Bounds} → Within g x → (d n i k : ℕ) → n ≤ maxAt x d → i ≤ maxAt x (outerOf d)
       → k ≤ maxAt x (innerOf d) → 0 < n → 0 < i → 0 < k
-      → Reads w (startOf g d i k + strideAt g d * (n - 1)) (crossSum g (viewOf t) d n 0 i 0 k)
+      → Reads l w (startOf g d i k + strideAt g d * (n - 1)) (crossSum g (viewIn l t) d n 0 i 0 k)
   box-reads b d n i k N I K =
       reads d n i k (le-trans N (b .fits d)) (le-trans I (b .fits (outerOf d))) (le-trans K (b .fits (innerOf d)))
 

@@ -9,7 +9,8 @@ use Rattle.basics.specs.Dimension.{choose}
 use Rattle.grid.specs.Grid.{placeOf, strideAt}
 use Rattle.table.specs.Cell.{View}
 use Rattle.table.specs.Sound.{limit, sound}
-use Rattle.table.specs.Table.{Table, viewOf, HasCell}
+use Rattle.table.specs.declared.layout.Layout.{Layout}
+use Rattle.table.specs.Layout.{TableIn, viewIn, CellIn}
 use Rattle.boxes.specs.declared.sides.Bounds.{Bounds}
 use Rattle.sums.specs.declared.box_sums.Stats.{Stats}
 use Rattle.boxes.specs.Box.{minAt, maxAt, lowSide, slabTo, Within}
@@ -45,9 +46,9 @@ walkOf g x d =
     }
 
 -- a place with its five numbers, and squares that f64 holds
-pub record HasRecord (w : Table) (p : ℕ) : Type 0 where
-  pub cell : HasCell w p
-  pub squares : viewOf w p 4 ≤ 2 ^ 53
+pub record HasRecord (l : Layout) (w : TableIn l) (p : ℕ) : Type 0 where
+  pub cell : CellIn l w p
+  pub squares : viewIn l w p 4 ≤ 2 ^ 53
 
 -- one record less another: weight and sums in whole numbers, the squares in f64
 unfoldable pub minusStats : Stats → Stats → Stats

@@ -1,21 +1,19 @@
 // The best position of a box in one dimension, from the moments.
 use crate::low_side::less;
-use crate::low_side::low_side_sums;
-use crate::low_side::sums_before;
+use crate::narrow_search::best_narrow;
 use crate::position::Position;
-use crate::position::later_wins;
 use crate::position::position_between;
 use crate::walk::walk_of;
+use crate::wide_search::best_wide;
 use boxes::sides::Bounds;
 use boxes::sides::end_bin;
 use boxes::sides::first_bin;
 use grid::place::Grid;
 use sums::box_sums::Stats;
-use sums::box_sums::stats_of;
-use table::cell::ZEROS;
+use table::layout::Layout;
 ghost use mathlib.Core.Path.{_≡_};
 ghost use Rattle.table.specs.Sound.{limit};
-ghost use Rattle.table.specs.Table.{viewOf};
+ghost use Rattle.table.specs.Layout.{laid, laidView};
 ghost use Rattle.boxes.specs.Box.{Within};
 ghost use Rattle.sums.specs.declared.source.Source.the-variants.{Moments};
 ghost use Rattle.sums.specs.Box.{statsOf};
@@ -25,8 +23,10 @@ ghost use Rattle.spread.specs.Inner.{Sided};
 
 // The position at a bin, from the records of the box and of its low side: the high side is the rest of the box. The
 // table is named by the contract alone.
-fn position_at(
-    table: &[u64],
+pub(crate) fn position_at(
+    layout: Layout,
+    small: &[u32],
+    large: &[u64],
     g: Grid,
     x: Bounds,
     dimension: u8,
@@ -34,47 +34,56 @@ fn position_at(
     all: Stats,
     low: Stats,
 ) -> Position
-    requires { ⌜ Sided g (viewOf (now table)) x dimension bin all low ⌝ }
-    ensures { λ r. ⌜ r ≡ positionAt g (viewOf (now (table .entry))) x dimension bin ⌝ }
+    requires { ⌜ Sided g (laidView layout (now small) (now large)) x dimension bin all low ⌝ }
+    ensures { λ r. ⌜ r ≡ positionAt g (laidView layout (now (small .entry)) (now (large .entry))) x dimension bin ⌝ }
 {
     let high = less(all, low);
     position_between(dimension, bin, low, high)
 }
 
-// The best position. The first bin gives what lies before the box, each other bin a position.
+// The best position, by the layout. A dimension of one bin has no position.
 pub(crate) fn best_by_moments(
-    table: &[u64],
-    work: &[u64],
+    layout: Layout,
+    small: &[u32],
+    large: &[u64],
+    smallwork: &[u32],
+    largework: &[u64],
     g: Grid,
     x: Bounds,
     dimension: u8,
     all: Stats,
 ) -> Position
-    requires { ⌜ CanSum limit Moments g (now table) (now work) × Within g x ⌝ }
-    requires { ⌜ all ≡ statsOf g (viewOf (now table)) x ⌝ }
-    ensures { λ r. ⌜ r ≡ bestIn g (viewOf (now (table .entry))) x dimension ⌝ }
+    requires { ⌜ CanSum layout limit Moments g (laid layout (now small) (now large))
+        (laid layout (now smallwork) (now largework)) × Within g x ⌝ }
+    requires { ⌜ all ≡ statsOf g (laidView layout (now small) (now large)) x ⌝ }
+    ensures { λ r. ⌜ r ≡ bestIn g (laidView layout (now (small .entry)) (now (large .entry))) x dimension ⌝ }
 {
-    let end = end_bin(x, dimension);
-    let first = first_bin(x, dimension);
-    if end - first == 1 {
+    if end_bin(x, dimension) - first_bin(x, dimension) == 1 {
         return Position::Nowhere;
     }
     let walk = walk_of(g, x, dimension);
-    let mut base = stats_of(ZEROS);
-    let mut best = Position::Nowhere;
-    let mut bin = first;
-    while bin < end {
-        let before = sums_before(table, work, g, x, dimension, walk, bin);
-        if bin == first {
-            base = before;
-        } else {
-            let low = low_side_sums(table, g, x, dimension, bin, before, base);
-            let later = position_at(table, g, x, dimension, bin, all, low);
-            if later_wins(best, later) {
-                best = later;
-            }
-        }
-        bin = bin + 1;
+    match layout {
+        Layout::Wide => best_wide(
+            small,
+            large,
+            smallwork,
+            largework,
+            g,
+            x,
+            dimension,
+            all,
+            walk,
+        ),
+        Layout::Narrow => best_narrow(
+            small,
+            large,
+            smallwork,
+            largework,
+            g,
+            x,
+            dimension,
+            all,
+            walk,
+        ),
     }
-    best
 }

@@ -1,7 +1,7 @@
 -- Laws of moments: how each comes from those before it, and that at a sound table none is large.
 -- Assumes nothing.
 use mathlib.Core.Path.{_≡_, refl, ap, _∙_}
-use Prim.Native.Nat.{ℕ, _+_, _^_, _≤_, _<_}
+use Prim.Native.Nat.{ℕ, _+_, _*_, _^_, _≤_, _<_}
 use native.Mathlib.Nat.{add-zero, zero-add}
 use native.Mathlib.Omega.{arith}
 use Rattle.grid.specs.declared.place.Grid.{Grid}
@@ -11,8 +11,8 @@ use Rattle.basics.specs.Dimension.{choose}
 use Rattle.basics.proofs.Range.{sum-zero}
 use Rattle.grid.proofs.Places.{bin-of-place}
 use Rattle.table.specs.Cell.{View}
-use Rattle.table.specs.Sound.{limit}
-use Rattle.table.proofs.Soundness.{Sound}
+use Rattle.table.specs.Sound.{limit, total}
+use Rattle.table.proofs.Soundness.{Sound, numbers-high}
 use Rattle.bins.specs.Sum.{sum3, binSum}
 use Rattle.sums.specs.Moments.{belowSum, momentsOf}
 use Rattle.sums.specs.Inner.{lineSum}
@@ -73,3 +73,10 @@ pub below-small : {g : Grid} {v : View} → Accepted g → Sound limit g v → (
 unfolding belowSum
 below-small {g} {v} a s r gr b j h k l m =
     omega (arith, runs-grow g v r gr b j h k l, all-bins g v j, all-small a s j m)
+
+-- and weight and sums are at most 255 times the total
+pub below-high : {most : ℕ} {g : Grid} {v : View} → Accepted g → Sound most g v → (r gr b j : ℕ) → r ≤ g .size1
+    → gr ≤ g .size2 → b ≤ g .size3 → j < 4 → belowSum g v r gr b j ≤ 255 * total g v
+unfolding belowSum
+below-high {g = g} {v} a s r gr b j h k l m =
+    omega (arith, runs-grow g v r gr b j h k l, all-bins g v j, numbers-high a s j m)

@@ -5,13 +5,14 @@ use Prim.Native.Nat.{ℕ, _+_, _-_, _^_, _≤_, _<_}
 use native.Mathlib.Omega.{arith}
 use lib.Dec.{lit<}
 use Rattle.grid.specs.declared.place.Grid.{Grid}
-use Rattle.grid.specs.Grid.{Inside, placeOf}
+use Rattle.grid.specs.Grid.{Inside, binsOf, placeOf}
 use Rattle.grid.proofs.Places.{place-lt}
 use Rattle.table.specs.declared.cell.Cell.{Cell}
 use Rattle.table.specs.Cell.{View, cellOf, numberOf, minusCell, AtLeast}
-use Rattle.table.specs.Table.{Table, viewOf, HasCell}
+use Rattle.table.specs.declared.layout.Layout.{Layout}
+use Rattle.table.specs.Layout.{TableIn, viewIn, CellIn}
 use Rattle.table.specs.Sound.{limit}
-use Rattle.table.proofs.Tables.{has-cell}
+use Rattle.table.proofs.Layouts.{cell-in}
 use Rattle.table.proofs.Cells.{number-cell, cell-by, Fields, cell-fields, minus-least, minus-is, zeroCell, zeros-cell}
 use Rattle.table.proofs.Soundness.{Sound}
 use Rattle.sums.specs.declared.box_sums.Stats.{Stats}
@@ -44,7 +45,7 @@ unfolding binCell
 zeros-are g v a n b m c k e = zeros-cell (binSum g v a n b m c k) e
 
 -- the work table at a corner
-module _ {g : Grid} {t w : Table} {r gr b : ℕ} (c : Corner g t w r gr b) where
+module _ {l : Layout} {g : Grid} {t w : TableIn l} {r gr b : ℕ} (c : Corner l g t w r gr b) where
   before : (n : ℕ) → 0 < n → (n - 1) + 1 ≡ n
   before n h = omega arith
 
@@ -57,35 +58,35 @@ module _ {g : Grid} {t w : Table} {r gr b : ℕ} (c : Corner g t w r gr b) where
         three = omega (arith, c .some-three, c .three);
       }
 
-  pub corner-cell : {p : ℕ} → p ≡ placeOf g (r - 1) (gr - 1) (b - 1) → HasCell w p
-  corner-cell {p} at = has-cell (c .can-sum .provided .work) p (omega (arith, place-lt corner-inside, at))
+  pub corner-cell : {p : ℕ} → p ≡ placeOf g (r - 1) (gr - 1) (b - 1) → CellIn l w p
+  corner-cell {p} at = cell-in l w (binsOf g) (c .can-sum .provided .work) p (omega (arith, place-lt corner-inside, at))
 
-  pub corner-number : {p : ℕ} → p ≡ placeOf g (r - 1) (gr - 1) (b - 1) → (j : ℕ) → j < 5 → viewOf w p j
-      ≡ binSum g (viewOf t) 0 r 0 gr 0 b j
+  pub corner-number : {p : ℕ} → p ≡ placeOf g (r - 1) (gr - 1) (b - 1) → (j : ℕ) → j < 5 → viewIn l w p j
+      ≡ binSum g (viewIn l t) 0 r 0 gr 0 b j
   unfolding belowSum
   corner-number at j m =
-      ap (λ (n : ℕ). viewOf w n j) at
+      ap (λ (n : ℕ). viewIn l w n j) at
       ∙ c .can-sum .provided .has-moments .at (placeOf g (r - 1) (gr - 1) (b - 1)) j (place-lt corner-inside) m
-      ∙ moments-at g (viewOf t) (r - 1) (gr - 1) (b - 1) j (corner-inside .two) (corner-inside .three)
-      ∙ (λ i. binSum g (viewOf t) 0 (before r (c .some-one) i) 0 (before gr (c .some-two) i) 0
+      ∙ moments-at g (viewIn l t) (r - 1) (gr - 1) (b - 1) j (corner-inside .two) (corner-inside .three)
+      ∙ (λ i. binSum g (viewIn l t) 0 (before r (c .some-one) i) 0 (before gr (c .some-two) i) 0
       (before b (c .some-three) i) j)
 
-  pub corner-is : {p : ℕ} → p ≡ placeOf g (r - 1) (gr - 1) (b - 1) → {x : Cell} → x ≡ cellOf (viewOf w p) → x
-      ≡ binCell g (viewOf t) 0 r 0 gr 0 b
+  pub corner-is : {p : ℕ} → p ≡ placeOf g (r - 1) (gr - 1) (b - 1) → {x : Cell} → x ≡ cellOf (viewIn l w p) → x
+      ≡ binCell g (viewIn l t) 0 r 0 gr 0 b
   unfolding binCell
   corner-is {p} at {x} e =
-      cell-by x (binCell g (viewOf t) 0 r 0 gr 0 b)
+      cell-by x (binCell g (viewIn l t) 0 r 0 gr 0 b)
       (λ j m.
       ap (λ (y : Cell). numberOf y j) e
-      ∙ number-cell (viewOf w p) j m
+      ∙ number-cell (viewIn l w p) j m
       ∙ corner-number at j m
-      ∙ sym (number-cell (binSum g (viewOf t) 0 r 0 gr 0 b) j m))
+      ∙ sym (number-cell (binSum g (viewIn l t) 0 r 0 gr 0 b) j m))
 
-  pub corner-squares : binSum g (viewOf t) 0 r 0 gr 0 b 4 ≤ 2 ^ 53
+  pub corner-squares : binSum g (viewIn l t) 0 r 0 gr 0 b 4 ≤ 2 ^ 53
   unfolding belowSum
   corner-squares =
       let h = c .can-sum in
-      let s : Sound limit g (viewOf t) = record { holds = h .is-sound } in
+      let s : Sound limit g (viewIn l t) = record { holds = h .is-sound } in
       omega (arith, below-small (h .table .accepted) s r gr b 4 (c .one) (c .two) (c .three) (lit< tt))
 
 -- ---- statistics of five numbers

@@ -6,7 +6,8 @@ use Rattle.grid.specs.declared.place.Grid.{Grid}
 use Rattle.grid.specs.Grid.{placeOf, Inside}
 use Rattle.table.specs.declared.cell.Cell.{Cell}
 use Rattle.table.specs.Cell.{View, numberOf, cellOf, plusCell, minusCell, AtLeast}
-use Rattle.table.specs.Table.{Table, viewOf, putAt}
+use Rattle.table.specs.declared.layout.Layout.{Layout}
+use Rattle.table.specs.Layout.{TableIn, viewIn, putIn}
 use Rattle.table.specs.Sound.{limit}
 use Rattle.bins.specs.Sum.{binSum}
 use Rattle.sums.specs.declared.source.Source.the-variants.{Moments}
@@ -35,22 +36,22 @@ pub record CanJoin (line above before corner : Cell) : Type 0 where
   pub fits : (j : ℕ) → j < 5 → numberOf line j + numberOf above j + (numberOf before j - numberOf corner j) < 2 ^ 64
 
 -- a work table with the moments at a place written
-unfoldable pub withMoment : Grid → View → Table → ℕ → Table
-withMoment g v w p = putAt w p (momentCell g v p)
+abbrev pub withMoment : (l : Layout) → Grid → View → TableIn l → ℕ → TableIn l
+withMoment l g v w p = putIn l w p (momentCell g v p)
 
 -- the two tables, and the work table holds the moments at the places before p
-pub record Before (g : Grid) (t w : Table) (p : ℕ) : Type 0 where
-  pub tables : ForMoments limit g t w
-  pub made : MomentsBefore g (viewOf t) (viewOf w) p
+pub record Before (l : Layout) (g : Grid) (t w : TableIn l) (p : ℕ) : Type 0 where
+  pub tables : ForMoments l g t w
+  pub made : MomentsBefore g (viewIn l t) (viewIn l w) p
 
 -- that, before a bin of the grid
-pub record Ready (g : Grid) (t w : Table) (r gr b : ℕ) : Type 0 where
+pub record Ready (l : Layout) (g : Grid) (t w : TableIn l) (r gr b : ℕ) : Type 0 where
   pub inside : Inside g r gr b
-  pub before : Before g t w (placeOf g r gr b)
+  pub before : Before l g t w (placeOf g r gr b)
 
 -- the work table holds the moments, and some bins of the grid end at r, gr and b, at least one in each dimension
-pub record Corner (g : Grid) (t w : Table) (r gr b : ℕ) : Type 0 where
-  pub can-sum : CanSum limit Moments g t w
+pub record Corner (l : Layout) (g : Grid) (t w : TableIn l) (r gr b : ℕ) : Type 0 where
+  pub can-sum : CanSum l limit Moments g t w
   pub some-one : 0 < r
   pub one : r ≤ g .size1
   pub some-two : 0 < gr

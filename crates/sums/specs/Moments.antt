@@ -5,8 +5,9 @@ use Prim.Native.Nat.{ℕ, _+_, _<_}
 use Rattle.grid.specs.declared.place.Grid.{Grid}
 use Rattle.grid.specs.Grid.{binsOf, binAt}
 use Rattle.table.specs.Cell.{View}
-use Rattle.table.specs.Table.{Table, Sized, viewOf, TableOf}
-use Rattle.table.specs.Sound.{sound}
+use Rattle.table.specs.declared.layout.Layout.{Layout}
+use Rattle.table.specs.Layout.{TableIn, SizedIn, viewIn, TableOfIn}
+use Rattle.table.specs.Sound.{limitOf, sound}
 use Rattle.bins.specs.Sum.{binSum}
 use Rattle.sums.specs.declared.source.Source.{Source}
 use Rattle.sums.specs.declared.source.Source.the-variants.{Moments, Bins}
@@ -27,24 +28,24 @@ pub record MomentsBefore (g : Grid) (v u : View) (p : ℕ) : Type 0 where
 abbrev pub HasMoments : Grid → View → View → Type 0
 HasMoments g v u = MomentsBefore g v u (binsOf g)
 
--- what the moments ask for: a table that is sound for a limit, and a work table of its size
-pub record ForMoments (most : ℕ) (g : Grid) (t w : Table) : Type 0 where
-  pub table : TableOf g t
-  pub is-sound : sound most g (viewOf t) ≡ true
-  pub work : Sized w (binsOf g)
+-- what the moments ask for: a table that is sound for its layout's limit, and a work table of its size
+pub record ForMoments (l : Layout) (g : Grid) (t w : TableIn l) : Type 0 where
+  pub table : TableOfIn l g t
+  pub is-sound : sound (limitOf l) g (viewIn l t) ≡ true
+  pub work : SizedIn l w (binsOf g)
 
 -- a work table of the grid that holds the moments of a table
-pub record Holds (g : Grid) (t w : Table) : Type 0 where
-  pub work : Sized w (binsOf g)
-  pub has-moments : HasMoments g (viewOf t) (viewOf w)
+pub record Holds (l : Layout) (g : Grid) (t w : TableIn l) : Type 0 where
+  pub work : SizedIn l w (binsOf g)
+  pub has-moments : HasMoments g (viewIn l t) (viewIn l w)
 
 -- what a source of sums asks of the work table: moments stand in it, and who adds up bins needs none
-abbrev pub Provides : Source → Grid → Table → Table → Type 0
-Provides Moments g t w = Holds g t w
-Provides Bins g t w = Unit {0}
+abbrev pub Provides : Source → (l : Layout) → Grid → TableIn l → TableIn l → Type 0
+Provides Moments l g t w = Holds l g t w
+Provides Bins l g t w = Unit {0}
 
 -- what the sum of a box asks for: a table that is sound for a limit, and what its source needs
-pub record CanSum (most : ℕ) (source : Source) (g : Grid) (t w : Table) : Type 0 where
-  pub table : TableOf g t
-  pub is-sound : sound most g (viewOf t) ≡ true
-  pub provided : Provides source g t w
+pub record CanSum (l : Layout) (most : ℕ) (source : Source) (g : Grid) (t w : TableIn l) : Type 0 where
+  pub table : TableOfIn l g t
+  pub is-sound : sound most g (viewIn l t) ≡ true
+  pub provided : Provides source l g t w

@@ -1,4 +1,6 @@
 // Moments of a table, and the sums of boxes, from them or from the bins.
 pub mod box_sums;
 pub mod moments;
+mod narrow_box;
 pub mod source;
+mod wide_box;

@@ -2,31 +2,29 @@
 -- Assumes nothing.
 use mathlib.Core.Path.{_≡_, refl, sym, ap, _∙_}
 use mathlib.Core.Bool.{Bool, true, false, true≢false, _&&_}
-use Prim.Native.Nat.{ℕ, zero, suc, _+_, _-_, _*_, _≤_, _<_}
-use native.Mathlib.Nat.{add-assoc, add-zero, zero-add, add-mul, one-mul, mul-le-mul}
+use Prim.Native.Nat.{ℕ, _+_, _-_, _*_, _≤_, _<_}
+use native.Mathlib.Nat.{add-assoc, add-zero, zero-add, add-mul, one-mul}
 use native.Mathlib.Omega.{arith}
 use borrow.Author.Tests.{le-leb, lt-leb, leb-true, leb-false}
 use lib.Dec.{leb}
 use Rattle.grid.specs.declared.place.Grid.{Grid}
-use Rattle.grid.specs.declared.dimension.Span.{Span}
 use Rattle.basics.specs.Range.{sumFrom, allFrom}
-use Rattle.grid.specs.Size.{spanOf, InSize}
+use Rattle.grid.specs.Size.{spanOf}
 use Rattle.grid.specs.Grid.{Accepted, Inside, shiftAt, binAt, binsOf, placeOf}
-use Rattle.basics.specs.Dimension.{choose}
 use Rattle.basics.proofs.Range.{sum-append, all-append, all-at, term-le, and-left, and-right, and-false}
-use Rattle.grid.proofs.Size.{in-size, span-byte}
-use Rattle.grid.proofs.Places.{one, two, three, place-lt, bin-of-place, place-along}
+use Rattle.grid.proofs.Places.{place-lt, bin-of-place, place-along}
 use Rattle.table.specs.declared.cell.Cell.{Cell}
 use Rattle.table.specs.declared.sound.SoundTotal.{SoundTotal}
 use Rattle.table.specs.declared.sound.SoundTotal.the-variants.{Total, Unsound}
 use Rattle.table.specs.Cell.{View, cellOf, numberOf}
-use Rattle.table.specs.Table.{Table, HasCell}
-use Rattle.table.specs.Sound.{limit, squaredSpan, plusSpan, inBounds, spanAt, binSound}
-use Rattle.table.specs.Sound.{total, sound, soundTotal, Row, SpanBelow, RowSpans}
+use Rattle.table.specs.declared.layout.Layout.{Layout}
+use Rattle.table.specs.Layout.{TableIn, CellIn}
+use Rattle.table.specs.Sound.{limit, inBounds, spanAt, binSound, total, sound, soundTotal, Row}
+use Rattle.table.specs.Spans.{spansOf}
 use Rattle.table.specs.Inner.{scanned}
 use Rattle.table.proofs.Cells.{number-cell}
 use Rattle.table.proofs.Soundness.{bounds-same}
-use Rattle.table.proofs.Tables.{has-cell}
+use Rattle.table.proofs.Layouts.{cell-of}
 use Rattle.table.proofs.Total.{cond-total, cond-unsound}
 
 module _ (most : ℕ) (g : Grid) (v : View) where
@@ -77,6 +75,16 @@ module _ (most : ℕ) (g : Grid) (v : View) where
           scan-over p n had (omega (arith, leb-false (v q 0) most l, term-le p n (λ k. v k 0) q a b))
       go true l true r d = absurd (true≢false (sym (all-at p n (binSound g v) r q a b) ∙ d))
       go true l false r d = rw r refl
+
+  -- which is so where it passes a larger one
+  pub scan-worse : {larger : ℕ} → most ≤ larger → (p n had q : ℕ) → p ≤ q → q < p + n
+      → (leb (v q 0) larger && binSound g v q) ≡ false → scanned most g v p n had ≡ Unsound
+  scan-worse {larger} h p n had q a b e = scan-bad p n had q a b (go (leb (v q 0) larger) refl e)
+    where
+      go : (w : Bool) → leb (v q 0) larger ≡ w → (w && binSound g v q) ≡ false
+          → (leb (v q 0) most && binSound g v q) ≡ false
+      go false l d = rw (lt-leb (v q 0) most (omega (arith, leb-false (v q 0) larger l))) refl
+      go true l d = rw (d, and-false (leb (v q 0) most)) refl
 
   -- from a run of bins to the next
   pub scan-more : (p n m had x : ℕ) → scanned most g v p n had ≡ Total x
@@ -132,90 +140,37 @@ module _ (most : ℕ) (g : Grid) (v : View) where
   scan-all = rw (zero-add (weights 0 (binsOf g))) refl
 
 -- ---- a row of bins
-chosen-span : (g : Grid) (r gr b d : ℕ)
-    → spanOf (shiftAt g d) (choose d r gr b)
-    ≡ choose d (spanOf (g .shift1) r) (spanOf (g .shift2) gr) (spanOf (g .shift3) b)
-unfolding shiftAt choose
-chosen-span g r gr b zero = refl
-chosen-span g r gr b (suc zero) = refl
-chosen-span g r gr b (suc (suc d)) = refl
-
-pub byte-span : {shift bin : ℕ} → InSize shift bin → {s : Span} → s ≡ spanOf shift bin → SpanBelow 255 s
-unfolding spanOf
-byte-span {shift} {bin} i e = rw e (record { low = omega arith; high = span-byte shift bin i })
-
-pub square-byte : (n : ℕ) → n ≤ 255 → n * n ≤ 65025
-square-byte n h = mul-le-mul {n₂ = 255} {m₂ = 255} h h
-
-pub low-byte : {s : Span} → SpanBelow 255 s → s .low ≤ 255
-low-byte b = omega (arith, b .low, b .high)
-
-pub wider : {few most : ℕ} {s : Span} → few ≤ most → SpanBelow few s → SpanBelow most s
-wider h b = record { low = b .low; high = omega (arith, h, b .high) }
-
--- the squares of a span of bytes, added to others
-pub with-below : {few : ℕ} {row s : Span} → SpanBelow few row → SpanBelow 255 s
-    → {all : Span} → all ≡ plusSpan row (squaredSpan s) → SpanBelow (few + 65025) all
-unfolding plusSpan squaredSpan
-with-below {few} {row} {s} r b e =
-    rw e (record {
-      low = omega (arith, r .low, mul-le-mul (b .low) (b .low));
-      high = omega (arith, r .high, square-byte (s .high) (b .high));
-    })
-
--- the squares of a row
-pub row-below : {s1 s2 row : Span} → RowSpans s1 s2 row → SpanBelow 130050 row
-unfolding squaredSpan
-row-below {s1} r =
-    with-below {few = 65025} (record {
-      low = mul-le-mul (r .one .low) (r .one .low);
-      high = square-byte (s1 .high) (r .one .high);
-    }) (r .two) (r .squares)
-
-module _ {most : ℕ} {g : Grid} {t : Table} {r gr had : ℕ} (row : Row most g t r gr had) where
+module _ {l : Layout} {g : Grid} {t : TableIn l} {r gr had : ℕ} (row : Row l g t r gr had) where
   sizes : Accepted g
   sizes = row .table .accepted
 
-  inside : (b : ℕ) → b < g .size3 → Inside g r gr b
+  pub inside : (b : ℕ) → b < g .size3 → Inside g r gr b
   inside b h = record { accepted = sizes; one = row .inside .one; two = row .inside .two; three = h }
 
   pub row-place : (b : ℕ) → b < g .size3 → {from : ℕ} → from ≡ placeOf g r gr 0 → from + b < binsOf g
   row-place b h e = rw (e, place-along g r gr b) (place-lt (inside b h))
 
-  pub row-cell : (b : ℕ) → b < g .size3 → {from : ℕ} → from ≡ placeOf g r gr 0 → HasCell t (from + b)
-  row-cell b h {from} e = has-cell (row .table .lent) (from + b) (row-place b h e)
+  pub row-cell : (b : ℕ) → b < g .size3 → {from : ℕ} → from ≡ placeOf g r gr 0 → CellIn l t (from + b)
+  row-cell b h {from} e = cell-of (row .table) (from + b) (row-place b h e)
 
-  pub row-one : InSize (g .shift1) r
-  row-one = in-size (one sizes) r (row .inside .one)
-
-  pub row-two : InSize (g .shift2) gr
-  row-two = in-size (two sizes) gr (row .inside .two)
-
-  pub row-three : (b : ℕ) → b < g .size3 → InSize (g .shift3) b
-  row-three b h = in-size (three sizes) b h
-
-  row-span : (b : ℕ) → b < g .size3 → (d : ℕ)
-      → choose d (spanOf (g .shift1) r) (spanOf (g .shift2) gr) (spanOf (g .shift3) b)
-      ≡ spanAt g (placeOf g r gr 0 + b) d
-  unfolding spanAt
+  row-span : (b : ℕ) → b < g .size3 → (d : ℕ) → spansOf g r gr b d ≡ spanAt g (placeOf g r gr 0 + b) d
+  unfolding spansOf spanAt
   row-span b h d =
       sym
       (ap (λ (p : ℕ). spanOf (shiftAt g d) (binAt g d p)) (place-along g r gr b)
-      ∙ ap (spanOf (shiftAt g d)) (bin-of-place g d r gr b (row .inside .two) h)
-      ∙ chosen-span g r gr b d)
+      ∙ ap (spanOf (shiftAt g d)) (bin-of-place g d r gr b (row .inside .two) h))
 
   -- the test of a cell of the row is that of its bin
   pub row-bin : (v : View) (b : ℕ) → b < g .size3 → {from : ℕ} → from ≡ placeOf g r gr 0
-      → {s1 s2 s3 : Span} → s1 ≡ spanOf (g .shift1) r → s2 ≡ spanOf (g .shift2) gr → s3 ≡ spanOf (g .shift3) b
       → {c : Cell} → c ≡ cellOf (v (from + b))
-      → {x : Bool} → x ≡ (leb (c .weight) limit && inBounds (λ d. choose d s1 s2 s3) (numberOf c))
+      → {x : Bool} → x ≡ (leb (c .weight) limit && inBounds (spansOf g r gr b) (numberOf c))
       → (leb (v (from + b) 0) limit && binSound g v (from + b)) ≡ x
   unfolding binSound cellOf
-  row-bin v b h {from} e e1 e2 e3 ec ex =
+  row-bin v b h {from} e ec ex =
       let p = from + b in
       sym
       (ex
-      ∙ (λ i. leb (ec i .weight) limit && inBounds (λ d. choose d (e1 i) (e2 i) (e3 i)) (numberOf (ec i)))
+      ∙ (λ i. leb (ec i .weight) limit && inBounds (spansOf g r gr b) (numberOf (ec i)))
       ∙ ap (λ (y : Bool). leb (v p 0) limit && y)
       ((λ i. inBounds (λ d. (row-span b h d ∙ ap (λ (q : ℕ). spanAt g (q + b) d) (sym e)) i) (numberOf (cellOf (v p))))
       ∙ bounds-same (spanAt g p) (numberOf (cellOf (v p))) (v p) (λ j k. number-cell (v p) j k)))

@@ -6,7 +6,7 @@ use Prim.Native.Nat.{ℕ, zero, suc, _+_, _*_, _^_, _≤_, _<_}
 use native.Mathlib.Nat.{add-mul, zero-mul, mul-le-mul, mul-le-mul-left, mul-comm, lt-trans}
 use native.Mathlib.Omega.{arith}
 use borrow.Author.Tests.{le-leb, lt-leb, leb-true}
-use lib.Dec.{leb, leb·zero, lit<}
+use lib.Dec.{leb, leb·zero, lit<, lit≤}
 use Rattle.grid.specs.declared.place.Grid.{Grid}
 use Rattle.grid.specs.declared.dimension.Span.{Span}
 use Rattle.basics.specs.Range.{sumFrom, allFrom}
@@ -18,9 +18,11 @@ use Rattle.basics.proofs.Range.{all-same}
 use Rattle.grid.proofs.Size.{in-size, span-byte}
 use Rattle.grid.proofs.Places.{sized-at, bin-at-below}
 use Rattle.table.specs.declared.cell.Cell.{Cell}
+use Rattle.table.specs.declared.layout.Layout.{Layout}
+use Rattle.table.specs.declared.layout.Layout.the-variants.{Wide, Narrow}
 use Rattle.table.specs.Cell.{View, zeros, numberOf}
 use Rattle.table.specs.Table.{Held}
-use Rattle.table.specs.Sound.{limit, between, squaredSpan, plusSpan, squaresSpan}
+use Rattle.table.specs.Sound.{limit, limitOf, between, squaredSpan, plusSpan, squaresSpan}
 use Rattle.table.specs.Sound.{inBounds, spanAt, binSound, total, sound}
 
 -- ---- the bounds of one bin, as facts
@@ -223,6 +225,20 @@ pub sound-wider : {few most : ℕ} {g : Grid} {v : View} → few ≤ most → So
 sound-wider {few} {most} {g} {v} l s =
     sound-by most g v (sound-keeps s) (omega (arith, total-high s))
 
+-- and below a total that is within both, sound for either
+pub sound-limit : {few most : ℕ} (g : Grid) (v : View) → total g v ≤ few → few ≤ most → sound few g v ≡ sound most g v
+unfolding sound
+sound-limit {few} {most} g v h k =
+    rw (le-leb (total g v) few h, le-leb (total g v) most (omega (arith, h, k))) refl
+
+-- no layout's limit is above the wide one's
+pub limit-high : (l : Layout) → limitOf l ≤ limit
+limit-high Wide = lit≤ tt
+limit-high Narrow = lit≤ tt
+
+pub sound-in : (l : Layout) {g : Grid} {v : View} → Sound (limitOf l) g v → Sound limit g v
+sound-in l s = sound-wider (limit-high l) s
+
 -- "all weights total": the total is the sum of the weights
 pub total-is : (g : Grid) (v : View) → total g v ≡ sumFrom 0 (binsOf g) (λ p. v p 0)
 unfolding total
@@ -281,3 +297,12 @@ components-high {most} {g} {v} a s d l =
     let each : sumFrom 0 (binsOf g) (λ p. v p (d + 1)) ≤ sumFrom 0 (binsOf g) (λ p. 255 * v p 0) =
     sum-le 0 (binsOf g) (λ p. v p (d + 1)) (λ p. 255 * v p 0) (λ p h k. sums-high a s p (omega arith) d l) in
     omega (arith, sum-scale 255 0 (binsOf g) (λ p. v p 0))
+
+-- and so are those of the weight
+pub numbers-high : {most : ℕ} {g : Grid} {v : View} → Accepted g → Sound most g v → (j : ℕ) → j < 4
+    → sumFrom 0 (binsOf g) (λ p. v p j) ≤ 255 * total g v
+numbers-high {g = g} {v} a s zero h = omega (arith, total-is g v)
+numbers-high a s (suc zero) h = components-high a s 0 (lit< tt)
+numbers-high a s (suc (suc zero)) h = components-high a s 1 (lit< tt)
+numbers-high a s (suc (suc (suc zero))) h = components-high a s 2 (lit< tt)
+numbers-high a s (suc (suc (suc (suc j)))) h = absurd (omega arith)

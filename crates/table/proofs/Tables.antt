@@ -2,20 +2,20 @@
 -- no inside of them.
 -- Assumes nothing.
 use mathlib.Core.Path.{_≡_, refl, sym, ap, _∙_}
-use mathlib.Core.Bool.{true, false, cond}
+use mathlib.Core.Bool.{true, false}
 use Prim.Native.Nat.{ℕ, zero, suc, _+_, _*_, _/_, _%_, _<_}
 use native.Mathlib.Nat.{add-zero}
-use native.Mathlib.Decide.{ℕ-discrete}
 use native.Mathlib.Omega.{arith}
 use borrow.Author.Tests.{eq-eqb, ne-eqb, eqb-true}
-use lib.Dec.{eqb}
 use lib.ListN.{length, getD, set, replicate, length-set, length-replicate, getD-replicate}
 use lib.Seq.{getD-set-same, getD-set-other}
 use Rattle.basics.proofs.Range.{length-list, list-at, list-is}
 use Rattle.table.specs.declared.cell.Cell.{Cell}
-use Rattle.table.specs.Cell.{View, zeros, numberOf, cellOf, plusCell}
+use Rattle.table.specs.declared.layout.Layout.{Layout}
+use Rattle.table.specs.declared.layout.Layout.the-variants.{Wide}
+use Rattle.table.specs.Cell.{View, zeros, numberOf}
+use Rattle.table.specs.Layout.{TableIn, SizedIn, viewIn}
 use Rattle.table.specs.Table.{Table, tableLen, Sized, isSized, viewOf, written, emptyOf, putAt, HasCell}
-use Rattle.table.proofs.Cells.{number-cell, number-plus}
 
 -- ---- size
 module _ {t : Table} {n : ℕ} where
@@ -64,9 +64,12 @@ unfolding viewOf
 view-at t p j = refl
 
 -- ---- a table of n bins holds a view
-pub record Holds (n : ℕ) (t : Table) (v : View) : Type 0 where
-  pub lent : Sized t n
-  pub at : (p j : ℕ) → p < n → j < 5 → viewOf t p j ≡ v p j
+pub record HoldsIn (l : Layout) (n : ℕ) (t : TableIn l) (v : View) : Type 0 where
+  pub lent : SizedIn l t n
+  pub at : (p j : ℕ) → p < n → j < 5 → viewIn l t p j ≡ v p j
+
+abbrev pub Holds : ℕ → Table → View → Type 0
+Holds n t v = HoldsIn Wide n t v
 
 pub list-holds : (n : ℕ) (v : View) → Holds n (written n v) v
 unfolding viewOf written tableLen
@@ -165,33 +168,3 @@ module _ (t : Table) (p : ℕ) (c : Cell) (has : HasCell t p) where
       ∙ past t2 (5 * p + 2) (c .sum2) (5 * q + j) (λ e. n (omega arith))
       ∙ past t1 (5 * p + 1) (c .sum1) (5 * q + j) (λ e. n (omega arith))
       ∙ past t (5 * p) (c .weight) (5 * q + j) (λ e. n (omega arith))
-
--- a table that holds a view, with a cell written at a place
-pub put-holds : {n : ℕ} {t : Table} {v : View} → Holds n t v → (p : ℕ) (c : Cell) → p < n
-    → Holds n (putAt t p c) (λ q j. cond (eqb p q) (numberOf c j) (v q j))
-put-holds {n} {t} {v} h p c b =
-    record { lent = put-sized (h .lent) p c; at = λ q j a k. go q j a k (ℕ-discrete p q) }
-  where
-    has : HasCell t p
-    has = has-cell (h .lent) p b
-
-    go : (q j : ℕ) → q < n → j < 5 → Dec (p ≡ q) → viewOf (putAt t p c) q j ≡ cond (eqb p q) (numberOf c j) (v q j)
-    go q j a k (yes e) = rw (eq-eqb p q e, ← e) (put-there t p c has j k)
-    go q j a k (no d) = rw (ne-eqb p q d) (put-elsewhere t p c has q j k d ∙ h .at q j a k)
-
--- and with a cell added at a place
-pub add-holds : {n : ℕ} {t : Table} {v : View} → Holds n t v → (p : ℕ) (c : Cell) → p < n
-    → Holds n (putAt t p (plusCell (cellOf (viewOf t p)) c)) (λ q j. v q j + cond (eqb p q) (numberOf c j) 0)
-add-holds {n} {t} {v} h p c b =
-    holds-same (put-holds h p (plusCell (cellOf (viewOf t p)) c) b) (λ q j a k. go q j a k (ℕ-discrete p q))
-  where
-    there : (j : ℕ) → j < 5 → numberOf (plusCell (cellOf (viewOf t p)) c) j ≡ v p j + numberOf c j
-    there j k =
-        number-plus (cellOf (viewOf t p)) c j k
-        ∙ ap (λ (x : ℕ). x + numberOf c j) (number-cell (viewOf t p) j k ∙ h .at p j b k)
-
-    go : (q j : ℕ) → q < n → j < 5 → Dec (p ≡ q)
-        → cond (eqb p q) (numberOf (plusCell (cellOf (viewOf t p)) c) j) (v q j)
-        ≡ v q j + cond (eqb p q) (numberOf c j) 0
-    go q j a k (yes e) = rw (eq-eqb p q e, ← e) (there j k)
-    go q j a k (no d) = rw (ne-eqb p q d) (sym (add-zero (v q j)))

@@ -1,6 +1,5 @@
 -- Sound tables (Rules, Sound), over a view and for any limit of the total. Definitions only.
 use mathlib.Core.Bool.{Bool, _&&_, cond}
-use mathlib.Core.Path.{_≡_}
 use mathlib.Core.List.{[], _∷_}
 use Prim.Native.Nat.{ℕ, _+_, _*_, _≤_}
 use lib.Dec.{leb}
@@ -13,11 +12,18 @@ use Rattle.grid.specs.Grid.{Inside, shiftAt, binAt, binsOf}
 use Rattle.table.specs.declared.sound.SoundTotal.{SoundTotal}
 use Rattle.table.specs.declared.sound.SoundTotal.the-variants.{Total, Unsound}
 use Rattle.table.specs.Cell.{View}
-use Rattle.table.specs.Table.{Table, TableOf}
+use Rattle.table.specs.declared.layout.Layout.{Layout}
+use Rattle.table.specs.declared.layout.Layout.the-variants.{Wide, Narrow}
+use Rattle.table.specs.Layout.{TableIn, TableOfIn}
 
 -- the largest total of a table in the wide layout
 abbrev pub limit : ℕ
 limit = 4294967295
+
+-- and in each layout: the narrow one "takes totals up to 16,843,008"
+abbrev pub limitOf : Layout → ℕ
+limitOf Wide = limit
+limitOf Narrow = 16843008
 
 -- the sum of n values of one bin "lies between n·low and n·high"
 unfoldable pub between : Span → ℕ → ℕ → Bool
@@ -70,19 +76,13 @@ abbrev pub unsoundNumber : ℕ
 unsoundNumber = soundAnswer Unsound .number
 
 -- ---- what is asked of who tests a bin, row by row
--- a row of bins in a table of a grid, with a total that is not past the limit
-pub record Row (most : ℕ) (g : Grid) (t : Table) (r gr had : ℕ) : Type 0 where
-  pub table : TableOf g t
+-- a row of bins in a table of a grid, with a total that is not past its layout's limit
+pub record Row (l : Layout) (g : Grid) (t : TableIn l) (r gr had : ℕ) : Type 0 where
+  pub table : TableOfIn l g t
   pub inside : Inside g r gr 0
-  pub under : had ≤ most
+  pub under : had ≤ limitOf l
 
 -- a span whose values are not above the most
 pub record SpanBelow (most : ℕ) (s : Span) : Type 0 where
   pub low : s .low ≤ s .high
   pub high : s .high ≤ most
-
--- the spans of a row's bins in the first two dimensions, and their squares added
-pub record RowSpans (s1 s2 row : Span) : Type 0 where
-  pub one : SpanBelow 255 s1
-  pub two : SpanBelow 255 s2
-  pub squares : row ≡ plusSpan (squaredSpan s1) (squaredSpan s2)

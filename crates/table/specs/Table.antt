@@ -5,9 +5,7 @@ use mathlib.Core.List.{List}
 use Prim.Native.Nat.{ℕ, _+_, _*_, _/_, _%_, _^_, _≤_, _<_}
 use lib.Dec.{eqb}
 use lib.ListN.{length, getD, set, replicate}
-use Rattle.grid.specs.declared.place.Grid.{Grid}
 use Rattle.basics.specs.Range.{listFrom}
-use Rattle.grid.specs.Grid.{Accepted, binsOf}
 use Rattle.table.specs.declared.cell.Cell.{Cell}
 use Rattle.table.specs.Cell.{View, numberOf}
 
@@ -52,8 +50,3 @@ pub record HasCell (t : Table) (p : ℕ) : Type 0 where
 -- a cell that is written fits its place: each number is a u64
 pub record Held (c : Cell) : Type 0 where
   pub fits : (j : ℕ) → j < 5 → numberOf c j < 2 ^ 64
-
--- a table of a grid, and the grid is accepted
-pub record TableOf (g : Grid) (t : Table) : Type 0 where
-  pub accepted : Accepted g
-  pub lent : Sized t (binsOf g)

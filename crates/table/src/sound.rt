@@ -1,25 +1,38 @@
 // Soundness: each bin keeps its bounds, and all weights total at most the limit.
 use crate::cell::Cell;
-use crate::layout::cell_at;
-use grid::dimension::Span;
-use grid::dimension::span_of;
+use crate::layout::Layout;
+use crate::rows::row_total;
+use crate::spans::RowSpans;
+use crate::spans::fill_spans;
 use grid::place::Grid;
-use grid::place::place;
 use std::num::wrapping_sub_u64;
 ghost use mathlib.Core.Path.{_≡_};
 ghost use mathlib.Core.Bool.{_&&_};
 ghost use Prim.Native.Nat.{_*_, _≤_};
 ghost use lib.Dec.{leb};
-ghost use Rattle.basics.specs.Dimension.{choose};
-ghost use Rattle.grid.specs.Grid.{placeOf};
+ghost use Rattle.grid.specs.Grid.{placeOf, Inside};
 ghost use Rattle.table.specs.Cell.{numberOf};
-ghost use Rattle.table.specs.Table.{viewOf, TableOf};
-ghost use Rattle.table.specs.Sound.{limit, between, squaredSpan, plusSpan, inBounds, soundTotal};
-ghost use Rattle.table.specs.Sound.{Row, SpanBelow, RowSpans};
+ghost use Rattle.table.specs.Table.{viewOf};
+ghost use Rattle.table.specs.Layout.{laid, laidView, TableOfIn, TableOf};
+ghost use Rattle.table.specs.Sound.{limit, limitOf, between, inBounds, soundTotal, Row, SpanBelow};
+ghost use Rattle.table.specs.Spans.{toldSpan, spansOf, rowSpans, SpanTable};
 ghost use Rattle.table.specs.Inner.{scanned};
 
-// The largest total of a table.
+// The largest total of a table in the wide layout.
 pub const LIMIT: u64 = 4294967295;
+
+// And in the narrow one.
+pub const NARROW_LIMIT: u64 = 16843008;
+
+// The largest total in a layout.
+pub fn limit_of(layout: Layout) -> u64
+    ensures { λ r. ⌜ r ≡ limitOf layout ⌝ }
+{
+    match layout {
+        Layout::Wide => LIMIT,
+        Layout::Narrow => NARROW_LIMIT,
+    }
+}
 
 // The total of a sound table, or that it is not sound.
 pub enum SoundTotal {
@@ -27,38 +40,26 @@ pub enum SoundTotal {
     Unsound,
 }
 
-// Whether the sum of n values lies in its bounds. A sum below n·low wraps to more than any difference of the bounds, so
-// that one comparison does for both.
-fn lies_between(s: Span, n: u64, sum: u64) -> bool
-    requires { ⌜ SpanBelow 195075 s × (n ≤ limit) ⌝ }
-    ensures { λ r. ⌜ r ≡ between s n sum ⌝ }
+// Whether the sum of n values lies in its bounds, by the span of the values. A sum below n·low wraps to more than any
+// difference of the bounds, so that one comparison does for both. Up to the narrow limit one multiplication gives both
+// bounds: n times a byte stays below 2^32.
+fn lies_between(span: u64, n: u64, sum: u64) -> bool
+    requires { ⌜ SpanBelow 255 (toldSpan span) × (n ≤ limit) ⌝ }
+    ensures { λ r. ⌜ r ≡ between (toldSpan span) n sum ⌝ }
 {
-    wrapping_sub_u64(sum, n * s.low) <= n * (s.high - s.low)
+    if n <= NARROW_LIMIT {
+        let both = n * span;
+        return wrapping_sub_u64(sum, both % 4294967296) <= both / 4294967296;
+    }
+    lies_far_between(span, n, sum)
 }
 
-// The squares of the first two spans, which a row has in common.
-pub fn row_squares(s1: Span, s2: Span) -> Span
-    requires { ⌜ SpanBelow 255 s1 × SpanBelow 255 s2 ⌝ }
-    ensures { λ r. ⌜ r ≡ plusSpan (squaredSpan s1) (squaredSpan s2) ⌝ }
+// The same of a span of squares too, and of any weight within the limit, by two multiplications.
+fn lies_far_between(span: u64, n: u64, sum: u64) -> bool
+    requires { ⌜ SpanBelow 195075 (toldSpan span) × (n ≤ limit) ⌝ }
+    ensures { λ r. ⌜ r ≡ between (toldSpan span) n sum ⌝ }
 {
-    Span {
-        low: s1.low * s1.low + s2.low * s2.low,
-        high: s1.high * s1.high + s2.high * s2.high,
-    }
-}
-
-// And those of the third added. The high end is told by what it has more than the low one, which grows by the same from
-// bin to bin, so that the compiler needs no multiplication for it.
-fn with_squares(row: Span, s3: Span) -> Span
-    requires { ⌜ SpanBelow 130050 row × SpanBelow 255 s3 ⌝ }
-    ensures { λ r. ⌜ r ≡ plusSpan row (squaredSpan s3) ⌝ }
-{
-    let low = row.low + s3.low * s3.low;
-    let more = (s3.high - s3.low) * (s3.high + s3.low);
-    Span {
-        low,
-        high: low + ((row.high - row.low) + more),
-    }
+    wrapping_sub_u64(sum, n * (span % 4294967296)) <= n * (span / 4294967296)
 }
 
 // Whether all but the weight are zeros.
@@ -77,11 +78,21 @@ fn is_bare(c: Cell) -> bool
     c.squares <= 0
 }
 
-// Whether a bin keeps its own bounds, with a weight that is not past the limit by itself. The squares of the first two
-// spans are those of its row.
-pub fn keeps_bounds(s1: Span, s2: Span, row: Span, s3: Span, c: Cell) -> bool
-    requires { ⌜ RowSpans s1 s2 row × SpanBelow 255 s3 ⌝ }
-    ensures { λ r. ⌜ r ≡ (leb (c .weight) limit && inBounds (λ d. choose d s1 s2 s3) (numberOf c)) ⌝ }
+// Whether a bin keeps its own bounds, with a weight that is not past the limit by itself: by the spans of its row and
+// those of the third dimension. The contract alone names the grid and the bin's row.
+pub fn keeps_bounds(
+    g: Grid,
+    row: RowSpans,
+    spans: &[u64; 256],
+    r: usize,
+    gr: usize,
+    b: usize,
+    c: Cell,
+) -> bool
+    requires inside { ⌜ Inside g r gr b ⌝ }
+    requires row { ⌜ row ≡ rowSpans g r gr ⌝ }
+    requires spans { ⌜ SpanTable g (now spans) ⌝ }
+    ensures { λ x. ⌜ x ≡ (leb (c .weight) limit && inBounds (spansOf g r gr b) (numberOf c)) ⌝ }
 {
     let n = c.weight;
     if n == 0 {
@@ -90,52 +101,39 @@ pub fn keeps_bounds(s1: Span, s2: Span, row: Span, s3: Span, c: Cell) -> bool
     if LIMIT < n {
         return false;
     }
-    if !lies_between(s1, n, c.sum1) {
+    if !lies_between(row.one, n, c.sum1) {
         return false;
     }
-    if !lies_between(s2, n, c.sum2) {
+    if !lies_between(row.two, n, c.sum2) {
         return false;
     }
-    if !lies_between(s3, n, c.sum3) {
+    let at = 2 * b;
+    if !lies_between(spans[at], n, c.sum3) {
         return false;
     }
-    lies_between(with_squares(row, s3), n, c.squares)
-}
-
-// The total with one row of bins.
-fn row_total(table: &[u64], g: Grid, r: usize, gr: usize, had: u64) -> SoundTotal
-    requires { ⌜ Row limit g (now table) r gr had ⌝ }
-    ensures { λ w. ⌜ w ≡ scanned limit g (viewOf (now (table .entry))) (placeOf g r gr 0) (g .size3) had ⌝ }
-{
-    let s1 = span_of(g.shift1, r);
-    let s2 = span_of(g.shift2, gr);
-    let row = row_squares(s1, s2);
-    let start = place(g, r, gr, 0);
-    let mut total = had;
-    let mut b = 0;
-    while b < g.size3 {
-        let c = cell_at(table, start + b);
-        if !keeps_bounds(s1, s2, row, span_of(g.shift3, b), c) {
-            return SoundTotal::Unsound;
-        }
-        total = total + c.weight;
-        b = b + 1;
-    }
-    if LIMIT < total {
-        return SoundTotal::Unsound;
-    }
-    SoundTotal::Total(total)
+    lies_far_between(row.squares + spans[at + 1], n, c.squares)
 }
 
 // The total with one plane of rows.
-fn plane_total(table: &[u64], g: Grid, r: usize, had: u64) -> SoundTotal
-    requires { ⌜ Row limit g (now table) r 0 had ⌝ }
-    ensures { λ w. ⌜ w ≡ scanned limit g (viewOf (now (table .entry))) (placeOf g r 0 0) (g .size2 * g .size3) had ⌝ }
+fn plane_total(
+    layout: Layout,
+    small: &[u32],
+    large: &[u64],
+    g: Grid,
+    spans: &[u64; 256],
+    r: usize,
+    had: u64,
+) -> SoundTotal
+    requires row { ⌜ Row layout g (laid layout (now small) (now large)) r 0 had ⌝ }
+    requires spans { ⌜ SpanTable g (now spans) ⌝ }
+    ensures { λ w. ⌜ w
+        ≡ scanned (limitOf layout) g (laidView layout (now (small .entry)) (now (large .entry)))
+        (placeOf g r 0 0) (g .size2 * g .size3) had ⌝ }
 {
     let mut total = had;
     let mut gr = 0;
     while gr < g.size2 {
-        match row_total(table, g, r, gr, total) {
+        match row_total(layout, small, large, g, spans, r, gr, total) {
             SoundTotal::Total(x) => total = x,
             SoundTotal::Unsound => return SoundTotal::Unsound,
         }
@@ -144,19 +142,31 @@ fn plane_total(table: &[u64], g: Grid, r: usize, had: u64) -> SoundTotal
     SoundTotal::Total(total)
 }
 
-// The total of a sound table, or that it is not sound.
-pub fn sound_total(table: &[u64], g: Grid) -> SoundTotal
-    requires { ⌜ TableOf g (now table) ⌝ }
-    ensures { λ w. ⌜ w ≡ soundTotal limit g (viewOf (now (table .entry))) ⌝ }
+// The total of a sound table, or that it is not sound, in either layout.
+pub fn total_in(layout: Layout, small: &[u32], large: &[u64], g: Grid) -> SoundTotal
+    requires { ⌜ TableOfIn layout g (laid layout (now small) (now large)) ⌝ }
+    ensures { λ w. ⌜ w
+        ≡ soundTotal (limitOf layout) g (laidView layout (now (small .entry)) (now (large .entry))) ⌝ }
 {
+    let mut spans = [0u64; 256];
+    fill_spans(&mut spans, g);
     let mut total = 0;
     let mut r = 0;
     while r < g.size1 {
-        match plane_total(table, g, r, total) {
+        match plane_total(layout, small, large, g, &spans, r, total) {
             SoundTotal::Total(x) => total = x,
             SoundTotal::Unsound => return SoundTotal::Unsound,
         }
         r = r + 1;
     }
     SoundTotal::Total(total)
+}
+
+// The same in the wide layout.
+pub fn sound_total(table: &[u64], g: Grid) -> SoundTotal
+    requires { ⌜ TableOf g (now table) ⌝ }
+    ensures { λ w. ⌜ w ≡ soundTotal limit g (viewOf (now (table .entry))) ⌝ }
+{
+    let none = [0u32; 0];
+    total_in(Layout::Wide, &none, table, g)
 }

@@ -1,10 +1,12 @@
 //! The port: the exported calls of the static library.
-use oracle::port::{Band, CutAnswer, Grid, Lent, Port, Recorded};
+use oracle::port::{Band, CutAnswer, Grid, Lent, Narrow, NarrowMut, Port, Recorded};
 use seluvava_sys::{
     CutAnswer as Answer, Session, SessionAnswer, seluvava_batch, seluvava_begin, seluvava_bins,
     seluvava_compare, seluvava_cut, seluvava_cut_slowly, seluvava_load, seluvava_load_ppm,
-    seluvava_map, seluvava_merge, seluvava_nearest, seluvava_paint, seluvava_ppm_header,
-    seluvava_reload, seluvava_replay, seluvava_rescue, seluvava_table_len,
+    seluvava_map, seluvava_merge, seluvava_narrow_cut, seluvava_narrow_cut_slowly,
+    seluvava_narrow_load, seluvava_narrow_merge, seluvava_nearest, seluvava_paint,
+    seluvava_ppm_header, seluvava_reload, seluvava_replay, seluvava_rescue, seluvava_table_len,
+    seluvava_widen,
 };
 use std::ptr;
 
@@ -35,6 +37,35 @@ fn cut_told(answer: Answer) -> CutAnswer {
         boxes: answer.boxes,
         rounds: answer.rounds,
     }
+}
+
+/// Makes the call of a cut: after k stand the lists that it reads and works in, and what every cut writes comes last.
+macro_rules! cut_by {
+    ($call: ident, $grid: ident, $k: ident, $lent: ident, $($read: expr),*; $($written: expr),*) => {{
+        let [b1, b2, b3] = $grid;
+        cut_told(unsafe {
+            $call(
+                b1,
+                b2,
+                b3,
+                $k,
+                $(start($read), $read.len(),)*
+                $(start_mut($written), $written.len(),)*
+                start_mut($lent.palette),
+                $lent.palette.len(),
+                start_mut($lent.counts),
+                $lent.counts.len(),
+                start_mut($lent.remainders),
+                $lent.remainders.len(),
+                start_mut($lent.map),
+                $lent.map.len(),
+                start_mut($lent.boxes),
+                $lent.boxes.len(),
+                start_mut($lent.spreads).cast(),
+                $lent.spreads.len(),
+            )
+        })
+    }};
 }
 
 pub struct Library;
@@ -209,61 +240,98 @@ impl Port for Library {
 
     fn cut(
         &self,
-        [b1, b2, b3]: Grid,
+        grid: Grid,
         k: usize,
         table: &[u64],
         work: &mut [u64],
         lent: Lent<'_>,
     ) -> CutAnswer {
-        cut_told(unsafe {
-            seluvava_cut(
-                b1,
-                b2,
-                b3,
-                k,
-                start(table),
-                table.len(),
-                start_mut(work),
-                work.len(),
-                start_mut(lent.palette),
-                lent.palette.len(),
-                start_mut(lent.counts),
-                lent.counts.len(),
-                start_mut(lent.remainders),
-                lent.remainders.len(),
-                start_mut(lent.map),
-                lent.map.len(),
-                start_mut(lent.boxes),
-                lent.boxes.len(),
-                start_mut(lent.spreads).cast(),
-                lent.spreads.len(),
-            )
-        })
+        cut_by!(seluvava_cut, grid, k, lent, table; work)
     }
 
-    fn cut_slowly(&self, [b1, b2, b3]: Grid, k: usize, table: &[u64], lent: Lent<'_>) -> CutAnswer {
-        cut_told(unsafe {
-            seluvava_cut_slowly(
+    fn cut_slowly(&self, grid: Grid, k: usize, table: &[u64], lent: Lent<'_>) -> CutAnswer {
+        cut_by!(seluvava_cut_slowly, grid, k, lent, table;)
+    }
+
+    fn narrow_load(
+        &self,
+        [b1, b2, b3]: Grid,
+        table: NarrowMut<'_>,
+        colours: &[u8],
+        weighted: bool,
+        weights: &[u32],
+    ) -> u8 {
+        unsafe {
+            seluvava_narrow_load(
                 b1,
                 b2,
                 b3,
-                k,
-                start(table),
-                table.len(),
-                start_mut(lent.palette),
-                lent.palette.len(),
-                start_mut(lent.counts),
-                lent.counts.len(),
-                start_mut(lent.remainders),
-                lent.remainders.len(),
-                start_mut(lent.map),
-                lent.map.len(),
-                start_mut(lent.boxes),
-                lent.boxes.len(),
-                start_mut(lent.spreads).cast(),
-                lent.spreads.len(),
+                start_mut(table.sums),
+                table.sums.len(),
+                start_mut(table.squares),
+                table.squares.len(),
+                start(colours),
+                colours.len(),
+                weighted,
+                start(weights),
+                weights.len(),
             )
-        })
+        }
+    }
+
+    fn narrow_merge(&self, [b1, b2, b3]: Grid, table: NarrowMut<'_>, second: Narrow<'_>) -> u8 {
+        unsafe {
+            seluvava_narrow_merge(
+                b1,
+                b2,
+                b3,
+                start_mut(table.sums),
+                table.sums.len(),
+                start_mut(table.squares),
+                table.squares.len(),
+                start(second.sums),
+                second.sums.len(),
+                start(second.squares),
+                second.squares.len(),
+            )
+        }
+    }
+
+    fn narrow_cut(
+        &self,
+        grid: Grid,
+        k: usize,
+        table: Narrow<'_>,
+        work: NarrowMut<'_>,
+        lent: Lent<'_>,
+    ) -> CutAnswer {
+        cut_by!(seluvava_narrow_cut, grid, k, lent, table.sums, table.squares; work.sums, work.squares)
+    }
+
+    fn narrow_cut_slowly(
+        &self,
+        grid: Grid,
+        k: usize,
+        table: Narrow<'_>,
+        lent: Lent<'_>,
+    ) -> CutAnswer {
+        cut_by!(seluvava_narrow_cut_slowly, grid, k, lent, table.sums, table.squares;)
+    }
+
+    fn widen(&self, [b1, b2, b3]: Grid, table: Narrow<'_>, wide: &mut [u64]) -> u8 {
+        unsafe {
+            seluvava_widen(
+                b1,
+                b2,
+                b3,
+                start(table.sums),
+                table.sums.len(),
+                start(table.squares),
+                table.squares.len(),
+                start_mut(wide),
+                wide.len(),
+            )
+        }
     }
 
     fn map(

@@ -1,7 +1,9 @@
 //! Makes the damages of a case.
 use crate::{
     case::{Case, Kind},
-    damage::{DAMAGES, Damage, OF_NIGHTS, OF_PPM, OF_RECORDINGS, OF_RESCUES, WITH_RESCUES},
+    damage::{
+        DAMAGES, Damage, OF_NARROW, OF_NIGHTS, OF_PPM, OF_RECORDINGS, OF_RESCUES, WITH_RESCUES,
+    },
     numbers::{added, place},
     random::Random,
 };
@@ -12,6 +14,7 @@ const HUGE: [i64; 6] = [1 << 32, (1 << 32) + 2, -1, -2, i64::MIN, i64::MAX];
 /// One damage to a case.
 pub fn one(case: &Case, r: &mut Random) -> Damage {
     let what = match case.kind {
+        Kind::Narrow { .. } => r.one_of(&OF_NARROW),
         Kind::Nights { .. } => r.one_of(&OF_NIGHTS),
         Kind::Rescues { .. } if r.once_in(16) => r.one_of(&WITH_RESCUES),
         Kind::Rescues { .. } => r.one_of(&OF_RESCUES),
@@ -107,9 +110,10 @@ fn number_place(case: &Case, r: &mut Random) -> usize {
 fn numbers_of(case: &Case, first: bool, bin: usize) -> [i64; 5] {
     let (from, split) = match case.kind {
         Kind::Whole { .. } | Kind::Palettes { .. } => return [0; 5],
-        Kind::Calls { split, .. } | Kind::Recordings { split, .. } | Kind::Ppm { split, .. } => {
-            (split, split)
-        }
+        Kind::Calls { split, .. }
+        | Kind::Narrow { split, .. }
+        | Kind::Recordings { split, .. }
+        | Kind::Ppm { split, .. } => (split, split),
         Kind::Nights { from, split, .. } => (from, split),
         Kind::Rescues { .. } => (0, case.input.colors.len()),
     };
@@ -141,6 +145,9 @@ fn change(case: &Case, first: bool, at: usize, r: &mut Random) -> i64 {
         (low, low + values - 1)
     };
     let new = match which {
+        0 if matches!(case.kind, Kind::Narrow { .. }) => {
+            r.one_of(&[0, 16_843_008, 16_843_009, 4_294_967_295])
+        }
         0 => r.one_of(&[0, 4_294_967_295, 4_294_967_296]),
         4 => {
             let squares =

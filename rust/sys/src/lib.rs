@@ -194,6 +194,97 @@ unsafe extern "C" {
         spreads_len: usize,
     ) -> CutAnswer;
 
+    pub fn seluvava_narrow_load(
+        b1: usize,
+        b2: usize,
+        b3: usize,
+        sums: *mut u32,
+        sums_len: usize,
+        squares: *mut u64,
+        squares_len: usize,
+        colours: *const u8,
+        colours_len: usize,
+        weighted: bool,
+        weights: *const u32,
+        weights_len: usize,
+    ) -> u8;
+
+    pub fn seluvava_narrow_merge(
+        b1: usize,
+        b2: usize,
+        b3: usize,
+        sums: *mut u32,
+        sums_len: usize,
+        squares: *mut u64,
+        squares_len: usize,
+        second_sums: *const u32,
+        second_sums_len: usize,
+        second_squares: *const u64,
+        second_squares_len: usize,
+    ) -> u8;
+
+    pub fn seluvava_narrow_cut(
+        b1: usize,
+        b2: usize,
+        b3: usize,
+        k: usize,
+        sums: *const u32,
+        sums_len: usize,
+        squares: *const u64,
+        squares_len: usize,
+        work_sums: *mut u32,
+        work_sums_len: usize,
+        work_squares: *mut u64,
+        work_squares_len: usize,
+        palette: *mut u8,
+        palette_len: usize,
+        counts: *mut u32,
+        counts_len: usize,
+        remainders: *mut u32,
+        remainders_len: usize,
+        map: *mut u8,
+        map_len: usize,
+        boxes: *mut u8,
+        boxes_len: usize,
+        spreads: *mut f64,
+        spreads_len: usize,
+    ) -> CutAnswer;
+
+    pub fn seluvava_narrow_cut_slowly(
+        b1: usize,
+        b2: usize,
+        b3: usize,
+        k: usize,
+        sums: *const u32,
+        sums_len: usize,
+        squares: *const u64,
+        squares_len: usize,
+        palette: *mut u8,
+        palette_len: usize,
+        counts: *mut u32,
+        counts_len: usize,
+        remainders: *mut u32,
+        remainders_len: usize,
+        map: *mut u8,
+        map_len: usize,
+        boxes: *mut u8,
+        boxes_len: usize,
+        spreads: *mut f64,
+        spreads_len: usize,
+    ) -> CutAnswer;
+
+    pub fn seluvava_widen(
+        b1: usize,
+        b2: usize,
+        b3: usize,
+        sums: *const u32,
+        sums_len: usize,
+        squares: *const u64,
+        squares_len: usize,
+        table: *mut u64,
+        table_len: usize,
+    ) -> u8;
+
     pub fn seluvava_map(
         b1: usize,
         b2: usize,

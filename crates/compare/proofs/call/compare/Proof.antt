@@ -12,7 +12,8 @@ use Rattle.grid.specs.declared.place.Grid.{Grid}
 use Rattle.grid.specs.Grid.{gridOf, Accepted, binsOf}
 use Rattle.grid.proofs.Places.{chose}
 use Rattle.table.specs.Sound.{limit, sound}
-use Rattle.table.specs.Table.{Table, TableOf, tableLen, viewOf}
+use Rattle.table.specs.Table.{Table, tableLen, viewOf}
+use Rattle.table.specs.Layout.{TableOf}
 use Rattle.table.proofs.Tables.{sized-by, not-sized-by}
 use Rattle.table.proofs.Total.{unsound-says, total-says}
 use Rattle.compare.proofs.Calls.{no-grid, first-length, second-length, list-length, first-unsound}

@@ -5,7 +5,7 @@ use mathlib.Core.Path.{ap, _∙_}
 use borrow.Author.Needs.{needs}
 use denote.Ref.{now}
 use lib.ListN.{set}
-use Rattle.table.specs.Table.{viewOf}
+use Rattle.table.specs.Layout.{laidView}
 use Rattle.table.specs.Sound.{limit}
 use Rattle.table.proofs.Soundness.{Sound}
 use Rattle.cutter.specs.Inner.{withColourAt, withThreeAt, Coloured}
@@ -13,7 +13,7 @@ use Rattle.cutter.proofs.Colours.{stats-colour, stats-count, stats-rema
 use Rattle.cutter.proofs.palette.put_result.Statement.{statement}
 use Rattle.cutter.proofs.palette.put_result.Tie as tie
 
-is-sound : (s : tie.Start) → Sound limit (s .args .g) (viewOf (now (s .args .table)))
+is-sound : (s : tie.Start) → Sound limit (s .args .g) (laidView (s .args .layout) (now (s .args .small)) (now (s .args .large)))
 is-sound s = record { holds = s .pre .0 .0 .is-sound }
 
 box-sum-requires : tie.Need-box-sum-requires
@@ -21,16 +21,16 @@ box-sum-requires c κs = search needs
 
 -- the statistics of the box give all three
 coloured : (k : tie.After-box-sum) → Coloured (k .box-sum .result)
-coloured k = let s = k .before .before .before .before .before .before in stats-coloured (is-sound s) (s .pre .0 .1) (k .box-sum .ensures)
+coloured k = let s = k .before .before .before .before .before .before .before .before in stats-coloured (is-sound s) (s .pre .0 .1) (k .box-sum .ensures)
 
 put-colour-requires : tie.Need-put-colour-requires
-put-colour-requires c κs = (coloured (c .before), c .before .before .before .before .before .before .before .pre .1 .0)
+put-colour-requires c κs = (coloured (c .before), c .before .before .before .before .before .before .before .before .before .pre .1 .0)
 
 put-count-requires : tie.Need-put-count-requires
-put-count-requires c κs = (c .before .before .before .before .before .before .before .before .before .before .before .pre .1 .1, coloured (c .before .before .before .before .before) .fits)
+put-count-requires c κs = (c .before .before .before .before .before .before .before .before .before .before .before .before .before .pre .1 .1, coloured (c .before .before .before .before .before) .fits)
 
 put-remainders-requires : tie.Need-put-remainders-requires
-put-remainders-requires c κs = (coloured (c .before .before .before .before .before .before .before .before .before), c .before .before .before .before .before .before .before .before .before .before .before .before .before .before .before .pre .1 .2)
+put-remainders-requires c κs = (coloured (c .before .before .before .before .before .before .before .before .before), c .before .before .before .before .before .before .before .before .before .before .before .before .before .before .before .before .before .pre .1 .2)
 
 same-length : tie.Need-same-length
 same-length c = search needs
@@ -43,8 +43,8 @@ same-length-3 c = search needs
 
 returns : tie.Need-returns
 returns c =
-    let s = c .before .before .before .before .before .before .before .before .before .before .before .before .before .before .before .before .before .before in
-    let v = viewOf (now (s .args .table)) in
+    let s = c .before .before .before .before .before .before .before .before .before .before .before .before .before .before .before .before .before .before .before .before in
+    let v = laidView (s .args .layout) (now (s .args .small)) (now (s .args .large)) in
     let sums = c .before .before .before .before .before .before .before .before .before .before .before .before .box-sum .ensures in (
       c .before .before .before .before .before .before .before .before .before .before .put-colour .ensures
           ∙ ap (withColourAt (now (s .args .palette)) (s .args .i)) (stats-colour (s .args .g) v (s .args .x) sums),

@@ -9,7 +9,7 @@ use native.Mathlib.Omega.{arith}
 use denote.Ref.{now}
 use lib.ListN.{length, take}
 use Rattle.table.specs.Cell.{View}
-use Rattle.table.specs.Table.{viewOf}
+use Rattle.table.specs.Layout.{laidView}
 use Rattle.boxes.specs.declared.sides.Bounds.{Bounds}
 use Rattle.boxes.specs.Box.{noBox}
 use Rattle.cutter.specs.Fronts.{putFrom}
@@ -24,17 +24,17 @@ use Rattle.cutter.proofs.results.put_results.Statement.{statement}
 use Rattle.cutter.proofs.results.put_results.Tie as tie
 
 abbrev Inv-loop : tie.InvT-loop
-Inv-loop table work source g palette₀ counts₀ remainders₀ places n i₀ palette counts remainders i =
+Inv-loop layout small large smallwork largework source g palette₀ counts₀ remainders₀ places n i₀ palette counts remainders i =
     let boxes = take i (listOf n places) in
-    (i ≤ n) × (palette ≡ paletteLater g (viewOf table) boxes palette₀)
-    × (counts ≡ countsLater g (viewOf table) boxes counts₀)
-    × (remainders ≡ remaindersLater g (viewOf table) boxes remainders₀)
+    (i ≤ n) × (palette ≡ paletteLater g (laidView layout small large) boxes palette₀)
+    × (counts ≡ countsLater g (laidView layout small large) boxes counts₀)
+    × (remainders ≡ remaindersLater g (laidView layout small large) boxes remainders₀)
 
 abbrev μ-loop : tie.MeasureT-loop
-μ-loop table work source g palette₀ counts₀ remainders₀ places n i₀ palette counts remainders i = n - i
+μ-loop layout small large smallwork largework source g palette₀ counts₀ remainders₀ places n i₀ palette counts remainders i = n - i
 
 abbrev view : tie.Start Inv-loop μ-loop → View
-view s = viewOf (now (s .args .table))
+view s = laidView (s .args .layout) (now (s .args .small)) (now (s .args .large))
 
 -- all boxes have room, and so have the first i
 module _ (s : tie.Start Inv-loop μ-loop) where
@@ -82,14 +82,14 @@ loop-holds c = (
 )
 
 mul-x : tie.Need-mul-x Inv-loop μ-loop
-mul-x c = omega (arith, c .loop-test .taken, c .before .before .before .before .before .before .before .before .pre .0 .1 .placed .few)
+mul-x c = omega (arith, c .loop-test .taken, c .before .before .before .before .before .before .before .before .before .before .pre .0 .1 .placed .few)
 
 array-copy-out-x : tie.Need-array-copy-out-x Inv-loop μ-loop
-array-copy-out-x c = omega (arith, c .loop-test .taken, c .before .before .before .before .before .before .before .before .pre .0 .1 .placed .few)
+array-copy-out-x c = omega (arith, c .loop-test .taken, c .before .before .before .before .before .before .before .before .before .before .pre .0 .1 .placed .few)
 
 put-result-requires : tie.Need-put-result-requires Inv-loop μ-loop
 put-result-requires c κs =
-    let s = c .before .before .before .before .before .before .before .before .before .before .before .before in
+    let s = c .before .before .before .before .before .before .before .before .before .before .before .before .before .before in
     let l = c .before .before .before .before .before .loop in
     let f = s .pre .0 .1 in
     let t : l .i < s .args .b .boxes = omega (arith, c .before .before .before .before .loop-test .taken) in (
@@ -106,7 +106,7 @@ put-result-requires c κs =
     )
 
 add-i : tie.Need-add-i Inv-loop μ-loop
-add-i c = omega (arith, c .before .before .before .before .before .before .before .before .before .before .before .loop-test .taken, c .before .before .before .before .before .before .before .before .before .before .before .before .before .before .before .before .before .before .before .pre .0 .1 .placed .few)
+add-i c = omega (arith, c .before .before .before .before .before .before .before .before .before .before .before .loop-test .taken, c .before .before .before .before .before .before .before .before .before .before .before .before .before .before .before .before .before .before .before .before .before .pre .0 .1 .placed .few)
 
 loop-less : tie.Need-loop-less Inv-loop μ-loop
 loop-less c = omega (arith, c .before .before .before .before .before .before .before .before .before .before .before .loop-test .taken)
@@ -114,7 +114,7 @@ loop-less c = omega (arith, c .before .before .before .before .before .before .b
 loop-again : tie.Need-loop-again Inv-loop μ-loop
 unfolding paletteLater countsLater remaindersLater withColourAt withThreeAt itsColour itsCount
 loop-again c =
-    let s = c .before .before .before .before .before .before .before .before .before .before .before .before .before .before .before .before .before .before .before in
+    let s = c .before .before .before .before .before .before .before .before .before .before .before .before .before .before .before .before .before .before .before .before .before in
     let l = c .before .before .before .before .before .before .before .before .before .before .before .before .loop in
     let f = s .pre .0 .1 in
     let t : l .i < s .args .b .boxes = omega (arith, c .before .before .before .before .before .before .before .before .before .before .before .loop-test .taken) in
@@ -135,17 +135,17 @@ loop-again c =
     )
 
 same-length : tie.Need-same-length Inv-loop μ-loop
-same-length c = let l = c .before .loop in ap length (l .inv .1) ∙ palette-long (c .before .before .before .before .before .before .before .before) (l .i) (l .inv .0)
+same-length c = let l = c .before .loop in ap length (l .inv .1) ∙ palette-long (c .before .before .before .before .before .before .before .before .before .before) (l .i) (l .inv .0)
 
 same-length-2 : tie.Need-same-length-2 Inv-loop μ-loop
-same-length-2 c = let l = c .before .loop in ap length (l .inv .2) ∙ counts-long (c .before .before .before .before .before .before .before .before) (l .i) (l .inv .0)
+same-length-2 c = let l = c .before .loop in ap length (l .inv .2) ∙ counts-long (c .before .before .before .before .before .before .before .before .before .before) (l .i) (l .inv .0)
 
 same-length-3 : tie.Need-same-length-3 Inv-loop μ-loop
-same-length-3 c = let l = c .before .loop in ap length (l .inv .3) ∙ remainders-long (c .before .before .before .before .before .before .before .before) (l .i) (l .inv .0)
+same-length-3 c = let l = c .before .loop in ap length (l .inv .3) ∙ remainders-long (c .before .before .before .before .before .before .before .before .before .before) (l .i) (l .inv .0)
 
 returns : tie.Need-returns Inv-loop μ-loop
 returns c =
-    let s = c .before .before .before .before .before .before .before .before in
+    let s = c .before .before .before .before .before .before .before .before .before .before in
     let l = c .before .loop in
     let all = take-listed (s .pre .0 .1 .placed) {i = l .i} (omega (arith, l .inv .0, c .loop-test .left)) in (
       l .inv .1 ∙ ap (λ (xs : List Bounds). paletteLater (s .args .g) (view s) xs (now (s .args .palette))) all,

@@ -2,6 +2,7 @@
 -- Assumes nothing.
 use mathlib.Core.Path.{ap, _∙_}
 use native.Mathlib.Omega.{arith}
+use Rattle.table.specs.declared.layout.Layout.the-variants.{Wide}
 use Rattle.cutter.proofs.RecordSize.{few}
 use borrow.Author.Needs.{needs}
 use Rattle.sums.specs.declared.source.Source.the-variants.{Moments}
@@ -50,7 +51,7 @@ slice-aggregate-listing-2 c = search needs
 listing-requires : tie.Need-listing-requires
 listing-requires c κs =
     let cut = c .before .before .before .before .before .before .before .before .before .before .cut in
-    let h = few Moments 16 (omega arith) (omega arith) _ 8 8 8 _ (cut .ensures .0) in
+    let h = few Wide Moments 16 (omega arith) (omega arith) _ 8 8 8 _ (cut .ensures .0) in
     search needs
 
 same-length-2 : tie.Need-same-length-2

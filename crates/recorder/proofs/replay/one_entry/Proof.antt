@@ -8,7 +8,7 @@ use borrow.Author.Needs.{needs}
 use denote.Ref.{now}
 use lib.ListN.{getD}
 use Rattle.table.specs.Sound.{limit}
-use Rattle.loader.specs.Add.{IsScale}
+use Rattle.adder.specs.Add.{IsScale}
 use Rattle.recorder.specs.Batch.{inForce}
 use Rattle.recorder.proofs.Sessions.{interval-says, force-passed}
 use Rattle.recorder.proofs.Steps.{ends-reload, ends-refused, ends-passed, ends-added}

@@ -9,11 +9,12 @@ use Rattle.grid.specs.declared.place.Grid.{Grid}
 use Rattle.grid.specs.declared.place.Chosen.the-variants as chosen
 use Rattle.grid.specs.Grid.{gridOf, Accepted}
 use Rattle.grid.proofs.Places.{chose}
-use Rattle.table.specs.Table.{TableOf, viewOf}
+use Rattle.table.specs.Table.{viewOf}
+use Rattle.table.specs.Layout.{TableOf}
 use Rattle.table.specs.Sound.{limit}
 use Rattle.table.proofs.Tables.{sized-by, not-sized-by}
 use Rattle.table.proofs.Total.{total-says, unsound-says}
-use Rattle.loader.specs.Add.{Known}
+use Rattle.adder.specs.Add.{Known}
 use Rattle.recorder.specs.Session.{isInterval}
 use Rattle.recorder.specs.Replay.{Recorded, recorded, lentFits}
 use Rattle.recorder.proofs.Sessions.{is-interval, no-interval}

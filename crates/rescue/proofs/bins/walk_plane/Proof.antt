@@ -13,18 +13,18 @@ use Rattle.rescue.proofs.bins.walk_plane.Statement.{statement}
 use Rattle.rescue.proofs.bins.walk_plane.Tie as tie
 
 abbrev Inv-loop : tie.InvT-loop
-Inv-loop g table₀ reasons₀ r had total₀ gr₀ table reasons total gr =
+Inv-loop g table₀ reasons₀ spans r had total₀ gr₀ table reasons total gr =
     (gr ≤ g .size2)
     × Onward limit g (placeOf g r 0 0) (placeOf g r gr 0) table₀ reasons₀ had table reasons total
 
 abbrev μ-loop : tie.MeasureT-loop
-μ-loop g table₀ reasons₀ r had total₀ gr₀ table reasons total gr = g .size2 - gr
+μ-loop g table₀ reasons₀ spans r had total₀ gr₀ table reasons total gr = g .size2 - gr
 
 loop-holds : tie.Need-loop-holds Inv-loop μ-loop
 loop-holds c =
     let s = c .before .before in (
       omega arith,
-      onward-none (placeOf (s .args .g) (s .args .r) 0 0) (s .pre .0 .table .lent) (s .pre .1) (s .pre .0 .under),
+      onward-none (placeOf (s .args .g) (s .args .r) 0 0) (s .pre .0 .table .lent) (s .pre .1 .0) (s .pre .0 .under),
     )
 
 walk-row-requires : tie.Need-walk-row-requires Inv-loop μ-loop
@@ -43,7 +43,7 @@ walk-row-requires c κs =
             };
         under = l .inv .1 .under;
       },
-      l .inv .1 .list,
+      (l .inv .1 .list, s .pre .1 .1),
     )
 
 add-gr : tie.Need-add-gr Inv-loop μ-loop
@@ -69,7 +69,7 @@ same-length c =
     c .before .before .loop .inv .1 .lent .numbers ∙ sym (s .pre .0 .table .lent .numbers)
 
 same-length-2 : tie.Need-same-length-2 Inv-loop μ-loop
-same-length-2 c = c .before .before .loop .inv .1 .list ∙ sym (c .before .before .before .before .before .pre .1)
+same-length-2 c = c .before .before .loop .inv .1 .list ∙ sym (c .before .before .before .before .before .pre .1 .0)
 
 returns : tie.Need-returns Inv-loop μ-loop
 returns c =

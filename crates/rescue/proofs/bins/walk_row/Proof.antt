@@ -11,7 +11,7 @@ use Rattle.table.specs.Cell.{View}
 use Rattle.table.specs.Table.{viewOf, HasCell}
 use Rattle.table.specs.Sound.{limit}
 use Rattle.table.proofs.Cells.{cell-fields}
-use Rattle.table.proofs.Scans.{row-place, row-one, row-two, row-three, row-bin, byte-span}
+use Rattle.table.proofs.Scans.{inside as in-row, row-place, row-bin}
 use Rattle.table.proofs.Tables.{has-cell}
 use Rattle.rescue.specs.Rescue.{keepsBounds, reasonFor}
 use Rattle.rescue.specs.Inner.{Onward}
@@ -20,40 +20,30 @@ use Rattle.rescue.proofs.bins.walk_row.Statement.{statement}
 use Rattle.rescue.proofs.bins.walk_row.Tie as tie
 
 abbrev Inv-loop : tie.InvT-loop
-Inv-loop g table₀ reasons₀ r gr had s1 s2 row start total₀ b₀ table reasons total b =
+Inv-loop g table₀ reasons₀ spans r gr had row start total₀ b₀ table reasons total b =
     (b ≤ g .size3)
     × Onward limit g start (start + b) table₀ reasons₀ had table reasons total
 
 abbrev μ-loop : tie.MeasureT-loop
-μ-loop g table₀ reasons₀ r gr had s1 s2 row start total₀ b₀ table reasons total b = g .size3 - b
+μ-loop g table₀ reasons₀ spans r gr had row start total₀ b₀ table reasons total b = g .size3 - b
 
-span-of-requires : tie.Need-span-of-requires Inv-loop μ-loop
-span-of-requires c κs = row-one (c .before .before .pre .0)
-
-span-of-requires-2 : tie.Need-span-of-requires-2 Inv-loop μ-loop
-span-of-requires-2 c κs = row-two (c .before .before .before .pre .0)
-
-row-squares-requires : tie.Need-row-squares-requires Inv-loop μ-loop
-row-squares-requires c κs =
-    let s = c .before .before .before .before in (
-      byte-span (row-one (s .pre .0)) (c .before .span-of .ensures),
-      byte-span (row-two (s .pre .0)) (c .span-of2 .ensures),
-    )
+row-spans-requires : tie.Need-row-spans-requires Inv-loop μ-loop
+row-spans-requires c κs = c .before .before .pre .0 .inside
 
 place-requires : tie.Need-place-requires Inv-loop μ-loop
-place-requires c κs = c .before .before .before .before .before .pre .0 .inside
+place-requires c κs = c .before .before .before .pre .0 .inside
 
 loop-holds : tie.Need-loop-holds Inv-loop μ-loop
 loop-holds c =
-    let s = c .before .before .before .before .before .before in (
+    let s = c .before .before .before .before in (
       omega arith,
       rw (add-zero (c .place .result))
-          (onward-none (c .place .result) (s .pre .0 .table .lent) (s .pre .1) (s .pre .0 .under)),
+          (onward-none (c .place .result) (s .pre .0 .table .lent) (s .pre .1 .0) (s .pre .0 .under)),
     )
 
 -- in the loop: on entry, the bin at hand, its place and what the table holds then
 abbrev entry : tie.Then1 Inv-loop μ-loop → tie.Start Inv-loop μ-loop
-entry t = t .before .before .before .before .before .before .before .before .before
+entry t = t .before .before .before .before .before .before .before
 
 abbrev bin : tie.Then1 Inv-loop μ-loop → ℕ
 bin t = t .before .before .loop .b
@@ -76,31 +66,22 @@ add-p c = omega (arith, inside c, bins-high (entry c .pre .0 .table .accepted))
 cell-at-requires : tie.Need-cell-at-requires Inv-loop μ-loop
 cell-at-requires c κs = has (c .before)
 
-span-of-requires-3 : tie.Need-span-of-requires-3 Inv-loop μ-loop
-span-of-requires-3 c κs = let t = c .before .before in row-three (entry t .pre .0) (bin t) (t .if1 .taken)
-
 keeps-bounds-requires : tie.Need-keeps-bounds-requires Inv-loop μ-loop
 keeps-bounds-requires c κs =
-    let t = c .before .before .before in
-    let row = entry t .pre .0 in (
-      record {
-        one = byte-span (row-one row) (t .before .before .before .before .before .before .span-of .ensures);
-        two = byte-span (row-two row) (t .before .before .before .before .before .span-of2 .ensures);
-        squares = t .before .before .before .before .row-squares .ensures;
-      },
-      byte-span (row-three row (bin t) (t .if1 .taken)) (c .span-of3 .ensures),
-    )
+    let t = c .before .before in
+    let s = entry t in
+    (in-row (s .pre .0) (bin t) (t .if1 .taken), (t .before .before .before .before .row-spans .ensures, s .pre .1 .1))
 
 reason-requires : tie.Need-reason-requires Inv-loop μ-loop
-reason-requires c κs = c .before .before .before .before .before .before .loop .inv .1 .under
+reason-requires c κs = c .before .before .before .before .before .loop .inv .1 .under
 
 -- once the reason is known: the bin that it is of
 abbrev of-bin : tie.After-reason Inv-loop μ-loop → tie.Then1 Inv-loop μ-loop
-of-bin k = k .before .before .before .before .before
+of-bin k = k .before .before .before .before
 
 weighs : (k : tie.After-reason Inv-loop μ-loop)
-    → k .before .before .before .cell-at .result .weight ≡ view (of-bin k) (here (of-bin k)) 0
-weighs k = let t = of-bin k in cell-fields (view t (here t)) (k .before .before .before .cell-at .ensures) .weight
+    → k .before .before .cell-at .result .weight ≡ view (of-bin k) (here (of-bin k)) 0
+weighs k = let t = of-bin k in cell-fields (view t (here t)) (k .before .before .cell-at .ensures) .weight
 
 keeps : (k : tie.After-reason Inv-loop μ-loop)
     → let t = of-bin k in
@@ -108,9 +89,8 @@ keeps : (k : tie.After-reason Inv-loop μ-loop)
 unfolding keepsBounds
 keeps k =
     let t = of-bin k in
-    row-bin (entry t .pre .0) (view t) (bin t) (t .if1 .taken) (t .before .before .before .place .ensures) (t .before .before .before .before .before .before .span-of .ensures)
-    (t .before .before .before .before .before .span-of2 .ensures) (k .before .before .span-of3 .ensures) (k .before .before .before .cell-at .ensures)
-    (k .before .keeps-bounds .ensures)
+    row-bin (entry t .pre .0) (view t) (bin t) (t .if1 .taken) (t .before .before .before .place .ensures)
+    (k .before .before .cell-at .ensures) (k .before .keeps-bounds .ensures)
 
 due : (k : tie.After-reason Inv-loop μ-loop)
     → let t = of-bin k in
@@ -130,7 +110,7 @@ with-weight-requires : tie.Need-with-weight-requires Inv-loop μ-loop
 with-weight-requires c κs =
     let k = c .before .before .before .before in
     let l = of-bin k .before .before .loop in
-    reason-room limit (k .before .keeps-bounds .result) (l .total) (k .before .before .before .cell-at .result .weight) (l .inv .1 .under)
+    reason-room limit (k .before .keeps-bounds .result) (l .total) (k .before .before .cell-at .result .weight) (l .inv .1 .under)
     (k .reason .ensures)
 
 add-b : tie.Need-add-b Inv-loop μ-loop
@@ -153,17 +133,17 @@ loop-again c =
 
 same-length : tie.Need-same-length Inv-loop μ-loop
 same-length c =
-    let s = c .before .before .before .before .before .before .before .before .before in
+    let s = c .before .before .before .before .before .before .before in
     c .before .before .loop .inv .1 .lent .numbers ∙ sym (s .pre .0 .table .lent .numbers)
 
 same-length-2 : tie.Need-same-length-2 Inv-loop μ-loop
 same-length-2 c =
-    let s = c .before .before .before .before .before .before .before .before .before in
-    c .before .before .loop .inv .1 .list ∙ sym (s .pre .1)
+    let s = c .before .before .before .before .before .before .before in
+    c .before .before .loop .inv .1 .list ∙ sym (s .pre .1 .0)
 
 returns : tie.Need-returns Inv-loop μ-loop
 returns c =
-    let s = c .before .before .before .before .before .before .before .before .before in
+    let s = c .before .before .before .before .before .before .before in
     let l = c .before .before .loop in
     let start = c .before .before .before .place .ensures in
     let all : l .b ≡ s .args .g .size3 = omega arith in
@@ -176,14 +156,11 @@ walk-row-spec =
     (tie.spec
     Inv-loop
     μ-loop
-    span-of-requires
-    span-of-requires-2
-    row-squares-requires
+    row-spans-requires
     place-requires
     loop-holds
     add-p
     cell-at-requires
-    span-of-requires-3
     keeps-bounds-requires
     reason-requires
     slice-write-reasons

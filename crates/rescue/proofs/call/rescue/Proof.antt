@@ -7,7 +7,7 @@ use Rattle.grid.specs.declared.place.Chosen.the-variants as chosen
 use Rattle.grid.specs.declared.place.Grid.{Grid}
 use Rattle.grid.specs.Grid.{gridOf, Accepted, binsOf}
 use Rattle.grid.proofs.Places.{chose}
-use Rattle.table.specs.Table.{TableOf}
+use Rattle.table.specs.Layout.{TableOf}
 use Rattle.table.proofs.Tables.{sized-by, not-sized-by}
 use Rattle.rescue.proofs.Calls.{no-grid, table-length, list-length, all-done}
 use borrow.Author.Needs.{needs}

@@ -5,7 +5,7 @@ use mathlib.Core.Path.{refl, ap, _∙_}
 use borrow.Author.Needs.{needs}
 use denote.Ref.{now}
 use lib.Ieee.{ofBits, div}
-use Rattle.table.specs.Table.{viewOf}
+use Rattle.table.specs.Layout.{laidView}
 use Rattle.boxes.specs.Bytes.{packOf}
 use Rattle.rounds.specs.Loop.{placesOf, boxesOf}
 use Rattle.boxes.proofs.Packing.{within-bytes}
@@ -19,11 +19,11 @@ array-write-spreads : tie.Need-array-write-spreads
 array-write-spreads c = search needs
 
 whole-requires : tie.Need-whole-requires
-whole-requires c κs = c .before .before .pre .0 .table .accepted
+whole-requires c κs = c .before .before .before .before .pre .0 .table .accepted
 
 packed-requires : tie.Need-packed-requires
 packed-requires c κs =
-    rw (c .whole .ensures) (within-bytes (whole-within (c .before .before .before .pre .0 .table .accepted)))
+    rw (c .whole .ensures) (within-bytes (whole-within (c .before .before .before .before .before .pre .0 .table .accepted)))
 
 array-write-boxes : tie.Need-array-write-boxes
 array-write-boxes c = search needs
@@ -31,7 +31,7 @@ array-write-boxes c = search needs
 all-rounds-requires : tie.Need-all-rounds-requires
 unfolding ofBits div
 all-rounds-requires c κs =
-    let s = c .before .before .before .before .before .before in (
+    let s = c .before .before .before .before .before .before .before .before in (
       s .pre,
       (
         record { spreads-long = refl; boxes-long = refl },
@@ -43,10 +43,10 @@ all-rounds-requires c κs =
 
 gathered-requires : tie.Need-gathered-requires
 gathered-requires c κs =
-    let s = c .before .before .before .before .before .before .before .before .before in (
+    let s = c .before .before .before .before .before .before .before .before .before .before .before in (
       c .before .before .all-rounds .ensures .1 .1 .1,
       rw (c .before .before .all-rounds .ensures .0)
-          (heap-in-use (s .args .g) (viewOf (now (s .args .table))) (s .args .k) (s .pre .1) .most),
+          (heap-in-use (s .args .g) (laidView (s .args .layout) (now (s .args .small)) (now (s .args .large))) (s .args .k) (s .pre .1) .most),
     )
 
 returns : tie.Need-returns

@@ -4,7 +4,7 @@ use mathlib.Core.Path.{ap, _∙_}
 use borrow.Author.Needs.{needs}
 use denote.Ref.{now}
 use lib.Ieee.{Float}
-use Rattle.table.specs.Table.{viewOf}
+use Rattle.table.specs.Layout.{laidView}
 use Rattle.spread.specs.Spread.{spreadOf}
 use Rattle.spread.proofs.Choose.{plain-stats}
 use Rattle.heap.specs.Heap.{putIn}
@@ -20,21 +20,21 @@ box-sum-requires c κs = search needs
 
 spread-requires : tie.Need-spread-requires
 spread-requires c κs =
-    let s = c .before .before .before in (
+    let s = c .before .before .before .before .before in (
       within-ordered (s .pre .0 .1),
-      plain-stats {v = viewOf (now (s .args .table))}
+      plain-stats {v = laidView (s .args .layout) (now (s .args .small)) (now (s .args .large))}
           (record { holds = s .pre .0 .0 .is-sound }) (s .pre .0 .1) (c .box-sum .ensures),
     )
 
 put-box-requires : tie.Need-put-box-requires
 put-box-requires c κs =
-    let s = c .before .before .before .before .before .before in
+    let s = c .before .before .before .before .before .before .before .before in
     (s .pre .1 .0, s .pre .1 .1, within-bytes (s .pre .0 .1))
 
 returns : tie.Need-returns
 unfolding withSpread
 returns c =
-    let s = c .before .before .before .before .before .before .before in (
+    let s = c .before .before .before .before .before .before .before .before .before in (
       c .put-box .ensures .0
           ∙ ap (λ (v : Float). putIn bySpread noItem (roomIn (now (s .args .spreads)) (now (s .args .boxes)))
           (s .args .len) (record { spread = v; bounds = s .args .x }))

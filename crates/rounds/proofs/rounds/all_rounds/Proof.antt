@@ -8,7 +8,7 @@ use borrow.Author.Needs.{needs}
 use borrow.Author.Tests.{not-true, not-false}
 use denote.Ref.{now}
 use lib.Ieee.{ofBits, lt}
-use Rattle.table.specs.Table.{viewOf}
+use Rattle.table.specs.Layout.{laidView}
 use Rattle.spread.specs.Spread.{zeroOf}
 use Rattle.heap.specs.Heap.{item}
 use Rattle.heap.specs.TwoArrays.{TwoArrays}
@@ -23,17 +23,17 @@ use Rattle.rounds.proofs.rounds.all_rounds.Statement.{statement}
 use Rattle.rounds.proofs.rounds.all_rounds.Tie as tie
 
 abbrev Inv-loop : tie.InvT-loop
-Inv-loop table work source g k spreads₀ boxes₀ len₀ rounds₀ spreads boxes len rounds =
+Inv-loop layout small large smallwork largework source g k spreads₀ boxes₀ len₀ rounds₀ spreads boxes len rounds =
     TwoArrays spreads boxes
     × Each (OfGrid g) (roomIn spreads boxes) len
-    × ToCome g (viewOf table) k (roomIn spreads boxes) len rounds
+    × ToCome g (laidView layout small large) k (roomIn spreads boxes) len rounds
 
 abbrev μ-loop : tie.MeasureT-loop
-μ-loop table work source g k spreads₀ boxes₀ len₀ rounds₀ spreads boxes len rounds = need k (roomIn spreads boxes) len
+μ-loop layout small large smallwork largework source g k spreads₀ boxes₀ len₀ rounds₀ spreads boxes len rounds = need k (roomIn spreads boxes) len
 
 loop-holds : tie.Need-loop-holds Inv-loop μ-loop
 loop-holds c =
-    let s = c .before .before in (
+    let s = c .before .before .before .before in (
       s .pre .1 .0,
       rw (s .pre .1 .1) (start-each (s .args .g) (whole-within (s .pre .0 .0 .table .accepted))),
       come-start (s .pre .1 .1),
@@ -44,7 +44,7 @@ element-copy-out-more c = search needs
 
 round-requires : tie.Need-round-requires Inv-loop μ-loop
 round-requires c κs =
-    let s = c .before .before .before .before .before .before .before in
+    let s = c .before .before .before .before .before .before .before .before .before in
     let l = c .before .before .before .before .loop in (
       s .pre .0 .0,
       (
@@ -59,7 +59,7 @@ round-requires c κs =
 
 add-rounds : tie.Need-add-rounds Inv-loop μ-loop
 add-rounds c =
-    let s = c .before .before .before .before .before .before .before .before in
+    let s = c .before .before .before .before .before .before .before .before .before .before in
     let l = c .before .before .before .before .before .loop in
     omega (arith, come-few (l .inv .2) (c .before .before .before .before .loop-test .taken), s .pre .0 .1)
 
@@ -75,25 +75,25 @@ returns c =
 loop-less : tie.Need-loop-less Inv-loop μ-loop
 unfolding ofBits
 loop-less c =
-    let s = c .before .before .before .before .before .before .before .before .before in
+    let s = c .before .before .before .before .before .before .before .before .before .before .before in
     let l = c .before .before .before .before .before .before .loop in
     let e = c .before .round .ensures in
     rw (e .0, e .1 .0)
-    (need-less (s .args .g) (viewOf (now (s .args .table))) (s .args .k) (s .pre .0 .1) (roomIn (l .spreads) (l .boxes))
+    (need-less (s .args .g) (laidView (s .args .layout) (now (s .args .small)) (now (s .args .large))) (s .args .k) (s .pre .0 .1) (roomIn (l .spreads) (l .boxes))
     (l .len) (l .inv .1 .in-use) (c .before .before .before .before .before .loop-test .taken)
     (ap (lt zeroOf) (room-in-spread (l .inv .0) 0) ∙ not-false _ (c .if1 .left)))
 
 loop-again : tie.Need-loop-again Inv-loop μ-loop
 unfolding ofBits
 loop-again c =
-    let s = c .before .before .before .before .before .before .before .before .before in
+    let s = c .before .before .before .before .before .before .before .before .before .before .before in
     let l = c .before .before .before .before .before .before .loop in
     let e = c .before .round .ensures in
     let on : lt zeroOf (item noItem (roomIn (l .spreads) (l .boxes)) 0 .spread)
     ≡ true = ap (lt zeroOf) (room-in-spread (l .inv .0) 0) ∙ not-false _ (c .if1 .left) in (
       e .1 .1,
       rw (e .0, e .1 .0)
-          (each-round (of-grid-kept (s .args .g) (viewOf (now (s .args .table)))) (l .inv .1)
+          (each-round (of-grid-kept (s .args .g) (laidView (s .args .layout) (now (s .args .small)) (now (s .args .large)))) (l .inv .1)
           (omega (arith, c .before .before .before .before .before .loop-test .taken, s .pre .0 .1))),
       rw (e .0, e .1 .0)
           (come-round (l .inv .2) (c .before .before .before .before .before .loop-test .taken) (s .pre .0 .1)

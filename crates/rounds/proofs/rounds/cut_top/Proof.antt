@@ -8,7 +8,7 @@ use borrow.Author.Needs.{needs}
 use denote.Ref.{now}
 use lib.Ieee.{ofBits}
 use Rattle.table.specs.Cell.{View}
-use Rattle.table.specs.Table.{viewOf}
+use Rattle.table.specs.Layout.{laidView}
 use Rattle.boxes.specs.declared.sides.Bounds.{Bounds}
 use Rattle.boxes.specs.Box.{Within}
 use Rattle.spread.specs.declared.position.Position.the-variants.{Nowhere}
@@ -23,7 +23,7 @@ use Rattle.rounds.proofs.rounds.cut_top.Statement.{statement}
 use Rattle.rounds.proofs.rounds.cut_top.Tie as tie
 
 abbrev view : tie.Start → View
-view s = viewOf (now (s .args .table))
+view s = laidView (s .args .layout) (now (s .args .small)) (now (s .args .large))
 
 abbrev before : tie.Start → List BoxSpread
 before s = roomIn (now (s .args .spreads)) (now (s .args .boxes))
@@ -39,7 +39,7 @@ enum-told c = search needs
 
 put-box-requires : tie.Need-put-box-requires
 put-box-requires c κs =
-    let s = c .before .before .before .before .before .before .before in
+    let s = c .before .before .before .before .before .before .before .before .before in
     (s .pre .1 .0, omega (arith, s .pre .1 .1), within-bytes (s .pre .0 .1))
 
 add-result : tie.Need-add-result
@@ -48,7 +48,7 @@ add-result c = search needs
 returns : tie.Need-returns
 unfolding ofBits
 returns c =
-    let s = c .before .before .before .before .before .before .before .before in
+    let s = c .before .before .before .before .before .before .before .before .before .before in
     let q : bestCut (s .args .g) (view s) (s .args .x)
     ≡ Nowhere = sym (c .before .before .before .before .before .best-cut .ensures)
     ∙ c .before .before .before .enum-told .given .1 in (
@@ -67,7 +67,7 @@ high-side-requires c κs = search needs
 
 put-with-spread-requires : tie.Need-put-with-spread-requires
 put-with-spread-requires c κs =
-    let s = c .before .before .before .before .before .before .before .before .before .before in (
+    let s = c .before .before .before .before .before .before .before .before .before .before .before .before in (
       (
         s .pre .0 .0,
         subst (Within (s .args .g)) (sym (c .before .before .before .low-side .ensures))
@@ -83,15 +83,13 @@ add-put-with-spread c =
     record {
       fits = omega (
         arith,
-        c .before .before .before .before .before .before .before .before .before .before .before .before
-            .before .pre .1 .1,
+        c .before .before .before .before .before .before .before .before .before .before .before .before .before .before .before .pre .1 .1,
       );
     }
 
 put-with-spread-requires-2 : tie.Need-put-with-spread-requires-2
 put-with-spread-requires-2 c κs =
-    let s =
-    c .before .before .before .before .before .before .before .before .before .before .before .before .before in (
+    let s = c .before .before .before .before .before .before .before .before .before .before .before .before .before .before .before in (
       (
         s .pre .0 .0,
         subst (Within (s .args .g)) (sym (c .before .before .before .before .before .high-side .ensures))
@@ -106,14 +104,12 @@ add-result-2 : tie.Need-add-result-2
 add-result-2 c =
     omega (
       arith,
-      c .before .before .before .before .before .before .before .before .before .before .before .before .before
-          .before .pre .1 .1,
+      c .before .before .before .before .before .before .before .before .before .before .before .before .before .before .before .before .pre .1 .1,
     )
 
 returns-2 : tie.Need-returns-2
 returns-2 c =
-    let s = c .before .before .before .before .before .before .before .before .before .before .before .before .before
-    .before in
+    let s = c .before .before .before .before .before .before .before .before .before .before .before .before .before .before .before .before in
     let q = sym
     (c .before .before .before .before .before .before .before .before .before .before .before .best-cut .ensures)
     ∙ c .before .before .before .before .before .before .before .before .before .dimension .given .1 in (

@@ -9,7 +9,7 @@ use borrow.Author.Needs.{needs}
 use denote.Ref.{now}
 use lib.Ieee.{ofBits, lt}
 use Rattle.table.specs.Cell.{View}
-use Rattle.table.specs.Table.{viewOf}
+use Rattle.table.specs.Layout.{laidView}
 use Rattle.boxes.specs.declared.sides.Bounds.{Bounds}
 use Rattle.spread.specs.Spread.{zeroOf}
 use Rattle.spread.specs.Cut.{bestCut}
@@ -24,7 +24,7 @@ use Rattle.rounds.proofs.rounds.round.Statement.{statement}
 use Rattle.rounds.proofs.rounds.round.Tie as tie
 
 abbrev view : tie.Start → View
-view s = viewOf (now (s .args .table))
+view s = laidView (s .args .layout) (now (s .args .small)) (now (s .args .large))
 
 abbrev before : tie.Start → List BoxSpread
 before s = roomIn (now (s .args .spreads)) (now (s .args .boxes))
@@ -46,18 +46,18 @@ sub-left c = search needs
 
 take-top-requires : tie.Need-take-top-requires
 take-top-requires c κs =
-    let s = c .before .before .before .before .before .before .before in
+    let s = c .before .before .before .before .before .before .before .before .before in
     (s .pre .1 .0, s .pre .1 .1, omega (arith, s .pre .1 .2))
 
 -- the box that was read
-box-read : (k : tie.After-unpacked) → k .unpacked .result ≡ top (k .before .before .before .before .before) .bounds
+box-read : (k : tie.After-unpacked) → k .unpacked .result ≡ top (k .before .before .before .before .before .before .before) .bounds
 box-read k =
     k .unpacked .ensures
-    ∙ sym (ap (λ (x : BoxSpread). x .bounds) (room-in-item (k .before .before .before .before .before .pre .1 .0) 0))
+    ∙ sym (ap (λ (x : BoxSpread). x .bounds) (room-in-item (k .before .before .before .before .before .before .before .pre .1 .0) 0))
 
 cut-top-requires : tie.Need-cut-top-requires
 cut-top-requires c κs =
-    let s = c .before .before .before .before .before .before .before .before .before .before .before in (
+    let s = c .before .before .before .before .before .before .before .before .before .before .before .before .before in (
       (s .pre .0, rw (box-read (c .before .before .before .before .before .before)) (s .pre .1 .3)),
       (c .before .before .before .take-top .ensures .1, omega (arith, s .pre .1 .2)),
     )
@@ -65,7 +65,7 @@ cut-top-requires c κs =
 returns : tie.Need-returns
 unfolding ofBits
 returns c =
-    let s = c .before .before .before .before .before .before .before .before .before .before .before .before in
+    let s = c .before .before .before .before .before .before .before .before .before .before .before .before .before .before in
     let on : lt zeroOf (top s .spread) ≡ true = ap (lt zeroOf) (room-in-spread (s .pre .1 .0) 0)
     ∙ c .before .before .before .if1 .taken in
     let same = box-read (c .before .before .before .before .before .before .before) in (
@@ -82,7 +82,7 @@ returns c =
 
 put-box-requires : tie.Need-put-box-requires
 put-box-requires c κs =
-    let s = c .before .before .before .before .before .before .before .before .before .before .before in (
+    let s = c .before .before .before .before .before .before .before .before .before .before .before .before .before in (
       c .before .before .before .take-top .ensures .1,
       omega (arith, s .pre .1 .2),
       rw (box-read (c .before .before .before .before .before .before)) (within-bytes (s .pre .1 .3)),
@@ -91,7 +91,7 @@ put-box-requires c κs =
 returns-2 : tie.Need-returns-2
 unfolding ofBits
 returns-2 c =
-    let s = c .before .before .before .before .before .before .before .before .before .before .before .before in
+    let s = c .before .before .before .before .before .before .before .before .before .before .before .before .before .before in
     let off : lt zeroOf (top s .spread) ≡ false = ap (lt zeroOf) (room-in-spread (s .pre .1 .0) 0)
     ∙ c .before .before .before .if1 .left in (
       sym (boxes-stops (s .args .g) (view s) (before s) (s .args .len) off),

@@ -5,7 +5,7 @@ use borrow.Author.Needs.{needs}
 use denote.Ref.{now}
 use Rattle.table.specs.Cell.{View}
 use Rattle.table.specs.Sound.{limit}
-use Rattle.table.specs.Table.{viewOf}
+use Rattle.table.specs.Layout.{laid, laidView}
 use Rattle.table.proofs.Soundness.{Sound}
 use Rattle.boxes.specs.declared.sides.Bounds.{Bounds}
 use Rattle.boxes.specs.Box.{lowSide, highSide, Within}
@@ -18,7 +18,7 @@ use Rattle.spread.proofs.by_bins.position_by_bins.Tie as tie
 
 module _ (s : tie.Start) where
   abbrev view : View
-  view = viewOf (now (s .args .table))
+  view = laidView (s .args .layout) (now (s .args .small)) (now (s .args .large))
 
   is-sound : Sound limit (s .args .g) view
   is-sound = record { holds = s .pre .1 .is-sound }
@@ -31,7 +31,7 @@ module _ (s : tie.Start) where
   high-in = let h = s .pre .1 in high-within (h .within) (s .args .dimension) (s .args .bin) (h .high)
 
   -- a side can be added up
-  side : {x y : Bounds} → x ≡ y → Within (s .args .g) y → CanAdd limit (s .args .g) (now (s .args .table)) x
+  side : {x y : Bounds} → x ≡ y → Within (s .args .g) y → CanAdd (s .args .layout) limit (s .args .g) (laid (s .args .layout) (now (s .args .small)) (now (s .args .large))) x
   side e w =
       record {
         table = s .pre .0;
@@ -43,37 +43,37 @@ low-side-requires : tie.Need-low-side-requires
 low-side-requires c κs = search needs
 
 sum-of-bins-requires : tie.Need-sum-of-bins-requires
-sum-of-bins-requires c κs = let s = c .before .before in side s (c .low-side .ensures) (low-in s)
+sum-of-bins-requires c κs = let s = c .before .before .before in side s (c .low-side .ensures) (low-in s)
 
 high-side-requires : tie.Need-high-side-requires
 high-side-requires c κs = search needs
 
 sum-of-bins-requires-2 : tie.Need-sum-of-bins-requires-2
-sum-of-bins-requires-2 c κs = let s = c .before .before .before .before in side s (c .high-side .ensures) (high-in s)
+sum-of-bins-requires-2 c κs = let s = c .before .before .before .before .before in side s (c .high-side .ensures) (high-in s)
 
 -- what was added up are the statistics of the two sides
-the-low : (k : tie.After-sum-of-bins) → let s = k .before .before .before in
+the-low : (k : tie.After-sum-of-bins) → let s = k .before .before .before .before in
     k .sum-of-bins .result ≡ statsOf (s .args .g) (view s) (lowSide (s .args .x) (s .args .dimension) (s .args .bin))
 the-low k =
-    let s = k .before .before .before in
+    let s = k .before .before .before .before in
     k .sum-of-bins .ensures ∙ ap (statsOf (s .args .g) (view s)) (k .before .low-side .ensures)
 
-the-high : (k : tie.After-sum-of-bins2) → let s = k .before .before .before .before .before in
+the-high : (k : tie.After-sum-of-bins2) → let s = k .before .before .before .before .before .before in
     k .sum-of-bins2 .result ≡ statsOf (s .args .g) (view s) (highSide (s .args .x) (s .args .dimension) (s .args .bin))
 the-high k =
-    let s = k .before .before .before .before .before in
+    let s = k .before .before .before .before .before .before in
     k .sum-of-bins2 .ensures ∙ ap (statsOf (s .args .g) (view s)) (k .before .high-side .ensures)
 
 position-between-requires : tie.Need-position-between-requires
 position-between-requires c κs =
-    let s = c .before .before .before .before .before in (
+    let s = c .before .before .before .before .before .before in (
       plain-stats (is-sound s) (low-in s) (the-low (c .before .before)),
       plain-stats (is-sound s) (high-in s) (the-high c),
     )
 
 returns : tie.Need-returns
 returns c =
-    let s = c .before .before .before .before .before .before in
+    let s = c .before .before .before .before .before .before .before in
     position-is (s .args .g) (view s) (s .args .x) (s .args .dimension) (s .args .bin)
     (the-low (c .before .before .before)) (the-high (c .before)) (c .position-between .ensures)
 

@@ -1,237 +1,105 @@
--- `spread::by_moments::best_by_moments` meets its contract: after each bin the best is that of the positions so far.
+-- `spread::by_moments::best_by_moments` meets its contract: a dimension of one bin has no position; else by the layout.
 -- Assumes nothing.
-use mathlib.Core.Path.{_≡_, sym, ap, _∙_}
-use mathlib.Core.Logic.{⊎-elim}
-use Prim.Native.Nat.{ℕ, _+_, _-_, _≤_, _<_}
+use mathlib.Core.Path.{sym, ap, subst, _∙_}
+use Prim.Native.Nat.{_+_}
 use native.Mathlib.Omega.{arith}
 use borrow.Author.Needs.{needs}
 use denote.Ref.{now}
-use Rattle.table.specs.Table.{viewOf}
+use Rattle.table.specs.declared.layout.Layout.{Layout}
+use Rattle.table.specs.Layout.{laid, laidView}
+use Rattle.table.specs.Sound.{limit}
+use Rattle.sums.specs.declared.source.Source.the-variants.{Moments}
 use Rattle.sums.specs.Box.{statsOf}
-use Rattle.boxes.specs.Box.{minAt, maxAt, slabTo}
-use Rattle.spread.specs.declared.position.Position.{Position}
-use Rattle.spread.specs.Cut.{positionAt, better, bestRun, bestIn}
-use Rattle.spread.specs.Inner.{CutsAt}
-use Rattle.spread.proofs.Choose.{later-is-better, earlier-is-better, end-high, run-none, run-next, run-whole}
+use Rattle.sums.specs.Moments.{CanSum}
+use Rattle.boxes.specs.Box.{minAt, maxAt}
+use Rattle.spread.specs.Cut.{bestIn}
+use Rattle.spread.proofs.Choose.{run-none}
 use Rattle.spread.proofs.by_moments.best_by_moments.Statement.{statement}
 use Rattle.spread.proofs.by_moments.best_by_moments.Tie as tie
 
-abbrev Inv-loop : tie.InvT-loop
-Inv-loop table work g x dimension all end first walk base₀ best₀ bin₀ base best bin =
-    (minAt x dimension ≤ bin) × (bin ≤ end)
-    × (best ≡ bestRun g (viewOf table) x dimension (minAt x dimension + 1) (bin - (minAt x dimension + 1)))
-    × (minAt x dimension < bin → base ≡ statsOf g (viewOf table) (slabTo x dimension (minAt x dimension)))
-
-abbrev μ-loop : tie.MeasureT-loop
-μ-loop table work g x dimension all end first walk base₀ best₀ bin₀ base best bin = end - bin
-
-end-bin-requires : tie.Need-end-bin-requires Inv-loop μ-loop
+end-bin-requires : tie.Need-end-bin-requires
 end-bin-requires c κs = search needs
 
-first-bin-requires : tie.Need-first-bin-requires Inv-loop μ-loop
+first-bin-requires : tie.Need-first-bin-requires
 first-bin-requires c κs = search needs
 
-sub-if1 : tie.Need-sub-if1 Inv-loop μ-loop
+sub-if1 : tie.Need-sub-if1
 sub-if1 c =
-    omega (
-      arith,
-      c .first-bin .ensures,
-      c .before .end-bin .ensures,
-      c .before .before .before .before .pre .0 .1 .some (c .before .before .before .before .args .dimension),
-    )
+    let s = c .before .before .before .before .before .before in
+    omega (arith, c .first-bin .ensures, c .before .end-bin .ensures, s .pre .0 .1 .some (s .args .dimension))
 
-returns : tie.Need-returns Inv-loop μ-loop
+returns : tie.Need-returns
 unfolding bestIn
 returns c =
-    let s = c .before .before .before .before .before in
-    run-none (s .args .g) (viewOf (now (s .args .table))) (s .args .x) (s .args .dimension)
-    (minAt (s .args .x) (s .args .dimension) + 1) (maxAt (s .args .x) (s .args .dimension))
+    let s = c .before .before .before .before .before .before .before in
+    let a = s .args in
+    run-none (a .g) (laidView (a .layout) (now (a .small)) (now (a .large))) (a .x) (a .dimension)
+    (minAt (a .x) (a .dimension) + 1) (maxAt (a .x) (a .dimension))
     (omega (
       arith,
       c .if1 .taken,
       c .before .first-bin .ensures,
       c .before .before .end-bin .ensures,
-      s .pre .0 .1 .some (s .args .dimension),
+      s .pre .0 .1 .some (a .dimension),
     ))
 
-walk-of-requires : tie.Need-walk-of-requires Inv-loop μ-loop
-walk-of-requires c κs = c .before .before .before .before .before .pre .0 .1
+walk-of-requires : tie.Need-walk-of-requires
+walk-of-requires c κs = c .before .before .before .before .before .before .before .pre .0 .1
 
-stats-of-requires : tie.Need-stats-of-requires Inv-loop μ-loop
-stats-of-requires c κs = search needs
+enum-told : tie.Need-enum-told
+enum-told c = search needs
 
-loop-holds : tie.Need-loop-holds Inv-loop μ-loop
-loop-holds c =
-    let s = c .before .before .before .before .before .before .before in
-    let first = c .before .before .before .first-bin .ensures in (
-      omega (arith, first),
-      omega (
-        arith,
-        first,
-        c .before .before .before .before .end-bin .ensures,
-        s .pre .0 .1 .some
-            (s .args .dimension),
-      ),
-      run-none (s .args .g) (viewOf (now (s .args .table))) (s .args .x) (s .args .dimension)
-          (minAt (s .args .x) (s .args .dimension) + 1) (c .before .before .before .first-bin .result)
-          (omega (arith, first)),
-      λ h. absurd (omega (arith, first)),
-    )
-
-sums-before-requires : tie.Need-sums-before-requires Inv-loop μ-loop
-sums-before-requires c κs =
-    let s = c .before .before .before .before .before .before .before .before .before in (
+best-wide-requires : tie.Need-best-wide-requires
+best-wide-requires c κs =
+    let s = c .before .before .before .before .before .before .before .before .before .before in
+    let a = s .args in (
       (
-        s .pre .0 .0,
+        subst (λ (l : Layout). CanSum l limit Moments (a .g) (laid l (now (a .small)) (now (a .large)))
+            (laid l (now (a .smallwork)) (now (a .largework)))) (c .enum-told .given .1) (s .pre .0 .0),
         s .pre .0 .1,
-        omega (
-          arith,
-          c .loop-test .taken,
-          c .before .before .before .before .before .before .end-bin .ensures,
-        ),
       ),
-      c .before .before .before .walk-of .ensures,
+      (
+        s .pre .1 ∙ ap (λ (l : Layout). statsOf (a .g) (laidView l (now (a .small)) (now (a .large))) (a .x))
+            (c .enum-told .given .1),
+        c .before .before .walk-of .ensures,
+      ),
     )
 
--- a bin past the first: the position there, and the best with it
-module _ (k : tie.Else2 Inv-loop μ-loop) where
-  abbrev s : tie.Start Inv-loop μ-loop
-  s = k .before .before .before .before .before .before .before .before .before .before .before
+enum-told-2 : tie.Need-enum-told-2
+enum-told-2 c = search needs
 
-  abbrev bin : ℕ
-  bin = k .before .before .before .loop .bin
-
-  abbrev from : ℕ
-  from = minAt (s .args .x) (s .args .dimension)
-
-  abbrev run : ℕ → Position
-  run n =
-      bestRun (s .args .g) (viewOf (now (s .args .table))) (s .args .x) (s .args .dimension) (from + 1)
-      (n - (from + 1))
-
-  past-first : from < bin
-  past-first =
-      omega (
-        arith,
-        k .before .before .before .loop .inv .0,
-        k .before .before .before .before .before .before .before .first-bin .ensures,
-      )
-
-  cuts : CutsAt (s .args .g) (viewOf (now (s .args .table))) (s .args .x) (s .args .dimension) bin
-  cuts =
-      record {
-        is-sound = s .pre .0 .0 .is-sound;
-        within = s .pre .0 .1;
-        low = past-first;
-        high =
-            omega (
-              arith,
-              k .before .before .before .before .before .before .before .before .end-bin .ensures,
-              k .before .before .loop-test .taken,
-            );
-      }
-
-  next : {p r : Position} → p
-      ≡ positionAt (s .args .g) (viewOf (now (s .args .table))) (s .args .x) (s .args .dimension) bin
-      → r ≡ better (k .before .before .before .loop .best) p → r ≡ run (bin + 1)
-  next =
-      run-next (s .args .g) (viewOf (now (s .args .table))) (s .args .x) (s .args .dimension) (from + 1) bin
-      (omega (arith, past-first)) (k .before .before .before .loop .inv .2)
-
-low-side-sums-requires : tie.Need-low-side-sums-requires Inv-loop μ-loop
-low-side-sums-requires c κs =
-    record {
-      cuts = cuts c;
-      of-bin = c .before .sums-before .ensures;
-      of-box =
-          c .before .before .before .loop .inv .3 (past-first c);
-    }
-
-position-at-requires : tie.Need-position-at-requires Inv-loop μ-loop
-position-at-requires c κs =
-    record { cuts = cuts (c .before); of-all = s (c .before) .pre .1; of-low = c .low-side-sums .ensures }
-
-later-wins-requires : tie.Need-later-wins-requires Inv-loop μ-loop
-later-wins-requires c κs = search needs
-
-add-bin : tie.Need-add-bin Inv-loop μ-loop
-add-bin c =
-    let s = c .before .before .before .before .before .before .before .before .before .before .before in
-    omega (
-      arith,
-      c .before .before .loop-test .taken,
-      c .before .before .before .before .before .before .before .before .end-bin .ensures,
-      end-high (s .pre .0 .1) (s .args .dimension),
+best-narrow-requires : tie.Need-best-narrow-requires
+best-narrow-requires c κs =
+    let s = c .before .before .before .before .before .before .before .before .before .before in
+    let a = s .args in (
+      (
+        subst (λ (l : Layout). CanSum l limit Moments (a .g) (laid l (now (a .small)) (now (a .large)))
+            (laid l (now (a .smallwork)) (now (a .largework)))) (c .enum-told2 .given .1) (s .pre .0 .0),
+        s .pre .0 .1,
+      ),
+      (
+        s .pre .1 ∙ ap (λ (l : Layout). statsOf (a .g) (laidView l (now (a .small)) (now (a .large))) (a .x))
+            (c .enum-told2 .given .1),
+        c .before .before .walk-of .ensures,
+      ),
     )
 
-loop-less : tie.Need-loop-less Inv-loop μ-loop
-loop-less c = omega arith
-
-loop-again : tie.Need-loop-again Inv-loop μ-loop
-loop-again c =
-    let s = c .before .before .before .before .before .before .before .before .before .before .before in
-    let l = c .before .before .before .loop in
-    let first = c .before .before .before .before .before .before .before .first-bin .ensures in
-    let from : ℕ = minAt (s .args .x) (s .args .dimension) in (
-      omega (arith, l .inv .0),
-      omega (arith, c .before .before .loop-test .taken),
-      ⊎-elim
-          (λ w.
-          w .2
-          ∙ l .inv .2
-          ∙ ap (bestRun (s .args .g) (viewOf (now (s .args .table))) (s .args .x) (s .args .dimension) (from + 1))
-          (none from (l .bin) (w .0 .taken ∙ first)))
-          (⊎-elim
-          (λ w.
-          next (record { before = c .before; if2 = w .0 }) (w .2 .ensures)
-          (w .6 ∙ later-is-better (l .best) (w .2 .result) (sym (w .3 .ensures) ∙ w .4 .taken)))
-          (λ w.
-          next (record { before = c .before; if2 = w .0 }) (w .2 .ensures)
-          (w .6 ∙ earlier-is-better (l .best) (w .2 .result) (sym (w .3 .ensures) ∙ w .4 .left))))
-          (c .if2 .came),
-      λ h.
-          ⊎-elim
-          (λ w.
-          w .1
-          ∙ c .before .sums-before .ensures
-          ∙ ap (λ (n : ℕ). statsOf (s .args .g) (viewOf (now (s .args .table)))
-          (slabTo (s .args .x) (s .args .dimension) n))
-          (w .0 .taken ∙ first))
-          (⊎-elim
-          (λ w. w .5 ∙ l .inv .3 (past-first (record { before = c .before; if2 = w .0 })))
-          (λ w. w .5 ∙ l .inv .3 (past-first (record { before = c .before; if2 = w .0 }))))
-          (c .if2 .came),
-    )
-  where
-    none : (from bin : ℕ) → bin ≡ from → bin - (from + 1) ≡ (bin + 1) - (from + 1)
-    none from bin e = omega arith
-
-returns-2 : tie.Need-returns-2 Inv-loop μ-loop
+returns-2 : tie.Need-returns-2
 returns-2 c =
-    let s = c .before .before .before .before .before .before .before .before .before in
-    let l = c .before .loop in
-    run-whole (s .args .g) (viewOf (now (s .args .table))) (s .args .x) (s .args .dimension)
-    (omega (arith, l .inv .1, c .loop-test .left, c .before .before .before .before .before .before .end-bin .ensures))
-    (l .inv .2)
+    let a = c .before .before .before .before .before .before .before .before .before .before .before .args in
+    c .best-wide .ensures
+    ∙ ap (λ (l : Layout). bestIn (a .g) (laidView l (now (a .small)) (now (a .large))) (a .x) (a .dimension))
+    (sym (c .before .enum-told .given .1))
+
+returns-3 : tie.Need-returns-3
+returns-3 c =
+    let a = c .before .before .before .before .before .before .before .before .before .before .before .args in
+    c .best-narrow .ensures
+    ∙ ap (λ (l : Layout). bestIn (a .g) (laidView l (now (a .small)) (now (a .large))) (a .x) (a .dimension))
+    (sym (c .before .enum-told2 .given .1))
 
 pub best-by-moments-spec : {M : Type 1} → statement M
 best-by-moments-spec =
     tie.close
-    (tie.spec
-    Inv-loop
-    μ-loop
-    end-bin-requires
-    first-bin-requires
-    sub-if1
-    returns
-    walk-of-requires
-    stats-of-requires
-    loop-holds
-    sums-before-requires
-    low-side-sums-requires
-    position-at-requires
-    later-wins-requires
-    add-bin
-    loop-less
-    loop-again
-    returns-2)
+    (tie.spec end-bin-requires first-bin-requires sub-if1 returns walk-of-requires enum-told best-wide-requires enum-told-2
+    best-narrow-requires returns-2 returns-3)

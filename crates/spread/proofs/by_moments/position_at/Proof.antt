@@ -5,7 +5,7 @@ use Prim.Native.Nat.{ℕ}
 use native.Mathlib.Nat.{le-of-lt}
 use denote.Ref.{now}
 use Rattle.table.specs.Cell.{View}
-use Rattle.table.specs.Table.{viewOf}
+use Rattle.table.specs.Layout.{laidView}
 use Rattle.table.specs.Sound.{limit}
 use Rattle.table.proofs.Soundness.{Sound}
 use Rattle.bins.specs.Sum.{boxSum}
@@ -19,7 +19,7 @@ use Rattle.spread.proofs.by_moments.position_at.Tie as tie
 
 module _ (s : tie.Start) where
   abbrev view : View
-  view = viewOf (now (s .args .table))
+  view = laidView (s .args .layout) (now (s .args .small)) (now (s .args .large))
 
   is-sound : Sound limit (s .args .g) view
   is-sound = record { holds = s .pre .cuts .is-sound }
@@ -34,16 +34,16 @@ module _ (s : tie.Start) where
       (s .pre .of-all) (s .pre .of-low)
 
 less-requires : tie.Need-less-requires
-less-requires c κs = less-high (c .before) .covers
+less-requires c κs = less-high (c .before .before) .covers
 
-the-high : (k : tie.After-less) → let s = k .before .before in
+the-high : (k : tie.After-less) → let s = k .before .before .before in
     k .less .result ≡ statsOf (s .args .g) (view s) (highSide (s .args .x) (s .args .dimension) (s .args .bin))
 unfolding statsOf
-the-high k = less-high (k .before .before) .exact (k .less .ensures) .is
+the-high k = less-high (k .before .before .before) .exact (k .less .ensures) .is
 
 position-between-requires : tie.Need-position-between-requires
 position-between-requires c κs =
-    let s = c .before .before in
+    let s = c .before .before .before in
     let h = s .pre .cuts in (
       plain-stats (is-sound s) (low-within (h .within) (s .args .dimension) (s .args .bin) (h .low) (h .high))
           (s .pre .of-low),
@@ -52,7 +52,7 @@ position-between-requires c κs =
 
 returns : tie.Need-returns
 returns c =
-    let s = c .before .before .before in
+    let s = c .before .before .before .before in
     position-is (s .args .g) (view s) (s .args .x) (s .args .dimension) (s .args .bin) (s .pre .of-low)
     (the-high (c .before))
     (c .position-between .ensures)

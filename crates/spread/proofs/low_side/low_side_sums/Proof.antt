@@ -3,7 +3,7 @@
 use Prim.Native.Nat.{ℕ}
 use native.Mathlib.Nat.{le-of-lt}
 use denote.Ref.{now}
-use Rattle.table.specs.Table.{viewOf}
+use Rattle.table.specs.Layout.{laidView}
 use Rattle.boxes.specs.Box.{lowSide}
 use Rattle.bins.specs.Sum.{boxSum}
 use Rattle.sums.specs.Box.{statsOf}
@@ -14,7 +14,7 @@ use Rattle.spread.proofs.low_side.low_side_sums.Tie as tie
 module _ (s : tie.Start) where
   abbrev low-sums : ℕ → ℕ
   low-sums =
-      boxSum (s .args .g) (viewOf (now (s .args .table)))
+      boxSum (s .args .g) (laidView (s .args .layout) (now (s .args .small)) (now (s .args .large)))
       (lowSide (s .args .x) (s .args .dimension) (s .args .bin))
 
   less-low : Less (s .args .before) (s .args .base) low-sums
@@ -24,11 +24,11 @@ module _ (s : tie.Start) where
       (le-of-lt (h .high)) (s .pre .of-bin) (s .pre .of-box)
 
 less-requires : tie.Need-less-requires
-less-requires c κs = less-low (c .before) .covers
+less-requires c κs = less-low (c .before .before) .covers
 
 returns : tie.Need-returns
 unfolding statsOf
-returns c = less-low (c .before .before) .exact (c .less .ensures) .is
+returns c = less-low (c .before .before .before) .exact (c .less .ensures) .is
 
 pub low-side-sums-spec : {M : Type 1} → statement M
 low-side-sums-spec = tie.close (tie.spec less-requires returns)

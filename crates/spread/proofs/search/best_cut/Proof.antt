@@ -3,6 +3,7 @@
 use mathlib.Core.Path.{subst, _∙_}
 use borrow.Author.Needs.{needs}
 use denote.Ref.{now}
+use Rattle.table.specs.Layout.{laid}
 use Rattle.table.specs.Sound.{limit}
 use Rattle.sums.specs.declared.source.Source.{Source}
 use Rattle.sums.specs.declared.source.Source.the-variants.{Moments}
@@ -18,22 +19,22 @@ box-sum-requires : tie.Need-box-sum-requires
 box-sum-requires c κs = search needs
 
 -- what a search over moments is given, once the box was summed
-from-moments : (k : tie.After-box-sum) → let s = k .before .before .before .before .before in
-    CanSum limit Moments (s .args .g) (now (s .args .table)) (now (s .args .work))
+from-moments : (k : tie.After-box-sum) → let s = k .before .before .before .before .before .before .before in
+    CanSum (s .args .layout) limit Moments (s .args .g) (laid (s .args .layout) (now (s .args .small)) (now (s .args .large))) (laid (s .args .layout) (now (s .args .smallwork)) (now (s .args .largework)))
 from-moments k =
-    let s = k .before .before .before .before .before in
-    subst (λ (x : Source). CanSum limit x (s .args .g) (now (s .args .table)) (now (s .args .work)))
+    let s = k .before .before .before .before .before .before .before in
+    subst (λ (x : Source). CanSum (s .args .layout) limit x (s .args .g) (laid (s .args .layout) (now (s .args .small)) (now (s .args .large))) (laid (s .args .layout) (now (s .args .smallwork)) (now (s .args .largework))))
     (k .before .enum-told .given .1) (s .pre .0)
 
 best-by-moments-requires : tie.Need-best-by-moments-requires
-best-by-moments-requires c κs = ((from-moments c, c .before .before .before .before .before .pre .1), c .box-sum .ensures)
+best-by-moments-requires c κs = ((from-moments c, c .before .before .before .before .before .before .before .pre .1), c .box-sum .ensures)
 
 best-by-moments-requires-2 : tie.Need-best-by-moments-requires-2
-best-by-moments-requires-2 c κs = ((from-moments (c .before), c .before .before .before .before .before .before .pre .1), c .before .box-sum .ensures)
+best-by-moments-requires-2 c κs = ((from-moments (c .before), c .before .before .before .before .before .before .before .before .pre .1), c .before .box-sum .ensures)
 
 best-by-moments-requires-3 : tie.Need-best-by-moments-requires-3
 best-by-moments-requires-3 c κs = (
-  (from-moments (c .before .before), c .before .before .before .before .before .before .before .pre .1),
+  (from-moments (c .before .before), c .before .before .before .before .before .before .before .before .before .pre .1),
   c .before .before .box-sum .ensures,
 )
 

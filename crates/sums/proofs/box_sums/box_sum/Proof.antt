@@ -4,7 +4,7 @@ use mathlib.Core.Path.{subst}
 use borrow.Author.Needs.{needs}
 use denote.Ref.{now}
 use Rattle.table.specs.Sound.{limit}
-use Rattle.table.specs.Table.{viewOf}
+use Rattle.table.specs.Layout.{laid, laidView}
 use Rattle.bins.specs.Sum.{boxSum, boxCell}
 use Rattle.bins.proofs.Laws.{box-squares}
 use Rattle.sums.specs.declared.source.Source.{Source}
@@ -19,8 +19,8 @@ enum-told c = search needs
 
 box-cell-requires : tie.Need-box-cell-requires
 box-cell-requires c κs =
-    let s = c .before .before .before .before in (
-      subst (λ (x : Source). CanSum limit x (s .args .g) (now (s .args .table)) (now (s .args .work)))
+    let s = c .before .before .before .before .before .before in (
+      subst (λ (x : Source). CanSum (s .args .layout) limit x (s .args .g) (laid (s .args .layout) (now (s .args .small)) (now (s .args .large))) (laid (s .args .layout) (now (s .args .smallwork)) (now (s .args .largework))))
           (c .enum-told .given .1) (s .pre .0),
       s .pre .1,
     )
@@ -28,8 +28,8 @@ box-cell-requires c κs =
 stats-of-requires : tie.Need-stats-of-requires
 unfolding boxCell
 stats-of-requires c κs =
-    let s = c .before .before .before .before .before in
-    cell-squares (boxSum (s .args .g) (viewOf (now (s .args .table))) (s .args .x)) (c .box-cell .ensures)
+    let s = c .before .before .before .before .before .before .before in
+    cell-squares (boxSum (s .args .g) (laidView (s .args .layout) (now (s .args .small)) (now (s .args .large))) (s .args .x)) (c .box-cell .ensures)
     (box-squares (record { holds = s .pre .0 .is-sound }) (s .pre .1))
 
 enum-told-2 : tie.Need-enum-told-2
@@ -41,8 +41,8 @@ sum-of-bins-requires c κs = search needs
 returns : tie.Need-returns
 unfolding boxCell statsOf
 returns c =
-    let s = c .before .before .before .before .before .before in
-    cell-stats (boxSum (s .args .g) (viewOf (now (s .args .table))) (s .args .x)) (c .before .box-cell .ensures)
+    let s = c .before .before .before .before .before .before .before .before in
+    cell-stats (boxSum (s .args .g) (laidView (s .args .layout) (now (s .args .small)) (now (s .args .large))) (s .args .x)) (c .before .box-cell .ensures)
     (c .stats-of .ensures)
 
 returns-2 : tie.Need-returns-2

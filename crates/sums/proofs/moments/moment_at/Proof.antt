@@ -5,7 +5,7 @@ use native.Mathlib.Omega.{arith}
 use borrow.Author.Needs.{needs}
 use denote.Ref.{now}
 use Rattle.table.specs.declared.cell.Cell.{Cell}
-use Rattle.table.specs.Table.{viewOf}
+use Rattle.table.specs.Layout.{laidView}
 use Rattle.sums.proofs.Steps.{Has, near-cell, above-has, before-has, corner-has, no-plane, no-row, can-join}
 use Rattle.sums.proofs.Steps.{joined-is}
 use Rattle.sums.proofs.moments.moment_at.Statement.{statement}
@@ -13,19 +13,19 @@ use Rattle.sums.proofs.moments.moment_at.Tie as tie
 
 -- the sums of the bins below r and gr
 abbrev Below : tie.Start → Cell → ℕ → ℕ → Type 0
-Below s = Has (s .args .g) (viewOf (now (s .args .table))) (s .args .b)
+Below s = Has (s .args .g) (laidView (s .args .layout) (now (s .args .small)) (now (s .args .large))) (s .args .b)
 
 -- ---- the first row of the first plane
 joined-requires : tie.Need-joined-requires
 joined-requires c κs =
-    let s = c .before .before .before .before in
+    let s = c .before .before .before .before .before .before in
     let row = c .before .if1 .taken in
     can-join (s .pre .0) (s .pre .1) (no-row (s .pre .0) row (s .args .r + 1))
     (no-plane (s .pre .0) (c .if2 .taken) (s .args .gr + 1)) (no-row (s .pre .0) row (s .args .r))
 
 returns : tie.Need-returns
 returns c =
-    let s = c .before .before .before .before .before in
+    let s = c .before .before .before .before .before .before .before in
     let row = c .before .before .if1 .taken in
     joined-is (s .pre .0) (s .pre .1) (no-row (s .pre .0) row (s .args .r + 1))
     (no-plane (s .pre .0) (c .before .if2 .taken) (s .args .gr + 1)) (no-row (s .pre .0) row (s .args .r))
@@ -38,25 +38,25 @@ sub-place c = search needs
 place-requires : tie.Need-place-requires
 place-requires c κs = search needs
 
-cell-at-requires : tie.Need-cell-at-requires
-cell-at-requires c κs =
-    let s = c .before .before .before .before .before in
+cell-in-requires : tie.Need-cell-in-requires
+cell-in-requires c κs =
+    let s = c .before .before .before .before .before .before .before in
     near-cell (s .pre .0) (s .args .r - 1) (s .args .gr) (omega arith) (omega arith) (c .place .ensures)
 
 joined-requires-2 : tie.Need-joined-requires-2
 joined-requires-2 c κs =
-    let s = c .before .before .before .before .before .before in
+    let s = c .before .before .before .before .before .before .before .before in
     let row = c .before .before .before .if1 .taken in
     can-join (s .pre .0) (s .pre .1) (no-row (s .pre .0) row (s .args .r + 1))
-    (before-has (s .pre .0) (omega arith) (c .before .place .ensures) (c .cell-at .ensures))
+    (before-has (s .pre .0) (omega arith) (c .before .place .ensures) (c .cell-in .ensures))
     (no-row (s .pre .0) row (s .args .r))
 
 returns-2 : tie.Need-returns-2
 returns-2 c =
-    let s = c .before .before .before .before .before .before .before in
+    let s = c .before .before .before .before .before .before .before .before .before in
     let row = c .before .before .before .before .if1 .taken in
     joined-is (s .pre .0) (s .pre .1) (no-row (s .pre .0) row (s .args .r + 1))
-    (before-has (s .pre .0) (omega arith) (c .before .before .place .ensures) (c .before .cell-at .ensures))
+    (before-has (s .pre .0) (omega arith) (c .before .before .place .ensures) (c .before .cell-in .ensures))
     (no-row (s .pre .0) row (s .args .r)) (c .joined2 .ensures)
 
 -- ---- a row of the first plane
@@ -66,26 +66,26 @@ sub-place-2 c = search needs
 place-requires-2 : tie.Need-place-requires-2
 place-requires-2 c κs = search needs
 
-cell-at-requires-2 : tie.Need-cell-at-requires-2
-cell-at-requires-2 c κs =
-    let s = c .before .before .before .before in
+cell-in-requires-2 : tie.Need-cell-in-requires-2
+cell-in-requires-2 c κs =
+    let s = c .before .before .before .before .before .before in
     near-cell (s .pre .0) (s .args .r) (s .args .gr - 1) (omega arith) (omega arith) (c .place2 .ensures)
 
-above : (k : tie.After-cell-at2) → let s = k .before .before .before .before .before in
-    Below s (k .cell-at2 .result) (s .args .r + 1) (s .args .gr)
+above : (k : tie.After-cell-in2) → let s = k .before .before .before .before .before .before .before in
+    Below s (k .cell-in2 .result) (s .args .r + 1) (s .args .gr)
 above k =
-    above-has (k .before .before .before .before .before .pre .0) (omega arith) (k .before .place2 .ensures)
-    (k .cell-at2 .ensures)
+    above-has (k .before .before .before .before .before .before .before .pre .0) (omega arith) (k .before .place2 .ensures)
+    (k .cell-in2 .ensures)
 
 joined-requires-3 : tie.Need-joined-requires-3
 joined-requires-3 c κs =
-    let s = c .before .before .before .before .before .before in
+    let s = c .before .before .before .before .before .before .before .before in
     can-join (s .pre .0) (s .pre .1) (above (c .before)) (no-plane (s .pre .0) (c .if3 .taken) (s .args .gr + 1))
     (no-plane (s .pre .0) (c .if3 .taken) (s .args .gr))
 
 returns-3 : tie.Need-returns-3
 returns-3 c =
-    let s = c .before .before .before .before .before .before .before in
+    let s = c .before .before .before .before .before .before .before .before .before in
     joined-is (s .pre .0) (s .pre .1) (above (c .before .before))
     (no-plane (s .pre .0) (c .before .if3 .taken) (s .args .gr + 1))
     (no-plane (s .pre .0) (c .before .if3 .taken) (s .args .gr))
@@ -98,9 +98,9 @@ sub-place-3 c = search needs
 place-requires-3 : tie.Need-place-requires-3
 place-requires-3 c κs = search needs
 
-cell-at-requires-3 : tie.Need-cell-at-requires-3
-cell-at-requires-3 c κs =
-    let s = c .before .before .before .before .before .before .before in
+cell-in-requires-3 : tie.Need-cell-in-requires-3
+cell-in-requires-3 c κs =
+    let s = c .before .before .before .before .before .before .before .before .before in
     near-cell (s .pre .0) (s .args .r - 1) (s .args .gr) (omega arith) (omega arith) (c .place3 .ensures)
 
 sub-place-4 : tie.Need-sub-place-4
@@ -112,25 +112,25 @@ sub-place-5 c = search needs
 place-requires-4 : tie.Need-place-requires-4
 place-requires-4 c κs = search needs
 
-cell-at-requires-4 : tie.Need-cell-at-requires-4
-cell-at-requires-4 c κs =
-    let s = c .before .before .before .before .before .before .before .before .before in
+cell-in-requires-4 : tie.Need-cell-in-requires-4
+cell-in-requires-4 c κs =
+    let s = c .before .before .before .before .before .before .before .before .before .before .before in
     near-cell (s .pre .0) (s .args .r - 1) (s .args .gr - 1) (omega arith) (omega arith) (c .place4 .ensures)
 
-module _ (k : tie.After-cell-at4) where
+module _ (k : tie.After-cell-in4) where
   abbrev start : tie.Start
-  start = k .before .before .before .before .before .before .before .before .before .before
+  start = k .before .before .before .before .before .before .before .before .before .before .before .before
 
-  before : Below start (k .before .before .cell-at3 .result) (start .args .r) (start .args .gr + 1)
+  before : Below start (k .before .before .cell-in3 .result) (start .args .r) (start .args .gr + 1)
   before =
       before-has (start .pre .0) (omega arith) (k .before .before .before .place3 .ensures)
-      (k .before .before .cell-at3 .ensures)
+      (k .before .before .cell-in3 .ensures)
 
   some-row : 0 < start .args .gr
   some-row = omega (arith, k .before .before .before .before .before .before .before .if1 .left)
 
-  corner : Below start (k .cell-at4 .result) (start .args .r) (start .args .gr)
-  corner = corner-has (start .pre .0) (omega arith) some-row (k .before .place4 .ensures) (k .cell-at4 .ensures)
+  corner : Below start (k .cell-in4 .result) (start .args .r) (start .args .gr)
+  corner = corner-has (start .pre .0) (omega arith) some-row (k .before .place4 .ensures) (k .cell-in4 .ensures)
 
 joined-requires-4 : tie.Need-joined-requires-4
 joined-requires-4 c κs =
@@ -151,20 +151,20 @@ moment-at-spec =
     returns
     sub-place
     place-requires
-    cell-at-requires
+    cell-in-requires
     joined-requires-2
     returns-2
     sub-place-2
     place-requires-2
-    cell-at-requires-2
+    cell-in-requires-2
     joined-requires-3
     returns-3
     sub-place-3
     place-requires-3
-    cell-at-requires-3
+    cell-in-requires-3
     sub-place-4
     sub-place-5
     place-requires-4
-    cell-at-requires-4
+    cell-in-requires-4
     joined-requires-4
     returns-4)

@@ -1,40 +1,44 @@
 -- `sums::moments` meets its contract: after each plane the moments of the planes so far stand.
 -- Assumes nothing.
-use mathlib.Core.Path.{_≡_, sym, ap, _∙_}
+use mathlib.Core.Path.{_≡_, refl, sym, ap, _∙_}
 use Prim.Native.Nat.{ℕ, _+_, _≤_, _-_, _*_}
 use native.Mathlib.Nat.{zero-add, zero-mul, mul-assoc}
 use native.Mathlib.Omega.{arith}
+use borrow.Author.Needs.{needs}
+use lib.ListN.{length}
 use Rattle.grid.specs.Grid.{binsOf}
 use Rattle.grid.proofs.Places.{one, two, three, plane-start}
 use Rattle.grid.proofs.Size.{size-low, size-high}
-use Rattle.table.proofs.Tables.{same-size}
+use Rattle.table.specs.Layout.{laid}
 use Rattle.sums.specs.Inner.{Before}
 use Rattle.sums.proofs.Steps.{before-same, add-one-mul, none-made, all-made}
 use Rattle.sums.proofs.moments.moments.Statement.{statement}
 use Rattle.sums.proofs.moments.moments.Tie as tie
 
 abbrev Inv-loop : tie.InvT-loop
-Inv-loop table g work₀ r₀ work r =
-    (r ≤ g .size1) × Before g table work (r * (g .size2 * g .size3))
+Inv-loop layout small large g smallwork₀ largework₀ r₀ smallwork largework r =
+    (r ≤ g .size1) × Before layout g (laid layout small large) (laid layout smallwork largework) (r * (g .size2 * g .size3))
+    × (length smallwork ≡ length smallwork₀)
+    × (length largework ≡ length largework₀)
 
 abbrev μ-loop : tie.MeasureT-loop
-μ-loop table g work₀ r₀ work r = g .size1 - r
+μ-loop layout small large g smallwork₀ largework₀ r₀ smallwork largework r = g .size1 - r
 
 loop-holds : tie.Need-loop-holds Inv-loop μ-loop
 loop-holds c =
-    let s = c .before .before in
-    (omega arith, before-same (none-made (s .pre)) (sym (zero-mul _)))
+    let s = c .before .before .before .before in
+    (omega arith, before-same (none-made (s .pre)) (sym (zero-mul _)), refl, refl)
 
 next-plane-requires : tie.Need-next-plane-requires Inv-loop μ-loop
 next-plane-requires c κs =
-    let s = c .before .before .before .before .before .before in
-    let l = c .before .before .before .loop in
+    let s = c .before .before .before .before .before .before .before .before .before in
+    let l = c .before .before .before .before .loop in
     let a = s .pre .table .accepted in
     record {
       inside =
           record {
             accepted = a;
-            one = c .before .if1 .taken;
+            one = c .before .before .if1 .taken;
             two = omega (arith, size-low (two a));
             three =
                 omega (arith, size-low (three a));
@@ -46,9 +50,9 @@ add-r : tie.Need-add-r Inv-loop μ-loop
 add-r c =
     omega (
       arith,
-      c .before .before .before .before .if1 .taken,
+      c .before .before .before .before .before .before .before .if1 .taken,
       size-high
-          (one (c .before .before .before .before .before .before .before .before .before .pre .table .accepted)),
+          (one (c .before .before .before .before .before .before .before .before .before .before .before .before .before .before .pre .table .accepted)),
     )
 
 loop-less : tie.Need-loop-less Inv-loop μ-loop
@@ -56,22 +60,26 @@ loop-less c = omega arith
 
 loop-again : tie.Need-loop-again Inv-loop μ-loop
 loop-again c =
-    let s = c .before .before .before .before .before .before .before .before .before in
-    let l = c .before .before .before .before .before .before .loop in
+    let s = c .before .before .before .before .before .before .before .before .before .before .before .before .before .before in
+    let l = c .before .before .before .before .before .before .before .before .before .loop in
     let plane = s .args .g .size2 * s .args .g .size3 in (
-      omega (arith, c .before .before .before .before .if1 .taken),
-      before-same (c .before .before .next-plane .ensures)
+      omega (arith, c .before .before .before .before .before .before .before .if1 .taken),
+      before-same (c .before .before .before .before .next-plane .ensures)
           (ap (λ (n : ℕ). n + plane) (plane-start (s .args .g) (l .r) ∙ zero-add _) ∙ sym (add-one-mul (l .r) plane)),
+      search needs,
+      search needs,
     )
 
 same-length : tie.Need-same-length Inv-loop μ-loop
-same-length c =
-    same-size (c .before .before .loop .inv .1 .tables .work) (c .before .before .before .before .before .pre .work)
+same-length c = c .before .before .loop .inv .2
+
+same-length-2 : tie.Need-same-length-2 Inv-loop μ-loop
+same-length-2 c = c .before .before .loop .inv .3
 
 returns : tie.Need-returns Inv-loop μ-loop
 unfolding binsOf
 returns c =
-    let s = c .before .before .before .before .before in
+    let s = c .before .before .before .before .before .before .before in
     let l = c .before .before .loop in
     let all : l .r ≡ s .args .g .size1 = omega arith in
     all-made (before-same (l .inv .1) (ap (λ (n : ℕ). n * (s .args .g .size2 * s .args .g .size3)) all
@@ -89,4 +97,5 @@ moments-spec =
     loop-less
     loop-again
     same-length
+    same-length-2
     returns)

@@ -1,101 +1,68 @@
--- `sums::next_row` meets its contract: after b bins of the row their moments stand, and the line is the sum along them.
+-- `sums::moments::next_row` meets its contract: by the layout.
 -- Assumes nothing.
-use mathlib.Core.Path.{_≡_, sym, ap, _∙_}
-use Prim.Native.Nat.{ℕ, _+_, _≤_, _-_}
-use native.Mathlib.Nat.{add-zero, add-assoc}
-use native.Mathlib.Omega.{arith}
+use borrow.Author.Needs.{needs}
 use denote.Ref.{now}
-use Rattle.grid.specs.Grid.{placeOf}
-use Rattle.grid.proofs.Places.{three, place-along}
-use Rattle.grid.proofs.Size.{size-high}
-use Rattle.table.specs.Table.{viewOf}
-use Rattle.table.proofs.Tables.{same-size}
-use Rattle.sums.specs.Inner.{lineCell, Before}
-use Rattle.sums.proofs.Steps.{line-start, before-same, row-ready, one-on}
+use Rattle.sums.proofs.Steps.{ready-as, before-as}
 use Rattle.sums.proofs.moments.next_row.Statement.{statement}
 use Rattle.sums.proofs.moments.next_row.Tie as tie
 
-abbrev Inv-loop : tie.InvT-loop
-Inv-loop table work₀ g r gr line₀ b₀ work line b =
-    (b ≤ g .size3) × (line ≡ lineCell g (viewOf table) r gr b) × Before g table work (placeOf g r gr 0 + b)
+enum-told : tie.Need-enum-told
+enum-told c = search needs
 
-abbrev μ-loop : tie.MeasureT-loop
-μ-loop table work₀ g r gr line₀ b₀ work line b = g .size3 - b
+wide-row-requires : tie.Need-wide-row-requires
+wide-row-requires c κs =
+    let s = c .before .before .before .before .before .before .before .before in
+    let a = s .args in
+    ready-as (c .before .before .enum-told .given .1) (a .g) (now (a .small)) (now (a .large)) (now (a .smallwork))
+    (now (a .largework)) (a .r) (a .gr) 0 (s .pre)
 
-loop-holds : tie.Need-loop-holds Inv-loop μ-loop
-loop-holds c =
-    let s = c .before .before in (
-      omega arith,
-      line-start (s .args .g) (viewOf (now (s .args .table))) (s .args .r) (s .args .gr),
-      before-same
-          (s .pre .before) (sym (add-zero _)),
-    )
+enum-told-2 : tie.Need-enum-told-2
+enum-told-2 c = search needs
 
-next-bin-requires : tie.Need-next-bin-requires Inv-loop μ-loop
-next-bin-requires c κs =
-    let s = c .before .before .before .before .before .before in
-    let l = c .before .before .before .loop in
-    let i = s .pre .inside in (
-      row-ready (record { accepted = i .accepted; one = i .one; two = i .two; three = c .before .if1 .taken })
-          (l .inv .2),
-      l .inv .1,
-    )
+narrow-row-requires : tie.Need-narrow-row-requires
+narrow-row-requires c κs =
+    let s = c .before .before .before .before .before .before .before .before in
+    let a = s .args in
+    ready-as (c .before .before .enum-told2 .given .1) (a .g) (now (a .small)) (now (a .large)) (now (a .smallwork))
+    (now (a .largework)) (a .r) (a .gr) 0 (s .pre)
 
-add-b : tie.Need-add-b Inv-loop μ-loop
-add-b c =
-    omega (
-      arith,
-      c .before .before .before .before .if1 .taken,
-      size-high
-          (three (c .before .before .before .before .before .before .before .before .before .pre .inside .accepted)),
-    )
+same-length : tie.Need-same-length
+same-length c = search needs
 
-loop-less : tie.Need-loop-less Inv-loop μ-loop
-loop-less c = omega arith
+same-length-2 : tie.Need-same-length-2
+same-length-2 c = search needs
 
-loop-again : tie.Need-loop-again Inv-loop μ-loop
-loop-again c =
-    let s = c .before .before .before .before .before .before .before .before .before in
-    let l = c .before .before .before .before .before .before .loop in
-    let i = s .pre .inside in
-    let ready =
-    row-ready (record {
-      accepted = i .accepted;
-      one = i .one;
-      two = i .two;
-      three =
-          c .before .before .before .before .if1 .taken;
-    }) (l .inv .2) in (
-      omega (arith, c .before .before .before .before .if1 .taken),
-      c .before .before .next-bin .ensures .0,
-      before-same (one-on ready (c .before .before .next-bin .ensures .1))
-          (ap (λ (n : ℕ). n + 1) (sym (place-along (s .args .g) (s .args .r) (s .args .gr) (l .b)))
-          ∙ add-assoc _ (l .b) 1),
-    )
-
-same-length : tie.Need-same-length Inv-loop μ-loop
-same-length c =
-    same-size (c .before .before .loop .inv .2 .tables .work)
-    (c .before .before .before .before .before .pre .before .tables .work)
-
-returns : tie.Need-returns Inv-loop μ-loop
+returns : tie.Need-returns
 returns c =
-    let l = c .before .before .loop in
-    let all : l .b ≡ c .before .before .before .before .before .args .g .size3 = omega arith in
-    before-same (l .inv .2) (ap (λ (n : ℕ). placeOf (c .before .before .before .before .before .args .g)
-    (c .before .before .before .before .before .args .r) (c .before .before .before .before .before .args .gr)
-    0 + n) all)
+    let w = c .before .before .before .before in
+    let a = w .before .before .before .before .before .before .before .before .before .args in
+    before-as (w .before .before .before .enum-told .given .1) (a .g) (now (a .small)) (now (a .large)) _ _ _
+    (w .wide-row .ensures)
+
+same-length-3 : tie.Need-same-length-3
+same-length-3 c = search needs
+
+same-length-4 : tie.Need-same-length-4
+same-length-4 c = search needs
+
+returns-2 : tie.Need-returns-2
+returns-2 c =
+    let w = c .before .before .before .before in
+    let a = w .before .before .before .before .before .before .before .before .before .args in
+    before-as (w .before .before .before .enum-told2 .given .1) (a .g) (now (a .small)) (now (a .large)) _ _ _
+    (w .narrow-row .ensures)
 
 pub next-row-spec : {M : Type 1} → statement M
 next-row-spec =
     tie.close
     (tie.spec
-    Inv-loop
-    μ-loop
-    loop-holds
-    next-bin-requires
-    add-b
-    loop-less
-    loop-again
+    enum-told
+    wide-row-requires
+    enum-told-2
+    narrow-row-requires
     same-length
-    returns)
+    same-length-2
+    returns
+    same-length-3
+    same-length-4
+    returns-2)

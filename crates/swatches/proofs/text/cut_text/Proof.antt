@@ -2,6 +2,7 @@
 -- Assumes nothing.
 use mathlib.Core.Path.{ap, _∙_}
 use native.Mathlib.Omega.{arith}
+use Rattle.table.specs.declared.layout.Layout.the-variants.{Wide}
 use Rattle.cutter.proofs.RecordSize.{few}
 use borrow.Author.Needs.{needs}
 use Rattle.sums.specs.declared.source.Source.the-variants.{Moments}
@@ -66,7 +67,7 @@ swatch-lines-requires c κs =
     let nearest = c .before .before .before .before .before in
     let cut = nearest .before .before .before .before .before .before .before .before .before .before in
     let room = cut .before .before .before .before .before .before .before .before .pre in
-    let h = few Moments 16 (omega arith) (omega arith) _ 8 8 8 _ (cut .cut .ensures .0) in
+    let h = few Wide Moments 16 (omega arith) (omega arith) _ 8 8 8 _ (cut .cut .ensures .0) in
     search needs
 
 same-length-2 : tie.Need-same-length-2

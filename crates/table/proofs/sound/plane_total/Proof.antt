@@ -11,44 +11,46 @@ use Rattle.grid.proofs.Places.{two, row-start}
 use Rattle.grid.proofs.Size.{size-high}
 use Rattle.table.specs.declared.sound.SoundTotal.the-variants.{Total, Unsound}
 use Rattle.table.specs.Inner.{scanned}
-use Rattle.table.specs.Sound.{limit}
-use Rattle.table.specs.Table.{viewOf}
+use Rattle.table.specs.Sound.{limitOf}
+use Rattle.table.specs.Layout.{laidView}
 use Rattle.table.proofs.Scans.{scan-none, scan-under, block-more, block-stop}
 use Rattle.table.proofs.sound.plane_total.Statement.{statement}
 use Rattle.table.proofs.sound.plane_total.Tie as tie
 
 abbrev Inv-loop : tie.InvT-loop
-Inv-loop table g r had total₀ gr₀ total gr =
-    (gr ≤ g .size2) × (scanned limit g (viewOf table) (placeOf g r 0 0) (gr * g .size3) had ≡ Total total)
+Inv-loop layout small large g spans r had total₀ gr₀ total gr =
+    (gr ≤ g .size2) × (scanned (limitOf layout) g (laidView layout small large) (placeOf g r 0 0) (gr * g .size3) had ≡ Total total)
 
 abbrev μ-loop : tie.MeasureT-loop
-μ-loop table g r had total₀ gr₀ total gr = g .size2 - gr
+μ-loop layout small large g spans r had total₀ gr₀ total gr = g .size2 - gr
 
 loop-holds : tie.Need-loop-holds Inv-loop μ-loop
 loop-holds c =
-    let s = c .before in (
+    let s = c .before .before in (
       omega arith,
-      ap (λ (n : ℕ). scanned limit (s .args .g) (viewOf (now (s .args .table)))
+      ap (λ (n : ℕ). scanned (limitOf (s .args .layout)) (s .args .g) (laidView (s .args .layout) (now (s .args .small)) (now (s .args .large)))
           (placeOf (s .args .g) (s .args .r) 0 0) n (s .args .had)) (zero-mul (s .args .g .size3))
-          ∙ scan-none limit (s .args .g) (viewOf (now (s .args .table))) _ (s .args .had) (s .pre .under),
+          ∙ scan-none (limitOf (s .args .layout)) (s .args .g) (laidView (s .args .layout) (now (s .args .small)) (now (s .args .large))) _ (s .args .had) (s .pre .0 .under),
     )
 
 row-total-requires : tie.Need-row-total-requires Inv-loop μ-loop
 row-total-requires c κs =
-    let s = c .before .before .before .before in
-    let l = c .before .before .loop in
-    record {
-      table = s .pre .table;
-      inside =
-          record {
-            accepted = s .pre .table .accepted;
-            one = s .pre .inside .one;
-            two = c .if1 .taken;
-            three =
-                s .pre .inside .three;
-          };
-      under = scan-under limit (s .args .g) (viewOf (now (s .args .table))) _ _ _ (l .total) (l .inv .1);
-    }
+    let s = c .before .before .before .before .before in
+    let l = c .before .before .loop in (
+      record {
+        table = s .pre .0 .table;
+        inside =
+            record {
+              accepted = s .pre .0 .table .accepted;
+              one = s .pre .0 .inside .one;
+              two = c .if1 .taken;
+              three =
+                  s .pre .0 .inside .three;
+            };
+        under = scan-under (limitOf (s .args .layout)) (s .args .g) (laidView (s .args .layout) (now (s .args .small)) (now (s .args .large))) _ _ _ (l .total) (l .inv .1);
+      },
+      s .pre .1,
+    )
 
 enum-known-x : tie.Need-enum-known-x Inv-loop μ-loop
 enum-known-x c = search needs
@@ -58,45 +60,45 @@ enum-told c = search needs
 
 returns : tie.Need-returns Inv-loop μ-loop
 returns c =
-    let s = c .before .before .before .before .before .before .before in
+    let s = c .before .before .before .before .before .before .before .before in
     let l = c .before .before .before .before .before .loop in
     let g = s .args .g in
-    let v = viewOf (now (s .args .table)) in
+    let v = laidView (s .args .layout) (now (s .args .small)) (now (s .args .large)) in
     sym
-    (block-stop limit g v (placeOf g (s .args .r) 0 0) (g .size3) (l .gr) (g .size2) (s .args .had)
+    (block-stop (limitOf (s .args .layout)) g v (placeOf g (s .args .r) 0 0) (g .size3) (l .gr) (g .size2) (s .args .had)
     (c .before .before .before .if1 .taken)
-    (block-more limit g v (placeOf g (s .args .r) 0 0) (g .size3) (l .gr) (s .args .had) (l .total) Unsound (l .inv .1)
+    (block-more (limitOf (s .args .layout)) g v (placeOf g (s .args .r) 0 0) (g .size3) (l .gr) (s .args .had) (l .total) Unsound (l .inv .1)
     (row-start g (s .args .r) (l .gr))
     (sym (c .enum-told .given .1) ∙ c .before .before .row-total .ensures)))
 
 add-gr : tie.Need-add-gr Inv-loop μ-loop
 add-gr c =
-    let s = c .before .before .before .before .before .before .before .before in
-    omega (arith, c .before .before .before .before .if1 .taken, size-high (two (s .pre .table .accepted)))
+    let s = c .before .before .before .before .before .before .before .before .before in
+    omega (arith, c .before .before .before .before .if1 .taken, size-high (two (s .pre .0 .table .accepted)))
 
 loop-less : tie.Need-loop-less Inv-loop μ-loop
 loop-less c = omega arith
 
 loop-again : tie.Need-loop-again Inv-loop μ-loop
 loop-again c =
-    let s = c .before .before .before .before .before .before .before .before in
+    let s = c .before .before .before .before .before .before .before .before .before in
     let l = c .before .before .before .before .before .before .loop in
     let g = s .args .g in
-    let v = viewOf (now (s .args .table)) in
+    let v = laidView (s .args .layout) (now (s .args .small)) (now (s .args .large)) in
     let good : c .before .before .before .row-total .result ≡ Total (c .before .x .given .0 .0) =
     c .before .x .given .1 in (
       omega (arith, c .before .before .before .before .if1 .taken),
-      block-more limit g v (placeOf g (s .args .r) 0 0) (g .size3) (l .gr) (s .args .had) (l .total)
+      block-more (limitOf (s .args .layout)) g v (placeOf g (s .args .r) 0 0) (g .size3) (l .gr) (s .args .had) (l .total)
           (Total (c .before .x .given .0 .0)) (l .inv .1) (row-start g (s .args .r) (l .gr))
           (sym good ∙ c .before .before .before .row-total .ensures),
     )
 
 returns-2 : tie.Need-returns-2 Inv-loop μ-loop
 returns-2 c =
-    let s = c .before .before .before .before in
+    let s = c .before .before .before .before .before in
     let l = c .before .before .loop in
     let all : l .gr ≡ s .args .g .size2 = omega arith in
-    sym (l .inv .1) ∙ ap (λ (n : ℕ). scanned limit (s .args .g) (viewOf (now (s .args .table)))
+    sym (l .inv .1) ∙ ap (λ (n : ℕ). scanned (limitOf (s .args .layout)) (s .args .g) (laidView (s .args .layout) (now (s .args .small)) (now (s .args .large)))
     (placeOf (s .args .g) (s .args .r) 0 0) (n * s .args .g .size3) (s .args .had)) all
 
 pub plane-total-spec : {M : Type 1} → statement M

@@ -1,0 +1,2 @@
+// The call that widens a table.
+pub mod call;
