@@ -2,8 +2,9 @@
  * Every call of seluvava.h, held to docs/RULES.md: the cases P1 to P10, every number of every call, alone and two
  * at a time, lengths one off, NULL with length 0, bands, batches and frames of every length up to 200, every
  * recorded list of up to three entries out of ten, PPM files cut at every byte and with every byte in the place of
- * each of their headers, palettes of every length, and all cuts of the same tables, fast and slow, wide and narrow,
- * which have to leave the same; and all of it once more with the processor's flush modes set.
+ * each of their headers, palettes of every length, tables merged in either order, and all cuts of the same tables, fast
+ * and slow, wide and narrow, which have to leave the same, and of tables multiplied by each power of two; and all of it
+ * once more with the processor's flush modes set.
  * What a lent buffer must hold afterwards is said here once more, in C, by the same rules.
  */
 #define _DEFAULT_SOURCE
@@ -1302,6 +1303,102 @@ static void ask_compared(void)
     }
 }
 
+/* ---- Merging in either order, and powers of two */
+
+/* Merges a second table into a first, and that one into the second: the same answer and the same table. */
+static void ask_either_order(struct asked *one, unsigned number, unsigned narrow_number, const char *what)
+{
+    struct asked two = *one;
+    memcpy(two.table, one->second, sizeof two.table);
+    memcpy(two.second, one->table, sizeof two.second);
+    narrowed(one->second, 64, one->second_sums, one->second_squares);
+    narrowed(two.table, 64, two.sums, two.squares);
+    narrowed(two.second, 64, two.second_sums, two.second_squares);
+    ask(MERGE, one, number, what, "");
+    ask(MERGE, &two, number, what, "the other way round");
+    check(number || memcmp(one->table, two.table, 320 * sizeof *two.table) == 0, "another table");
+    ask(NARROW_MERGE, one, narrow_number, what, "");
+    ask(NARROW_MERGE, &two, narrow_number, what, "the other way round");
+    check(narrow_number || memcmp(one->sums, two.sums, 256 * sizeof *two.sums) == 0, "other sums");
+    check(narrow_number || memcmp(one->squares, two.squares, 64 * sizeof *two.squares) == 0, "other squares");
+}
+
+/* Two tables, the weight of black such that their total is at either limit or one past it; and one with zeros, which
+ * change nothing. */
+static void ask_merged(void)
+{
+    static const struct {
+        uint64_t total;
+        unsigned number, narrow_number;
+        const char *what;
+    } tried[] = {
+        {1000, 0, 0, "two tables"},
+        {NARROW_LIMIT, 0, 0, "two tables of the narrow limit"},
+        {NARROW_LIMIT + 1, 0, 15, "two tables one past the narrow limit"},
+        {LIMIT, 0, 6, "two tables of the limit"},
+        {LIMIT + 1, 7, 6, "two tables one past the limit"},
+    };
+    const struct asked before = good();
+    struct asked q = before, other = before;
+    uint64_t total = 0;
+    memset(other.table, 0, sizeof other.table);
+    added(&other, 5, 60, true, 1);
+    for (size_t p = 0; p < 320; p += 5) total += before.table[p] + other.table[p];
+    for (size_t i = 0; i < COUNT(tried); i++) {
+        q = before;
+        memcpy(q.second, other.table, sizeof q.second);
+        q.second[0] += tried[i].total - total;
+        ask_either_order(&q, tried[i].number, tried[i].narrow_number, tried[i].what);
+    }
+    q = before;
+    memset(q.second, 0, sizeof q.second);
+    ask_either_order(&q, 0, 0, "zeros");
+    check(memcmp(q.table, before.table, sizeof q.table) == 0, "zeros change the table");
+    check(memcmp(q.sums, before.sums, sizeof q.sums) == 0, "zeros change the sums");
+    check(memcmp(q.squares, before.squares, sizeof q.squares) == 0, "zeros change the squares");
+}
+
+/* All cuts of a table with its numbers multiplied by each power of two that fits: the same boxes, palette and map, and
+ * counts, remainders and spreads multiplied. */
+static void ask_doubled(struct asked q, unsigned highest, const char *what)
+{
+    struct asked once = q;
+    const struct answer answer = ask_cuts(&once, 0, what, "");
+    for (unsigned power = 1; power <= highest; power++) {
+        const uint32_t times = UINT32_C(1) << power;
+        char words[40];
+        struct asked often;
+        for (size_t i = 0; i < 320; i++) q.table[i] *= 2;
+        often = q;
+        snprintf(words, sizeof words, "multiplied by %u", times);
+        const struct answer told = ask_cuts(&often, 0, what, words);
+        check(told.boxes == answer.boxes && told.rounds == answer.rounds, "other boxes or rounds");
+        check(memcmp(often.boxes, once.boxes, sizeof once.boxes) == 0, "other boxes");
+        check(memcmp(often.palette, once.palette, sizeof once.palette) == 0, "another palette");
+        check(memcmp(often.map, once.map, sizeof once.map) == 0, "another map");
+        for (size_t i = 0; i < answer.boxes; i++) {
+            check(often.counts[i] == once.counts[i] * times, "another count of box %zu", i);
+            check(often.spreads[i] == once.spreads[i] * times, "another spread of box %zu", i);
+            for (size_t d = 3 * i; d < 3 * i + 3; d++)
+                check(often.remainders[d] == once.remainders[d] * times, "another remainder of box %zu", i);
+        }
+    }
+    for (size_t i = 0; i < 320; i++) q.table[i] *= 2;
+    ask_cuts(&q, 6, what, "multiplied once too often");
+}
+
+/* A table of colours, and one that no colours make, whose total is 13: its squares are less than its sums say. */
+static void ask_all_doubled(void)
+{
+    for (size_t k = 1; k <= 3; k++) {
+        struct asked q = good();
+        q.k = k;
+        ask_doubled(q, 28, "colours");
+        q.table[84] = 8192;
+        ask_doubled(q, 28, "no colours");
+    }
+}
+
 /* ---- Files */
 
 #define TEXT(bytes) bytes, sizeof bytes - 1
@@ -1700,6 +1797,8 @@ static void ask_all(void)
     ask_white();
     ask_squares();
     ask_compared();
+    ask_merged();
+    ask_all_doubled();
     ask_headers();
     ask_files();
     ask_rescued();

@@ -35,6 +35,30 @@ pub struct Answer {
 }
 
 impl Answer {
+    /// What has to come of the same table with all its numbers multiplied by 2^`power`: counts, remainders, spreads and
+    /// moments are multiplied too, and all else stays.
+    pub fn doubled(&self, power: usize) -> Self {
+        let times = |n: u32| n * (1 << power);
+        Self {
+            moments: self.moments.iter().map(|n| n * (1 << power)).collect(),
+            boxes: self
+                .boxes
+                .iter()
+                .map(|&b| BoxSpread {
+                    spread: b.spread * (1_u64 << power) as f64,
+                    ..b
+                })
+                .collect(),
+            counts: self.counts.iter().map(|&n| times(n)).collect(),
+            remainders: self
+                .remainders
+                .iter()
+                .map(|three| three.map(times))
+                .collect(),
+            ..self.clone()
+        }
+    }
+
     /// What a call answers that finds the same.
     pub fn of_call(&self) -> CutAnswer {
         CutAnswer {

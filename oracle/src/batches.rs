@@ -1,54 +1,11 @@
 //! An input shuffled, split into batches, and made one table again by loads and merges.
 use crate::{
     answer::Input,
-    buffer::{Buffer, Differs, same},
-    numbers::bins,
+    buffer::{Differs, same},
+    laid::Laid,
     port::{Grid, Port},
     random::Random,
 };
-
-/// A table in either layout, as loads and merges make it.
-pub trait Laid: Sized {
-    /// An empty one.
-    fn empty(grid: Grid, r: &mut Random) -> Self;
-
-    /// Loads colours; the number of that.
-    fn load(
-        &mut self,
-        port: &dyn Port,
-        grid: Grid,
-        colours: &[u8],
-        weighted: bool,
-        weights: &[u32],
-    ) -> u8;
-
-    /// Merges a second one, which stays as it is; the number of that.
-    fn merge(&mut self, port: &dyn Port, grid: Grid, second: &mut Self) -> Result<u8, Differs>;
-}
-
-impl Laid for Buffer<u64> {
-    fn empty(grid: Grid, r: &mut Random) -> Self {
-        Buffer::zeros(5 * bins(grid), r)
-    }
-
-    fn load(
-        &mut self,
-        port: &dyn Port,
-        grid: Grid,
-        colours: &[u8],
-        weighted: bool,
-        weights: &[u32],
-    ) -> u8 {
-        port.load(grid, self.lend(), colours, weighted, weights)
-    }
-
-    fn merge(&mut self, port: &dyn Port, grid: Grid, second: &mut Self) -> Result<u8, Differs> {
-        second.settle();
-        let number = port.merge(grid, self.lend(), second.see());
-        second.unchanged("the second table of a merge")?;
-        Ok(number)
-    }
-}
 
 /// A part of an input: colours with weights, or pixels without.
 pub struct Batch {

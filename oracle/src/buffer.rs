@@ -1,6 +1,6 @@
 //! Buffers to lend, which tell whether a call left in them what it should.
 use crate::{
-    answer::Answer,
+    answer::{Answer, BoxSpread},
     case::Case,
     numbers::Lengths,
     port::{CutAnswer, Grid, Lent, Narrow, NarrowMut, Port},
@@ -171,6 +171,31 @@ impl Buffers {
         match work {
             Some(work) => port.narrow_cut(grid, k, table, work, lent),
             None => port.narrow_cut_slowly(grid, k, table, lent),
+        }
+    }
+
+    /// What a cut that is done has left, as an answer.
+    pub fn left(&self, answered: CutAnswer) -> Answer {
+        let n = answered.boxes;
+        let boxes = self.boxes.see().as_chunks::<6>().0.iter();
+        let boxes = boxes.zip(self.spreads.see()).take(n);
+        Answer {
+            moments: self
+                .work
+                .as_ref()
+                .map_or(Vec::new(), |work| work.see().to_vec()),
+            boxes: boxes
+                .map(|(ends, &spread)| BoxSpread {
+                    min: [0, 2, 4].map(|i| ends[i]),
+                    max: [1, 3, 5].map(|i| ends[i]),
+                    spread: f64::from_bits(spread),
+                })
+                .collect(),
+            rounds: answered.rounds,
+            palette: self.palette.see().as_chunks().0[..n].to_vec(),
+            counts: self.counts.see()[..n].to_vec(),
+            remainders: self.remainders.see().as_chunks().0[..n].to_vec(),
+            map: self.map.see().to_vec(),
         }
     }
 

@@ -36,6 +36,15 @@ pub enum Kind {
         header: Vec<u8>,
         damages: Vec<Damage>,
     },
+    /// Tables merged in several orders. Each has a kind, and so many of the colours: of kind 0 it is what they make,
+    /// and of kind 1 there are other numbers in their bins, in the bounds.
+    Trees {
+        tables: Vec<[usize; 2]>,
+        damages: Vec<Damage>,
+    },
+    /// A table cut as it is, and with all numbers multiplied by 2^`power`; where it is `free`, there are other numbers
+    /// in the bins of its colours, in the bounds.
+    Doubled { power: usize, free: bool },
     /// The colours as a palette, with some stray bytes, and a list of so many answers.
     Palettes { stray: usize, answers: usize },
 }
@@ -147,6 +156,17 @@ impl fmt::Display for Case {
                 write!(f, "; split {split}")?;
                 write_damages(f, damages)
             }
+            Kind::Trees { tables, damages } => {
+                write!(f, "; tables")?;
+                for (i, [kind, colours]) in tables.iter().enumerate() {
+                    let comma = if i == 0 { "" } else { "," };
+                    write!(f, "{comma} {kind} {colours}")?;
+                }
+                write_damages(f, damages)
+            }
+            Kind::Doubled { power, free } => {
+                write!(f, "; power {power}; free {}", u8::from(*free))
+            }
             Kind::Palettes { stray, answers } => write!(f, "; stray {stray}; answers {answers}"),
         }
     }
@@ -166,9 +186,10 @@ fn colors(text: &str) -> impl Iterator<Item = ([u8; 3], u64)> {
     })
 }
 
-fn entries(text: &str) -> Vec<[u32; 3]> {
-    let threes = text.split(',').map(numbers::<u32>);
-    threes.filter_map(|three| three.try_into().ok()).collect()
+/// Lists of so many numbers.
+fn lists<T: std::str::FromStr, const N: usize>(text: &str) -> Vec<[T; N]> {
+    let all = text.split(',').map(numbers::<T>);
+    all.filter_map(|list| list.try_into().ok()).collect()
 }
 
 impl Case {
@@ -211,8 +232,16 @@ impl Case {
             (Some(split), None, Some(first), None) => Kind::Recordings {
                 split: split as usize,
                 first: first as u32,
-                entries: entries(field("entries")?),
+                entries: lists(field("entries")?),
                 damages: damages()?,
+            },
+            _ if field("tables").is_some() => Kind::Trees {
+                tables: lists(field("tables")?),
+                damages: damages()?,
+            },
+            _ if one("power").is_some() => Kind::Doubled {
+                power: one("power")? as usize,
+                free: one("free")? != 0,
             },
             (None, None, None, None) if field("damages").is_some() => Kind::Rescues {
                 damages: damages()?,

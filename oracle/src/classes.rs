@@ -1,5 +1,6 @@
 //! Makes the cases of each class.
 mod damages;
+mod laws;
 mod palettes;
 pub mod ppm;
 mod recordings;
@@ -31,7 +32,7 @@ const fn class(name: &'static str, cases: Cases) -> Class {
 }
 
 /// The classes; README.md says what their cases are.
-pub const CLASSES: [Class; 27] = [
+pub const CLASSES: [Class; 29] = [
     class("tiny", Cases::Random(tiny)),
     class("few", Cases::Random(few)),
     class("equal", Cases::Random(equal)),
@@ -52,6 +53,8 @@ pub const CLASSES: [Class; 27] = [
     class("rescues", Cases::Random(rescues)),
     class("recordings", Cases::Random(recordings::one)),
     class("ppm", Cases::Random(ppm::one)),
+    class("trees", Cases::Random(laws::trees)),
+    class("doubled", Cases::Random(laws::doubled)),
     class("palettes", Cases::Random(palettes::one)),
     class("levels", Cases::Listed(palettes::levels)),
     class("width", Cases::Listed(width)),

@@ -1,9 +1,10 @@
-//! Runs one case: whole, call by call in either layout, two tables compared, a damaged one rescued, recorded by intervals, from a file,
-//! or a palette for a terminal.
+//! Runs one case: whole, call by call in either layout, two tables compared, a damaged one rescued, recorded by
+//! intervals, from a file, some merged, one multiplied, or a palette for a terminal.
 use crate::{
     buffer::Differs,
     calls::calls,
     case::{Case, Kind},
+    doubled::doubled,
     narrow::narrow_calls,
     nights::nights,
     palettes::palettes,
@@ -12,6 +13,7 @@ use crate::{
     recordings::recordings,
     rescues::rescues,
     tally::Tally,
+    trees::trees,
     whole::whole,
 };
 use std::{
@@ -53,6 +55,8 @@ pub fn check(port: &dyn Port, case: &Case, tally: &mut Tally) -> Result<(), Diff
             header,
             damages,
         } => ppm(port, case, *split, header, damages, tally),
+        Kind::Trees { tables, damages } => trees(port, case, tables, damages, tally),
+        Kind::Doubled { power, free } => doubled(port, case, *power, *free, tally),
         Kind::Palettes { stray, answers } => palettes(port, case, *stray, *answers, tally),
     });
     catch_unwind(run).unwrap_or_else(|panic| Err(said(panic)))

@@ -72,6 +72,10 @@ pub const OF_RECORDINGS: [&str; 13] = [
 /// What can be damaged in a file and in the table that it is loaded into.
 pub const OF_PPM: [&str; 5] = ["number", "size", "table", "byte", "file"];
 
+/// What can be damaged in tables that are merged. The places of all tables count on, so that one tells its table too;
+/// of a length it tells, by being even or odd, which list of a narrow table has it.
+pub const OF_TREES: [&str; 2] = ["number", "table"];
+
 /// What can be damaged in the calls one by one.
 pub const DAMAGES: [&str; 23] = [
     "number",
@@ -119,6 +123,7 @@ impl Damage {
                 .chain(WITH_RESCUES)
                 .chain(OF_RECORDINGS)
                 .chain(OF_PPM)
+                .chain(OF_TREES)
                 .find(|d| *d == name)?,
             place: words.next()?.parse().ok()?,
             value: words.next()?.parse().ok()?,

@@ -3,11 +3,12 @@
 use crate::{
     PaletteSize,
     answer::{Answer, Original, Told, original},
-    batches::{Laid, merged, split},
+    batches::{merged, split},
     buffer::{Buffer, Buffers, Differs, fitting, same, slowly},
     calls::{add_one, off, resize, table_of},
     case::{Case, LIGHT},
     damage::Damage,
+    laid::{Laid, resized},
     numbers::{self, LARGEST_NARROW, Lengths, bins, five_each},
     port::{CutAnswer, Grid, Narrow, NarrowMut, Port},
     random::Random,
@@ -24,12 +25,14 @@ struct Lists {
 impl Lists {
     /// Those of a table of five numbers a bin, whose weights and sums are turned into 32 bits one by one.
     fn by(table: &[u64], turned: impl Fn(u64) -> u32) -> Self {
-        let bins = || table.chunks_exact(5);
+        let bins = table.as_chunks::<5>().0;
+        let mut sums = Vec::with_capacity(4 * bins.len());
+        for [four @ .., _] in bins {
+            sums.extend_from_slice(&four.map(&turned));
+        }
         Self {
-            sums: bins()
-                .flat_map(|five| [0, 1, 2, 3].map(|j| turned(five[j])))
-                .collect(),
-            squares: bins().map(|five| five[4]).collect(),
+            sums,
+            squares: bins.iter().map(|five| five[4]).collect(),
         }
     }
 
@@ -71,7 +74,7 @@ impl Lists {
 }
 
 /// A narrow table to lend.
-struct Table {
+pub struct Table {
     sums: Buffer<u32>,
     squares: Buffer<u64>,
 }
@@ -119,11 +122,41 @@ impl Table {
 }
 
 impl Laid for Table {
+    const MERGE: &'static str = "narrow_merge";
+    const LARGEST: u128 = LARGEST_NARROW;
+    const PAST: u8 = 15;
+
     fn empty(grid: Grid, r: &mut Random) -> Self {
         Self {
             sums: Buffer::zeros(4 * bins(grid), r),
             squares: Buffer::zeros(bins(grid), r),
         }
+    }
+
+    fn of_five(five: &[u64], [off_sums, off_squares]: [i64; 2], r: &mut Random) -> Self {
+        let Lists { sums, squares } = Lists::to_lend(five);
+        let lists = Lists {
+            sums: resized(&sums, off_sums, r),
+            squares: resized(&squares, off_squares, r),
+        };
+        Self::of(&lists, r)
+    }
+
+    fn five_each(&self) -> Vec<u64> {
+        five_each(self.see())
+    }
+
+    fn total(&self, grid: Grid) -> Option<u128> {
+        let fits = [self.sums.see().len(), self.squares.see().len()] == both(grid);
+        fits.then(|| numbers::narrow_sound(grid, self.see()))?
+    }
+
+    fn said_of_merge(&self, grid: Grid, second: &Self) -> u8 {
+        numbers::narrow_merge(grid, self.see(), second.see())
+    }
+
+    fn holds(&mut self, name: &str, five: &[u64]) -> Result<(), Differs> {
+        self.expect(name, five)
     }
 
     fn load(
@@ -144,6 +177,29 @@ impl Laid for Table {
         second.unchanged("the second table of a merge")?;
         Ok(number)
     }
+
+    fn cut(
+        &mut self,
+        port: &dyn Port,
+        case: &Case,
+        slow: bool,
+        answer: &Answer,
+        r: &mut Random,
+    ) -> Result<Buffers, Differs> {
+        let cutting = Cutting {
+            port,
+            grid: case.grid,
+            k: case.k,
+            work: (!slow).then_some(both(case.grid)),
+            lengths: fitting(case),
+        };
+        cutting.held(self, 0, Some(answer), r)
+    }
+}
+
+/// The lengths of both lists of a narrow table.
+fn both(grid: Grid) -> [usize; 2] {
+    [4 * bins(grid), bins(grid)]
 }
 
 /// How a narrow table is cut: with a work table of these lengths, or slowly.
@@ -157,14 +213,14 @@ struct Cutting<'a> {
 
 impl Cutting<'_> {
     /// Cuts, and holds the answer and every lent place to the number and, where the cut is done, to what the original
-    /// says.
+    /// says. What was lent, all but the work table.
     fn held(
         &self,
         table: &mut Table,
         said: u8,
         answer: Option<&Answer>,
         r: &mut Random,
-    ) -> Result<(), Differs> {
+    ) -> Result<Buffers, Differs> {
         let mut lent = Buffers::random(self.lengths.slowly(), r);
         let mut work = self.work.map(|lengths| Table::random(lengths, r));
         let to_work_in = work.as_mut().map(Table::lend);
@@ -178,23 +234,22 @@ impl Cutting<'_> {
                 answered,
             )?;
             lent.unchanged()?;
-            return work.map_or(Ok(()), |mut work| {
-                work.unchanged("the work table of a refused cut")
-            });
+            if let Some(work) = &mut work {
+                work.unchanged("the work table of a refused cut")?;
+            }
+        } else if let Some(answer) = answer {
+            same("what a cut answers", answer.of_call(), answered)?;
+            lent.expect(answer)?;
+            if let Some(work) = &mut work {
+                work.expect("the work table", &answer.moments)?;
+            }
         }
-        let Some(answer) = answer else {
-            return Ok(());
-        };
-        same("what a cut answers", answer.of_call(), answered)?;
-        lent.expect(answer)?;
-        work.map_or(Ok(()), |mut work| {
-            work.expect("the work table", &answer.moments)
-        })
+        Ok(lent)
     }
 }
 
 /// What differs, told of the narrow layout.
-fn narrow(differs: Differs) -> Differs {
+pub fn narrow(differs: Differs) -> Differs {
     format!("narrow, {differs}")
 }
 
@@ -242,7 +297,7 @@ fn whole(
         port,
         grid,
         k: case.k,
-        work: Some([4 * bins(grid), bins(grid)]),
+        work: Some(both(grid)),
         lengths: fitting(case),
     };
     let (number, answer) = told.map_or((8, None), |t| (0, Some(&t.answer)));
@@ -287,7 +342,7 @@ impl Calls {
             colours: second.as_flattened().to_vec(),
             weights: weights.to_vec(),
             weighted: true,
-            work: [4 * case.bins(), case.bins()],
+            work: both(case.grid),
             lengths: fitting(case),
             wide: 5 * case.bins(),
         }

@@ -46,24 +46,33 @@ pub fn added(color: [u8; 3], w: impl Into<u64>) -> [u64; 5] {
     [w, w * c1, w * c2, w * c3, w * (c1 * c1 + c2 * c2 + c3 * c3)]
 }
 
+/// Of the four numbers behind the weight of a bin, in their order, the least and the most that it may be for each 1 of
+/// the weight: of a sum "low and high", "the smallest and largest value of that component that fall in the bin", and of
+/// the squares "the sum of the three squared lows" and "the sum of the three squared highs".
+pub fn bounds(grid: Grid, place: usize) -> [[u64; 2]; 4] {
+    let [_, b2, b3] = grid;
+    let bins = [place / (b2 * b3), place / b3 % b2, place % b3];
+    let [c1, c2, c3] = [0, 1, 2].map(|d| {
+        let values = 256 / grid[d];
+        let low = (bins[d] * values) as u64;
+        [low, low + values as u64 - 1]
+    });
+    let squares = [0, 1].map(|end| [c1, c2, c3].map(|c| c[end] * c[end]).iter().sum());
+    [c1, c2, c3, squares]
+}
+
 /// "A bin keeps its bounds if every component sum lies between n·low and n·high, where low and high are the smallest
 /// and largest value of that component that fall in the bin, and the squares lie between n times the sum of the three
 /// squared lows and n times the sum of the three squared highs."
 pub fn keeps_bounds(grid: Grid, place: usize, five: &[u64]) -> bool {
-    let [_, b2, b3] = grid;
-    let [n, sums @ .., squares] = [0, 1, 2, 3, 4].map(|j| u128::from(five[j]));
-    let bins = [place / (b2 * b3), place / b3 % b2, place % b3];
-    let (mut squared_lows, mut squared_highs) = (0, 0);
-    for ((size, bin), sum) in grid.into_iter().zip(bins).zip(sums) {
-        let values = 256 / size;
-        let (low, high) = ((bin * values) as u128, (bin * values + values - 1) as u128);
-        if sum < n * low || sum > n * high {
-            return false;
-        }
-        squared_lows += low * low;
-        squared_highs += high * high;
+    // Most bins of a table are empty, and a large one is looked at often.
+    if five == [0; 5] {
+        return true;
     }
-    n * squared_lows <= squares && squares <= n * squared_highs
+    let [n, others @ ..] = [0, 1, 2, 3, 4].map(|j| u128::from(five[j]));
+    let bounds = bounds(grid, place).map(|ends| ends.map(u128::from));
+    let mut pairs = others.into_iter().zip(bounds);
+    pairs.all(|(number, [least, most])| n * least <= number && number <= n * most)
 }
 
 /// The total of a sound table; none if it is not sound.
@@ -86,14 +95,12 @@ fn sound_up_to(largest: u128, grid: Grid, table: &[u64]) -> Option<u128> {
 /// The five numbers of each bin of a narrow table: "weight and sums as four 32-bit numbers a bin, squares apart as
 /// 64-bit".
 pub fn five_each(table: Narrow<'_>) -> Vec<u64> {
-    let bins = table.sums.chunks_exact(4).zip(table.squares);
-    bins.flat_map(|(sums, &squares)| {
-        [0, 1, 2, 3]
-            .map(|j| sums[j].into())
-            .into_iter()
-            .chain([squares])
-    })
-    .collect()
+    let mut five = Vec::with_capacity(5 * table.squares.len());
+    for (sums, &squares) in table.sums.chunks_exact(4).zip(table.squares) {
+        five.extend_from_slice(&[0, 1, 2, 3].map(|j| u64::from(sums[j])));
+        five.push(squares);
+    }
+    five
 }
 
 /// "both lists of exact length": 4·bins numbers and bins numbers.

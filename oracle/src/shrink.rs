@@ -51,7 +51,7 @@ pub fn shrink(case: &Case, differs: &dyn Fn(&Case) -> bool) -> Case {
 }
 
 /// Whether the judge has the grid, k is in its bounds and the band in the frame. A comparison, a rescue, a recording, a
-/// file and a palette ask no original.
+/// file, merges and a palette ask no original, and a table that is multiplied can do without.
 fn is_fit(case: &Case) -> bool {
     let pixels: usize = case.frame.iter().map(|f| f.1).sum();
     let colours = case.input.colors.len();
@@ -73,6 +73,10 @@ fn is_fit(case: &Case) -> bool {
             Kind::Recordings { split, entries, .. } => {
                 *split + entries.iter().map(|e| e[2] as usize).sum::<usize>() == colours
             }
+            Kind::Trees { tables, .. } => {
+                !tables.is_empty() && tables.iter().map(|t| t[1]).sum::<usize>() == colours
+            }
+            Kind::Doubled { .. } => case.input.total() > 0,
             Kind::Palettes { .. } => true,
         }
 }
@@ -85,7 +89,10 @@ fn without(case: &Case, at: usize, count: usize) -> Case {
     other.input.weights.drain(at..end);
     let fewer = |split: &mut usize| *split -= (*split).clamp(at, end) - at;
     match &mut other.kind {
-        Kind::Whole { .. } | Kind::Rescues { .. } | Kind::Palettes { .. } => {}
+        Kind::Whole { .. }
+        | Kind::Rescues { .. }
+        | Kind::Doubled { .. }
+        | Kind::Palettes { .. } => {}
         Kind::Calls { split, .. } | Kind::Narrow { split, .. } | Kind::Ppm { split, .. } => {
             fewer(split)
         }
@@ -99,6 +106,14 @@ fn without(case: &Case, at: usize, count: usize) -> Case {
             for entry in entries {
                 let stop = start + entry[2] as usize;
                 entry[2] -= (stop.clamp(at, end) - start.clamp(at, end)) as u32;
+                start = stop;
+            }
+        }
+        Kind::Trees { tables, .. } => {
+            let mut start = 0;
+            for [_, colours] in tables {
+                let stop = start + *colours;
+                *colours -= stop.clamp(at, end) - start.clamp(at, end);
                 start = stop;
             }
         }
@@ -141,6 +156,15 @@ fn recorded(case: &Case, change: impl Fn(&mut u32, &mut Vec<[u32; 3]>, &mut Vec<
     other
 }
 
+/// The case with the tables that it merges changed.
+fn merged(case: &Case, change: impl Fn(&mut Vec<[usize; 2]>, &mut Vec<Damage>)) -> Case {
+    let mut other = case.clone();
+    if let Kind::Trees { tables, damages } = &mut other.kind {
+        change(tables, damages);
+    }
+    other
+}
+
 /// The case with its file changed.
 fn filed(case: &Case, change: impl Fn(&mut usize, &mut Vec<u8>, &mut Vec<Damage>)) -> Case {
     let mut other = case.clone();
@@ -165,7 +189,8 @@ fn plain(case: &Case, split: usize, pixels: usize) -> Case {
 }
 
 /// Nothing by pixels, fewer batches, or fewer damages; fewer entries of a recorded list, or smaller intervals; fewer
-/// pixels of a file, fewer bytes of its header, or a blank or a 1 among them; fewer stray bytes or answers.
+/// pixels of a file, fewer bytes of its header, or a blank or a 1 among them; fewer tables, or what colours make in the
+/// place of other numbers; a smaller power; fewer stray bytes or answers.
 fn kinds(case: &Case) -> Vec<Case> {
     let mut list = Vec::new();
     match &case.kind {
@@ -316,6 +341,36 @@ fn kinds(case: &Case) -> Vec<Case> {
                 };
                 list.push(filed(case, |_, header, _| header[i] = simple));
             }
+        }
+        Kind::Trees { tables, damages } => {
+            for i in 0..damages.len() {
+                list.push(merged(case, |_, damages| {
+                    damages.remove(i);
+                }));
+            }
+            let mut end = 0;
+            for (i, &[_, colours]) in tables.iter().enumerate() {
+                let at = end;
+                end += colours;
+                list.push(merged(&without(case, at, colours), |tables, _| {
+                    tables.remove(i);
+                }));
+                list.push(merged(case, |tables, _| tables[i][0] = 0));
+            }
+        }
+        Kind::Doubled { power, free } => {
+            let of_colours = Kind::Doubled {
+                power: *power,
+                free: false,
+            };
+            list.push(Case {
+                kind: of_colours,
+                ..case.clone()
+            });
+            let free = *free;
+            list.extend(with(case, *power, |c, power| {
+                c.kind = Kind::Doubled { power, free };
+            }));
         }
         Kind::Palettes { stray, answers } => {
             list.extend(with(case, *stray, |c, n| {

@@ -32,7 +32,7 @@ use Rattle.table.proofs.Soundness.{total-same, span-is}
 use Rattle.table.proofs.Layouts.{HoldsIn}
 
 -- ---- sums over a list of colours
-pub over-append : (cs ds : List Weighted) (f : Weighted → ℕ) → sumOver (cs ++ ds) f ≡ sumOver cs f + sumOver ds f
+pub over-append : {A : Type 0} (cs ds : List A) (f : A → ℕ) → sumOver (cs ++ ds) f ≡ sumOver cs f + sumOver ds f
 unfolding sumOver
 over-append [] ds f = sym (zero-add (sumOver ds f))
 over-append (c ∷ cs) ds f =
@@ -44,7 +44,7 @@ unfolding sumOver sumFrom listFrom
 over-list i zero c f = refl
 over-list i (suc n) c f = ap (λ (x : ℕ). f (c i) + x) (over-list (suc i) n c f)
 
-over-permᴰ : {cs ds : List Weighted} (f : Weighted → ℕ) → List·Permᴰ cs ds → sumOver cs f ≡ sumOver ds f
+over-permᴰ : {A : Type 0} {cs ds : List A} (f : A → ℕ) → List·Permᴰ cs ds → sumOver cs f ≡ sumOver ds f
 unfolding sumOver
 over-permᴰ f L.List·Permᴰ·nil = refl
 over-permᴰ f (L.List·Permᴰ·cons e p) = λ i. f (e i) + over-permᴰ f p i
@@ -52,9 +52,9 @@ over-permᴰ f (L.List·Permᴰ·swap {a = a} {b = b} {l = l} e d) =
     add-left-comm (f a) (f b) (sumOver l f) ∙ (λ i. f (d i) + (f (e i) + sumOver l f))
 over-permᴰ f (L.List·Permᴰ·trans p q) = over-permᴰ f p ∙ over-permᴰ f q
 
--- the order of the colours does not matter
-pub over-perm : {cs ds : List Weighted} (f : Weighted → ℕ) → Perm cs ds → sumOver cs f ≡ sumOver ds f
-over-perm {cs} {ds} f p =
+-- the order does not matter
+pub over-perm : {A : Type 0} {cs ds : List A} (f : A → ℕ) → Perm cs ds → sumOver cs f ≡ sumOver ds f
+over-perm {cs = cs} {ds} f p =
     mathlib.Core.Logic.∥∥₁-elim p (hedberg ℕ-discrete (sumOver cs f) (sumOver ds f)) (λ d. over-permᴰ f d)
 
 -- ---- what one colour adds is in the bounds of its bin

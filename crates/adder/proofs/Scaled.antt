@@ -1,11 +1,11 @@
--- Laws of a batch whose weights are multiplied by a scale: how many they are, what they weigh, and that with every
--- weight times 1 it is the batch.
+-- Laws of a batch whose weights are multiplied by a scale: how many they are, what they weigh, what they add, and that
+-- with every weight times 1 it is the batch.
 -- Assumes nothing.
 use mathlib.Core.Path.{_≡_, refl, sym, ap, _∙_}
 use mathlib.Core.Bool.{Bool, true, false, not, _&&_, cond}
-use mathlib.Core.List.{List}
-use Prim.Native.Nat.{ℕ, _*_, _/_, _≤_, _<_}
-use native.Mathlib.Nat.{zero-add, mul-one, one-mul, mul-zero, lt-of-not-le}
+use mathlib.Core.List.{List, [], _∷_, map}
+use Prim.Native.Nat.{ℕ, zero, suc, _+_, _*_, _/_, _≤_, _<_}
+use native.Mathlib.Nat.{zero-add, mul-one, one-mul, mul-zero, mul-add, mul-assoc, lt-of-not-le}
 use native.Mathlib.Decide.{decLe}
 use native.Mathlib.Omega.{arith}
 use borrow.Author.Tests.{eq-eqb}
@@ -14,8 +14,12 @@ use lib.ListN.{length, getD, List·getD-eq-default}
 use Rattle.basics.specs.Range.{listFrom, sumFrom}
 use Rattle.pixels.specs.Colour.{colourAt}
 use Rattle.basics.proofs.Range.{length-list, list-at}
-use Rattle.basics.proofs.Lists.{list-same}
-use Rattle.adder.specs.Batch.{weightOf, weightedAt, batchOf, scaledWeights}
+use Rattle.basics.proofs.Lists.{map-list, list-same}
+use Rattle.grid.specs.declared.place.Grid.{Grid}
+use Rattle.grid.specs.Grid.{colourPlace}
+use Rattle.table.specs.Cell.{zeros}
+use Rattle.adder.specs.Batch.{Weighted, scaledColour, share, adds, sumOver, weightOf, loaded, weightedAt}
+use Rattle.adder.specs.Batch.{batchOf, scaledWeights}
 use Rattle.adder.specs.Add.{Whole, scaledBatch}
 use Rattle.adder.specs.Inner.{scaledAt, partOf}
 use Rattle.adder.proofs.Loading.{AllBytes}
@@ -97,6 +101,49 @@ module _ (scale : ℕ) (colours : List ℕ) (weighted : Bool) (weights : List �
 
   pub scaled-bytes : ((k : ℕ) → getD colours k 0 < 256) → AllBytes (scaledBatch scale colours weighted weights)
   scaled-bytes = all-bytes-of colours true scaled
+
+-- ---- what multiplied colours weigh, and add
+module _ (scale : ℕ) where
+  pub scaled-colours : (colours : List ℕ) (weighted : Bool) (weights : List ℕ)
+      → scaledBatch scale colours weighted weights ≡ map (scaledColour scale) (batchOf colours weighted weights)
+  unfolding batchOf weightedAt partOf scaledAt scaledColour
+  scaled-colours colours weighted weights =
+      sym (part-scaled scale colours weighted weights)
+      ∙ sym (map-list (scaledColour scale) 0 (length colours / 3) (weightedAt colours weighted weights))
+
+  over-scaled : (f : Weighted → ℕ) → ((c : Weighted) → f (scaledColour scale c) ≡ scale * f c) → (cs : List Weighted)
+      → sumOver (map (scaledColour scale) cs) f ≡ scale * sumOver cs f
+  unfolding sumOver
+  over-scaled f h [] = sym (mul-zero scale)
+  over-scaled f h (c ∷ cs) = (λ i. h c i + over-scaled f h cs i) ∙ sym (mul-add scale (f c) (sumOver cs f))
+
+  pub weight-scaled : (cs : List Weighted) → weightOf (map (scaledColour scale) cs) ≡ scale * weightOf cs
+  unfolding weightOf scaledColour
+  weight-scaled cs = over-scaled (λ c. c .weight) (λ c. refl) cs
+
+  share-scaled : (c : Weighted) (j : ℕ) → share (scaledColour scale c) j ≡ scale * share c j
+  unfolding share scaledColour
+  share-scaled c zero = refl
+  share-scaled c (suc zero) = mul-assoc scale (c .weight) _
+  share-scaled c (suc (suc zero)) = mul-assoc scale (c .weight) _
+  share-scaled c (suc (suc (suc zero))) = mul-assoc scale (c .weight) _
+  share-scaled c (suc (suc (suc (suc j)))) = mul-assoc scale (c .weight) _
+
+  adds-scaled : (g : Grid) (p j : ℕ) (c : Weighted) → adds g (scaledColour scale c) p j ≡ scale * adds g c p j
+  unfolding adds scaledColour
+  adds-scaled g p j c = go (eqb (colourPlace g (c .colour)) p)
+    where
+      go : (b : Bool) → cond b (share (scaledColour scale c) j) 0 ≡ scale * cond b (share c j) 0
+      go true = share-scaled c j
+      go false = sym (mul-zero scale)
+
+  pub loaded-scaled : (g : Grid) (cs : List Weighted) (p j : ℕ)
+      → loaded g (map (scaledColour scale) cs) zeros p j ≡ scale * loaded g cs zeros p j
+  unfolding loaded
+  loaded-scaled g cs p j =
+      zero-add (sumOver (map (scaledColour scale) cs) (λ c. adds g c p j))
+      ∙ over-scaled (λ c. adds g c p j) (adds-scaled g p j) cs
+      ∙ ap (λ (x : ℕ). scale * x) (sym (zero-add (sumOver cs (λ c. adds g c p j))))
 
 -- ---- every weight times 1
 module _ (colours : List ℕ) (weighted : Bool) (weights : List ℕ) where

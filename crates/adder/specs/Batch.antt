@@ -16,6 +16,10 @@ pub record Weighted : Type 0 where
   pub colour : Rgb
   pub weight : ℕ
 
+-- with its weight multiplied by a scale
+unfoldable pub scaledColour : ℕ → Weighted → Weighted
+scaledColour scale c = record { colour = c .colour; weight = scale * c .weight }
+
 -- "Each colour adds w to n, w·c to each sum, w·(c1²+c2²+c3²) to the squares of its bin."
 unfoldable pub share : Weighted → ℕ → ℕ
 share c zero = c .weight
@@ -29,9 +33,10 @@ share c (suc (suc (suc (suc j)))) =
 unfoldable pub adds : Grid → Weighted → View
 adds g c p j = cond (eqb (colourPlace g (c .colour)) p) (share c j) 0
 
-unfoldable pub sumOver : List Weighted → (Weighted → ℕ) → ℕ
+-- the sum of f over a list
+unfoldable pub sumOver : {A : Type 0} → List A → (A → ℕ) → ℕ
 sumOver [] f = 0
-sumOver (c ∷ cs) f = f c + sumOver cs f
+sumOver (x ∷ xs) f = f x + sumOver xs f
 
 unfoldable pub weightOf : List Weighted → ℕ
 weightOf cs = sumOver cs (λ c. c .weight)

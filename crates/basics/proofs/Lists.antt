@@ -1,11 +1,16 @@
 -- Laws of a list of f at n numbers from i on.
 -- Assumes nothing.
 use mathlib.Core.Path.{_≡_, refl, sym, ap, _∙_}
-use mathlib.Core.List.{List, [], _∷_, _++_}
+use mathlib.Core.List.{List, [], _∷_, _++_, map}
 use Prim.Native.Nat.{ℕ, zero, suc, _+_, _≤_, _<_}
 use native.Mathlib.Nat.{zero-add, add-zero, add-suc, suc-add}
 use native.Mathlib.Omega.{arith}
 use Rattle.basics.specs.Range.{listFrom}
+
+pub map-list : {A B : Type 0} (f : A → B) (i n : ℕ) (h : ℕ → A) → map f (listFrom i n h) ≡ listFrom i n (λ k. f (h k))
+unfolding listFrom
+map-list f i zero h = refl
+map-list f i (suc n) h = λ k. f (h i) ∷ map-list f (suc i) n h k
 
 module _ {A : Type 0} where
   pub list-append : (i n m : ℕ) (f : ℕ → A) → listFrom i (n + m) f ≡ listFrom i n f ++ listFrom (i + n) m f

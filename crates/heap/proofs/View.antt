@@ -1,5 +1,5 @@
--- A view of the elements that keeps their spreads changes nothing: under it the heap climbs, sinks, puts in and takes
--- out the same.
+-- The heap sees nothing of its elements but how their spreads compare: mapped by whatever keeps every comparison, they
+-- climb, sink, are put in and taken out the same.
 -- Assumes nothing.
 use mathlib.Core.Path.{_≡_, refl, ap, _∙_}
 use mathlib.Core.Bool.{Bool, true, false, cond, _&&_}
@@ -20,7 +20,12 @@ map-set f [] p x = refl
 map-set f (y ∷ l) zero x = refl
 map-set {B = B} f (y ∷ l) (suc p) x = ap (λ (k : List B). f y ∷ k) (map-set f l p x)
 
-module _ {X Y : Type 0} (f : X → Y) (key : X → Float) (key' : Y → Float) (same : (x : X) → key' (f x) ≡ key x)
+-- a map of elements that keeps every comparison of their spreads
+pub record KeepsOrder {X Y : Type 0} (f : X → Y) (key : X → Float) (key' : Y → Float) : Type 0 where
+  pub less : (x y : X) → lt (key' (f x)) (key' (f y)) ≡ lt (key x) (key y)
+  pub at-most : (x y : X) → le (key' (f x)) (key' (f y)) ≡ le (key x) (key y)
+
+module _ {X Y : Type 0} (f : X → Y) (key : X → Float) (key' : Y → Float) (keeps : KeepsOrder f key key')
     (none : X) where
   abbrev viewHoled : Holed X → Holed Y
   viewHoled s = record { room = map f (s .room); hole = s .hole }
@@ -28,8 +33,11 @@ module _ {X Y : Type 0} (f : X → Y) (key : X → Float) (key' : Y → Float) (
   pub item-view : (h : List X) (p : ℕ) → item (f none) (map f h) p ≡ f (item none h p)
   item-view h p = List·getD-map f h p none
 
-  key-view : (h : List X) (p : ℕ) → key' (item (f none) (map f h) p) ≡ key (item none h p)
-  key-view h p = ap key' (item-view h p) ∙ same (item none h p)
+  less-view : (h : List X) (p q : ℕ)
+      → lt (key' (item (f none) (map f h) p)) (key' (item (f none) (map f h) q))
+      ≡ lt (key (item none h p)) (key (item none h q))
+  less-view h p q =
+      (λ i. lt (key' (item-view h p i)) (key' (item-view h q i))) ∙ keeps .less (item none h p) (item none h q)
 
   set-view : (h : List X) (p : ℕ) {y : Y} (x : X) → y ≡ f x → set (map f h) p y ≡ map f (set h p x)
   set-view h p x e = ap (λ (z : Y). set (map f h) p z) e ∙ map-set f h p x
@@ -44,7 +52,7 @@ module _ {X Y : Type 0} (f : X → Y) (key : X → Float) (key' : Y → Float) (
   unfolding climb
   climb-view zero h p = refl
   climb-view (suc times) h p =
-      (λ i. cond (ltb 0 p && lt (key-view h (parent p) i) (key-view h p i))
+      (λ i. cond (ltb 0 p && less-view h (parent p) p i)
       (climb key' (f none) times (swap-view h p (parent p) i) (parent p))
       (map f h))
       ∙ ap (λ (k : List Y). cond (climbs key none h p) k (map f h))
@@ -52,7 +60,10 @@ module _ {X Y : Type 0} (f : X → Y) (key : X → Float) (key' : Y → Float) (
       ∙ map-cond (map f) (climbs key none h p) _ _
 
   child-view : (h : List X) (p : ℕ) → child key' (f none) (map f h) p ≡ child key none h p
-  child-view h p = λ i. cond (le (key-view h (2 * p + 1) i) (key-view h (2 * p + 2) i)) (2 * p + 2) (2 * p + 1)
+  child-view h p =
+      ap (λ (b : Bool). cond b (2 * p + 2) (2 * p + 1))
+      ((λ i. le (key' (item-view h (2 * p + 1) i)) (key' (item-view h (2 * p + 2) i)))
+      ∙ keeps .at-most (item none h (2 * p + 1)) (item none h (2 * p + 2)))
 
   sink-view : (times : ℕ) (h : List X) (n p : ℕ)
       → sink key' (f none) times (map f h) n p ≡ viewHoled (sink key none times h n p)

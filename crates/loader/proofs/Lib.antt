@@ -5,6 +5,8 @@ pub mod ByAdding
 pub mod Laws
 pub mod Order
 pub mod Plans
+pub mod Trees
+pub mod Doubled
 pub mod Weightless
 pub mod Batches
 pub mod Worked

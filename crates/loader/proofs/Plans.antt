@@ -31,13 +31,18 @@ module _ {l : Layout} where
   isFilled (Stopped n) = false
   isFilled (Filled t) = true
 
-  same-table : {t s : TableIn l} → _≡_ {A = EndedIn l} (Filled t) (Filled s) → t ≡ s
+  pub same-table : {t s : TableIn l} → _≡_ {A = EndedIn l} (Filled t) (Filled s) → t ≡ s
   unfolding filledIn
   same-table {t} {s} e = ap (λ (r : EndedIn l). filledIn r t) e
 
   stopped-not : {n : ℕ} {t : TableIn l} → _≡_ {A = EndedIn l} (Stopped n) (Filled t) → ⊥
   unfolding isFilled
   stopped-not e = true≢false (sym (ap isFilled e))
+
+  -- the answer 0, and a table
+  pub ended-filled : {n : ℕ} {x t : TableIn l} → n ≡ 0 → x ≡ t → endedOfIn l n x ≡ Filled t
+  unfolding endedOfIn
+  ended-filled e f = λ i. endedOfIn l (e i) (f i)
 
   -- a table came out where the answer is 0
   filled-done : (n : ℕ) (x : TableIn l) {t : TableIn l} → endedOfIn l n x ≡ Filled t → n ≡ 0

@@ -11,6 +11,7 @@ use lib.IntN.{ℤ, pos, negℤ, natAbs, _+ℤ_}
 use lib.ListN.{length, getD}
 use Rattle.basics.specs.Range.{listFrom, sumFrom, allFrom}
 use Rattle.basics.proofs.Range.{list-is, sum-same, all-same}
+use Rattle.basics.proofs.Lists.{map-list}
 use Rattle.grid.specs.declared.place.Chosen.the-variants as chosen
 use Rattle.grid.specs.declared.place.Grid.{Grid}
 use Rattle.grid.specs.Grid.{gridOf, onGrid, binsOf}
@@ -29,11 +30,6 @@ use Rattle.seluvava.specs.Sizes.{binsFor}
 use Rattle.promises.specs.Compare.{plusEach, changed, IsFirst}
 
 -- ---- lists
-map-list : {A B : Type 0} (f : A → B) (i n : ℕ) (h : ℕ → A) → map f (listFrom i n h) ≡ listFrom i n (λ k. f (h k))
-unfolding listFrom
-map-list f i zero h = refl
-map-list f i (suc n) h = λ k. f (h i) ∷ map-list f (suc i) n h k
-
 plus-list : (i n : ℕ) (f h : ℕ → ℤ) → plusEach (listFrom i n f) (listFrom i n h) ≡ listFrom i n (λ k. f k +ℤ h k)
 unfolding listFrom plusEach
 plus-list i zero f h = refl

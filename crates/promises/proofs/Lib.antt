@@ -12,6 +12,9 @@ pub mod Tiling
 pub mod Call
 pub mod Full
 pub mod Order
+pub mod Merging
+pub mod Doubling
+pub mod DoubledPlans
 pub mod Mapping
 pub mod Criterion
 pub mod Sign

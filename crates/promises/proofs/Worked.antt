@@ -107,3 +107,9 @@ unfolding farTable loneBin sumFrom allFrom binOf spanOf choose shiftAt binsOf pl
     lib.Ieee.ofInt lib.Ieee.mul lib.Ieee.add lib.Ieee.sub lib.Ieee.div
     lib.Ieee.round lib.Ieee.size lib.Ieee.span lib.Ieee.climb lib.Ieee.units lib.Ieee.odd lib.Count.trailingZeros
 far-worked = (refl, refl, refl, refl, refl)
+
+-- P1's table, which `p1-doubles` is about: it is sound, and its total is 4
+pub p1-worked : (sound limit grid2 (viewOf blackWhiteTable) ≡ true) × (total grid2 (viewOf blackWhiteTable) ≡ 4)
+unfolding blackWhiteTable empties times sumFrom allFrom binOf spanOf choose shiftAt binsOf binAt viewOf
+    between squaredSpan plusSpan squaresSpan inBounds spanAt binSound total sound
+p1-worked = (refl, refl)

@@ -9,6 +9,8 @@ pub mod Tiling
 pub mod Call
 pub mod Full
 pub mod Order
+pub mod Merging
+pub mod Doubling
 pub mod Mapping
 pub mod Criterion
 pub mod Half

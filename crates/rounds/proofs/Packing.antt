@@ -18,7 +18,7 @@ use Rattle.heap.specs.TwoArrays.{TwoArrays, itemsOf, spreadsOf, boxesOf, bySpre
 use Rattle.heap.specs.TwoArrays.{noItem as noPacked}
 use Rattle.heap.proofs.TwoArrays.{alike, items-item, items-are, items-long, lent-of}
 use Rattle.heap.proofs.Keeps.{put-in-long, take-out-long}
-use Rattle.heap.proofs.View.{item-view, put-in-view, take-out-view}
+use Rattle.heap.proofs.View.{KeepsOrder, item-view, put-in-view, take-out-view}
 use Rattle.rounds.specs.declared.gather.BoxSpread.{BoxSpread}
 use Rattle.rounds.specs.Loop.{bySpread, noItem, withZero, startRoom}
 use Rattle.rounds.specs.Inner.{unpack, roomIn}
@@ -28,13 +28,17 @@ nothing-there : unpack noPacked ≡ noItem
 unfolding boxOf
 nothing-there = refl
 
+-- unpacking changes no spread
+same-order : KeepsOrder unpack byPacked bySpread
+same-order = record { less = λ x y. refl; at-most = λ x y. refl }
+
 module _ {spreads : List Float} {boxes : List ℕ} (lent : TwoArrays spreads boxes) where
   pub room-in-item : (p : ℕ)
       → item noItem (roomIn spreads boxes) p ≡ record { spread = getD spreads p nan; bounds = boxOf (getD boxes p 0) }
   unfolding roomIn
   room-in-item p =
       (λ i. item (sym nothing-there i) (map unpack (itemsOf spreads boxes)) p)
-      ∙ item-view unpack byPacked bySpread (λ x. refl) noPacked (itemsOf spreads boxes) p
+      ∙ item-view unpack byPacked bySpread same-order noPacked (itemsOf spreads boxes) p
       ∙ ap unpack (items-item spreads boxes p (alike lent))
 
   pub room-in-spread : (p : ℕ) → item noItem (roomIn spreads boxes) p .spread ≡ getD spreads p nan
@@ -51,7 +55,7 @@ module _ {spreads : List Float} {boxes : List ℕ} (lent : TwoArrays spreads box
     after-put s x b m q l e f =
         let long = items-long lent in (
           ap (map unpack) (items-are _ e f)
-              ∙ sym (put-in-view unpack byPacked bySpread (λ x. refl) noPacked (itemsOf spreads boxes) n
+              ∙ sym (put-in-view unpack byPacked bySpread same-order noPacked (itemsOf spreads boxes) n
               (record { spread = s; box = m }))
               ∙ (λ i. putIn bySpread (nothing-there i) (map unpack (itemsOf spreads boxes)) n
               (record { spread = s; bounds = (ap boxOf q ∙ box-pack x b) i })),
@@ -68,7 +72,7 @@ module _ {spreads : List Float} {boxes : List ℕ} (lent : TwoArrays spreads box
     after-take some most e f =
         let long = items-long lent in (
           ap (map unpack) (items-are _ e f)
-              ∙ sym (take-out-view unpack byPacked bySpread (λ x. refl) noPacked (itemsOf spreads boxes) n)
+              ∙ sym (take-out-view unpack byPacked bySpread same-order noPacked (itemsOf spreads boxes) n)
               ∙ (λ i. takeOut bySpread (nothing-there i) (map unpack (itemsOf spreads boxes)) n),
           lent-of _ e f (take-out-long byPacked noPacked (itemsOf spreads boxes) n some (omega arith) ∙ long),
         )

@@ -41,6 +41,14 @@ module _ {t : NarrowTable} {n : ℕ} where
   narrow-cell s p h = record { sums = omega (arith, s .sums); squares = omega (arith, s .squares) }
 
 -- ---- the view
+-- number j at place p, also past the fifth
+pub narrow-view-at : (t : NarrowTable) (p j : ℕ)
+    → narrowView t p j
+    ≡ cond (ltb ((5 * p + j) % 5) 4) (getD (t .sums) (4 * ((5 * p + j) / 5) + (5 * p + j) % 5) 0)
+    (getD (t .squares) ((5 * p + j) / 5) 0)
+unfolding narrowView narrowNumber
+narrow-view-at t p j = refl
+
 -- weight and sums, and the squares
 module _ (t : NarrowTable) (p j : ℕ) (h : j < 5) where
   place-is : (5 * p + j) / 5 ≡ p
@@ -50,9 +58,10 @@ module _ (t : NarrowTable) (p j : ℕ) (h : j < 5) where
   which-is = omega arith
 
   narrow-is : narrowView t p j ≡ cond (ltb j 4) (getD (t .sums) (4 * p + j) 0) (getD (t .squares) p 0)
-  unfolding narrowView narrowNumber
   narrow-is =
-      λ i. cond (ltb (which-is i) 4) (getD (t .sums) (4 * place-is i + which-is i) 0) (getD (t .squares) (place-is i) 0)
+      narrow-view-at t p j
+      ∙ (λ i. cond (ltb (which-is i) 4) (getD (t .sums) (4 * place-is i + which-is i) 0)
+      (getD (t .squares) (place-is i) 0))
 
   pub narrow-sums : j < 4 → narrowView t p j ≡ getD (t .sums) (4 * p + j) 0
   narrow-sums l = narrow-is ∙ rw (lt-ltb j 4 l) refl

@@ -2,7 +2,8 @@
 use crate::{
     case::{Case, Kind},
     damage::{
-        DAMAGES, Damage, OF_NARROW, OF_NIGHTS, OF_PPM, OF_RECORDINGS, OF_RESCUES, WITH_RESCUES,
+        DAMAGES, Damage, OF_NARROW, OF_NIGHTS, OF_PPM, OF_RECORDINGS, OF_RESCUES, OF_TREES,
+        WITH_RESCUES,
     },
     numbers::{added, place},
     random::Random,
@@ -20,9 +21,13 @@ pub fn one(case: &Case, r: &mut Random) -> Damage {
         Kind::Rescues { .. } => r.one_of(&OF_RESCUES),
         Kind::Recordings { .. } => r.one_of(&OF_RECORDINGS),
         Kind::Ppm { .. } => r.one_of(&OF_PPM),
+        Kind::Trees { .. } => r.one_of(&OF_TREES),
         _ => r.one_of(&DAMAGES),
     };
     let at = match what {
+        "number" | "table" if matches!(case.kind, Kind::Trees { .. }) => {
+            5 * case.bins() * r.from(0, tables_of(case) - 1) + number_place(case, r)
+        }
         "number" | "second-number" | "bit" => number_place(case, r),
         "page" => r.from(0, 5 * case.bins() - 1),
         "entry" => r.from(0, case.bins() - 1),
@@ -34,7 +39,7 @@ pub fn one(case: &Case, r: &mut Random) -> Damage {
     let (k, huge) = (case.k as i64, r.one_of(&HUGE));
     let pixels = case.frame.iter().map(|f| f.1).sum::<usize>() as i64;
     let value = match what {
-        "number" => change(case, true, at, r),
+        "number" => change(case, true, at % (5 * case.bins()), r),
         "second-number" => change(case, false, at, r),
         "bit" => r.from(0, 63) as i64,
         "page" => r.one_of(&[-1, 0, 1, 1 << 31, huge]),
@@ -88,6 +93,14 @@ fn entries_of(case: &Case) -> usize {
     }
 }
 
+/// How many tables are merged.
+fn tables_of(case: &Case) -> usize {
+    match &case.kind {
+        Kind::Trees { tables, .. } => tables.len(),
+        _ => 0,
+    }
+}
+
 /// How many bytes the header of a case's file has.
 fn header_of(case: &Case) -> usize {
     match &case.kind {
@@ -109,7 +122,9 @@ fn number_place(case: &Case, r: &mut Random) -> usize {
 /// The five numbers of a bin in the first table or in the second.
 fn numbers_of(case: &Case, first: bool, bin: usize) -> [i64; 5] {
     let (from, split) = match case.kind {
-        Kind::Whole { .. } | Kind::Palettes { .. } => return [0; 5],
+        Kind::Whole { .. } | Kind::Trees { .. } | Kind::Doubled { .. } | Kind::Palettes { .. } => {
+            return [0; 5];
+        }
         Kind::Calls { split, .. }
         | Kind::Narrow { split, .. }
         | Kind::Recordings { split, .. }
