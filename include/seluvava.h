@@ -105,7 +105,7 @@ extern "C" {
 /*
  * The version of the archive or the shared library that a program is linked with, as one number. It is
  * SELUVAVA_VERSION_NUMBER where header and library belong together: a program that is moved from machine to machine
- * asks once, when it starts. An archive before version 0.10.0 has no such call, so that a program does not link.
+ * asks once, when it starts. The oldest archives have no such call, so that a program does not link with one.
  */
 uint32_t seluvava_version(void);
 
