@@ -122,8 +122,8 @@ impl ColourMap {
     ///
     /// # Errors
     ///
-    /// [`Refused::Length`] of [`Lent::Indices`] where there is not one index per pixel, and [`Refused::MapEntry`], which
-    /// is never so for the colour map of a cut.
+    /// [`Refused::Length`] of [`Lent::Indices`] where there is not one index per pixel, and [`Refused::MapEntry`],
+    /// which is never so for the colour map of a cut.
     ///
     /// ```
     /// use seluvava::{Grid, Table};

@@ -212,8 +212,8 @@ impl Recorder {
     ///
     /// # Errors
     ///
-    /// [`Refused::Length`] of [`Lent::Entries`] where the entries are not in threes, and of [`Lent::Answers`] where they
-    /// are more than the answers; and those of [`replay`](Recorder::replay).
+    /// [`Refused::Length`] of [`Lent::Entries`] where the entries are not in threes, and of [`Lent::Answers`] where
+    /// they are more than the answers; and those of [`replay`](Recorder::replay).
     pub fn replay_numbers(
         &mut self,
         table: &mut Table,
