@@ -645,8 +645,8 @@ static bool lay_narrow(struct asked *q)
     return total <= NARROW_LIMIT;
 }
 
-/* The cut into one structure, where a length is changed: the number that it has to answer, with nothing written where
- * that is a refusal; and what it leaves has to be what cut left of the same, as `after` has it. */
+/* Asks the cut into one structure: it has to answer this number, and to leave of `before` what `after` has, which is
+ * what cut left of it, or, where it is refused, `before` itself. */
 static void ask_into(const struct asked *before, const struct asked *after, unsigned number)
 {
     struct asked lent = *before;
