@@ -2,9 +2,9 @@
 use Prim.Native.Nat.{ℕ, _+_, _*_}
 
 -- "version a.b.c is the number 10,000·a + 100·b + c"
-unfoldable pub numberOf : ℕ → ℕ → ℕ → ℕ
-numberOf a b c = 10000 * a + 100 * b + c
+unfoldable pub versionOf : ℕ → ℕ → ℕ → ℕ
+versionOf a b c = 10000 * a + 100 * b + c
 
 -- "These are the calls of version 0.10.0"
 unfoldable pub versionNumber : ℕ
-versionNumber = numberOf 0 10 0
+versionNumber = versionOf 0 10 0

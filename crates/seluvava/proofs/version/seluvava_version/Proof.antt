@@ -2,7 +2,7 @@
 -- Assumes nothing.
 use mathlib.Core.Path.{refl}
 use borrow.Author.Needs.{needs}
-use Rattle.seluvava.specs.Version.{numberOf, versionNumber}
+use Rattle.seluvava.specs.Version.{versionOf, versionNumber}
 use Rattle.seluvava.proofs.version.seluvava_version.Statement.{statement}
 use Rattle.seluvava.proofs.version.seluvava_version.Tie as tie
 
@@ -19,7 +19,7 @@ add-result-2 : tie.Need-add-result-2
 add-result-2 c = search needs
 
 returns : tie.Need-returns
-unfolding numberOf versionNumber
+unfolding versionOf versionNumber
 returns c = refl
 
 pub seluvava-version-spec : {M : Type 1} → statement M
