@@ -95,9 +95,9 @@ extern "C" {
 #endif
 
 /* The version of the calls, the crate for Rust and the pages; and as one number, 10000 * a + 100 * b + c for a.b.c. */
-#define SELUVAVA_VERSION "0.10.0"
+#define SELUVAVA_VERSION "0.9.0"
 #define SELUVAVA_VERSION_MAJOR 0
-#define SELUVAVA_VERSION_MINOR 10
+#define SELUVAVA_VERSION_MINOR 9
 #define SELUVAVA_VERSION_PATCH 0
 #define SELUVAVA_VERSION_NUMBER \
     (10000 * SELUVAVA_VERSION_MAJOR + 100 * SELUVAVA_VERSION_MINOR + SELUVAVA_VERSION_PATCH)

@@ -5,6 +5,6 @@ use Prim.Native.Nat.{ℕ, _+_, _*_}
 unfoldable pub versionOf : ℕ → ℕ → ℕ → ℕ
 versionOf a b c = 10000 * a + 100 * b + c
 
--- "These are the calls of version 0.10.0"
+-- "These are the calls of version 0.9.0"
 unfoldable pub versionNumber : ℕ
-versionNumber = versionOf 0 10 0
+versionNumber = versionOf 0 9 0

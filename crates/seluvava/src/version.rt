@@ -4,7 +4,7 @@ ghost use Rattle.seluvava.specs.Version.{versionNumber};
 
 const MAJOR: u32 = 0;
 
-const MINOR: u32 = 10;
+const MINOR: u32 = 9;
 
 const PATCH: u32 = 0;
 
