@@ -5,8 +5,9 @@
  * afterwards, refusals too; that it reads and writes nothing else; and that it ends without a fault, whatever the
  * numbers and the contents. The compiler behind the proof is believed. MEASURED is how much stack a call takes, and
  * that flush modes change no answer (tests/). BY HAND stand the declarations below, which no proof reads: the tests in C
- * go by them, and the archive exports just these names. WHAT A CALLER SEES TO stands under LENT BUFFERS and ROUNDING:
- * no call can test it.
+ * go by them, and the archive exports just these names. So do the calls that are inline: seluvava_message, which has
+ * words for an answer, and seluvava_cut_into, which hands its arguments on. WHAT A CALLER SEES TO stands under LENT
+ * BUFFERS and ROUNDING: no call can test it.
  *
  * load counts colours into a table, and load_ppm those of a PPM file; merge adds a second table into a first, compare
  * tells where two tables differ, rescue clears what is damaged in a table, cut makes of a table a palette of at most
@@ -14,10 +15,11 @@
  * that palette. begin, reload and batch record frames that were sampled at an interval, and replay does a whole list of
  * such reloads and batches. nearest gives each colour of a palette its number in a terminal. narrow_load, narrow_merge,
  * narrow_cut and narrow_cut_slowly do with smaller tables what the calls without that word do, and widen makes a table
- * of such a one.
- * docs/CHOOSING.md has what to know first: which grid, what comes back inexactly, how to save a table.
- * docs/INTERVALS.md has a recording as an example, with every answer, and docs/RESCUE.md a night with one bad page of
- * memory.
+ * of such a one. cut_into is cut with one structure in the place of five lists, for whoever has no reason to lend
+ * them apart. version says which version the archive is of.
+ * docs/GUIDE.md has the first steps, and docs/CHOOSING.md what to know before choosing: which grid, what comes back
+ * inexactly, how to save a table. docs/INTERVALS.md has a recording as an example, with every answer, and
+ * docs/RESCUE.md a night with one bad page of memory. docs/RULES.md has every rule, to the bit.
  *
  * GRID. Each call that is lent a table or a map is told three sizes, one for each component of a colour, each from
  * 2, 4, 8, 16, 32, 64, 128. The bin of component c at size s is c * s / 256, rounded down. With sizes b1, b2, b3, bin
@@ -56,7 +58,8 @@
  * program without one brings these two.
  *
  * ANSWERS. What load, load_ppm, merge, rescue, batch, map, paint, nearest, narrow_load, narrow_merge and widen hand
- * back, and ppm_header, compare, begin, reload, replay, cut, cut_slowly, narrow_cut and narrow_cut_slowly in `number`:
+ * back, and ppm_header, compare, begin, reload, replay, cut, cut_slowly, cut_into, narrow_cut and narrow_cut_slowly in
+ * `number`. Each has a constant below, and seluvava_message has words for it:
  *
  *   0  done
  *   1  a grid size not among the seven
@@ -91,11 +94,65 @@
 extern "C" {
 #endif
 
-/* The version of the calls, the crate for Rust and the pages. */
-#define SELUVAVA_VERSION "0.8.0"
+/* The version of the calls, the crate for Rust and the pages; and as one number, 10000 * a + 100 * b + c for a.b.c. */
+#define SELUVAVA_VERSION "0.9.0"
 #define SELUVAVA_VERSION_MAJOR 0
-#define SELUVAVA_VERSION_MINOR 8
+#define SELUVAVA_VERSION_MINOR 9
 #define SELUVAVA_VERSION_PATCH 0
+#define SELUVAVA_VERSION_NUMBER \
+    (10000 * SELUVAVA_VERSION_MAJOR + 100 * SELUVAVA_VERSION_MINOR + SELUVAVA_VERSION_PATCH)
+
+/*
+ * The version of the archive or the shared library that a program is linked with, as one number. It is
+ * SELUVAVA_VERSION_NUMBER where header and library belong together: a program that is moved from machine to machine
+ * asks once, when it starts. The oldest archives have no such call, so that a program does not link with one.
+ */
+uint32_t seluvava_version(void);
+
+/* The answers, as ANSWERS has them. */
+enum seluvava_number {
+    SELUVAVA_DONE = 0,
+    SELUVAVA_REFUSED_GRID_SIZE = 1,
+    SELUVAVA_REFUSED_PALETTE_SIZE = 2,
+    SELUVAVA_REFUSED_STRAY_BYTES = 3,
+    SELUVAVA_REFUSED_WEIGHTS = 4,
+    SELUVAVA_REFUSED_LENGTH = 5,
+    SELUVAVA_REFUSED_UNSOUND = 6,
+    SELUVAVA_REFUSED_TOTAL = 7,
+    SELUVAVA_REFUSED_EMPTY = 8,
+    SELUVAVA_REFUSED_MAP_ENTRY = 9,
+    SELUVAVA_REFUSED_PPM_HEADER = 10,
+    SELUVAVA_REFUSED_PPM_MAXIMUM = 11,
+    SELUVAVA_REFUSED_PPM_LENGTH = 12,
+    SELUVAVA_REFUSED_INTERVAL = 13,
+    SELUVAVA_REFUSED_NOT_IN_FORCE = 14,
+    SELUVAVA_REFUSED_NARROW_TOTAL = 15
+};
+
+/* What an answer means, in a few words without a full stop; of a number that no call answers it says just that. */
+static inline const char *seluvava_message(unsigned number)
+{
+    switch (number) {
+    case SELUVAVA_DONE: return "done";
+    case SELUVAVA_REFUSED_GRID_SIZE: return "a grid size is none of 2, 4, 8, 16, 32, 64, 128";
+    case SELUVAVA_REFUSED_PALETTE_SIZE: return "the number of colours asked for is outside 1 to 256";
+    case SELUVAVA_REFUSED_STRAY_BYTES: return "the colour bytes are not a multiple of three";
+    case SELUVAVA_REFUSED_WEIGHTS: return "weights are given, and not one per colour";
+    case SELUVAVA_REFUSED_LENGTH:
+        return "a lent length is wrong, a band reaches past the frame, or a recorded list is malformed";
+    case SELUVAVA_REFUSED_UNSOUND: return "a table is not sound";
+    case SELUVAVA_REFUSED_TOTAL: return "the total would pass 4,294,967,295";
+    case SELUVAVA_REFUSED_EMPTY: return "the table to be cut has total 0";
+    case SELUVAVA_REFUSED_MAP_ENTRY: return "an entry of the map is not below the palette's length";
+    case SELUVAVA_REFUSED_PPM_HEADER: return "the header of a PPM is malformed";
+    case SELUVAVA_REFUSED_PPM_MAXIMUM: return "the maximum of a PPM is not 255";
+    case SELUVAVA_REFUSED_PPM_LENGTH: return "a PPM has more or fewer bytes of pixels than its header says";
+    case SELUVAVA_REFUSED_INTERVAL: return "an interval is outside 1 to 4,096";
+    case SELUVAVA_REFUSED_NOT_IN_FORCE: return "the interval of a batch is not the one in force";
+    case SELUVAVA_REFUSED_NARROW_TOTAL: return "the total of a narrow table would pass 16,843,008";
+    default: return "no call answers this number";
+    }
+}
 
 /* The three sizes for RGB, as every call takes them: 8,192 bins. */
 #define SELUVAVA_RGB 16, 32, 16
@@ -343,6 +400,38 @@ seluvava_cut(size_t b1, size_t b2, size_t b3, size_t k,
              uint8_t *map, size_t map_len,
              uint8_t *boxes, size_t boxes_len,
              double *spreads, size_t spreads_len);
+
+/* What a cut of at most 256 colours writes beside the map, which is as long as its grid says. It needs no zeros. */
+struct seluvava_cut_results {
+    uint8_t palette[3 * 256];
+    uint32_t counts[256];
+    uint32_t remainders[3 * 256];
+    uint8_t boxes[6 * 256];
+    double spreads[256];
+};
+
+/*
+ * Cut into one structure: what cut does, with its five lists of fixed length in `results`. They have room for every k
+ * from 1 to 256, so that of the answers 5 speaks of the table, the work table and the map alone.
+ *
+ *   table, work, map
+ *             as for cut.
+ *   results   whatever it holds. Afterwards palette, counts, remainders, boxes and spreads as cut leaves them. Places
+ *             past the last box stay as they were.
+ *
+ * Answers 0, 1, 2, 5, 6, 8.
+ */
+static inline struct seluvava_cut_answer
+seluvava_cut_into(size_t b1, size_t b2, size_t b3, size_t k,
+                  const uint64_t *table, size_t table_len,
+                  uint64_t *work, size_t work_len,
+                  uint8_t *map, size_t map_len,
+                  struct seluvava_cut_results *results)
+{
+    return seluvava_cut(b1, b2, b3, k, table, table_len, work, work_len, results->palette, sizeof results->palette,
+                        results->counts, 256, results->remainders, 3 * 256, map, map_len, results->boxes,
+                        sizeof results->boxes, results->spreads, 256);
+}
 
 /*
  * Cut slowly: what cut does, without a work table. The bins of a box are added up each time that its sums are needed.

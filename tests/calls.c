@@ -3,8 +3,9 @@
  * at a time, lengths one off, NULL with length 0, bands, batches and frames of every length up to 200, every
  * recorded list of up to three entries out of ten, PPM files cut at every byte and with every byte in the place of
  * each of their headers, palettes of every length, tables merged in either order, and all cuts of the same tables, fast
- * and slow, wide and narrow, which have to leave the same, and of tables multiplied by each power of two; and all of it
- * once more with the processor's flush modes set.
+ * and slow, wide and narrow and into one structure, which have to leave the same, and of tables multiplied by each power
+ * of two; and all of it once more with the processor's flush modes set. Then the version, and the constants and words of
+ * the answers.
  * What a lent buffer must hold afterwards is said here once more, in C, by the same rules.
  */
 #define _DEFAULT_SOURCE
@@ -644,14 +645,42 @@ static bool lay_narrow(struct asked *q)
     return total <= NARROW_LIMIT;
 }
 
+/* Asks the cut into one structure: it has to answer this number, and to leave of `before` what `after` has, which is
+ * what cut left of it, or, where it is refused, `before` itself. */
+static void ask_into(const struct asked *before, const struct asked *after, unsigned number)
+{
+    struct asked lent = *before;
+    struct seluvava_cut_results results;
+    memcpy(results.palette, lent.palette, sizeof results.palette);
+    memcpy(results.counts, lent.counts, sizeof results.counts);
+    memcpy(results.remainders, lent.remainders, sizeof results.remainders);
+    memcpy(results.boxes, lent.boxes, sizeof results.boxes);
+    memcpy(results.spreads, lent.spreads, sizeof results.spreads);
+    const struct seluvava_cut_answer told =
+        seluvava_cut_into(lent.b1, lent.b2, lent.b3, lent.k, lent.table, lent.length[TABLE], lent.work,
+                          lent.length[WORK], lent.map, lent.length[MAP], &results);
+    check(told.number == number, "into a structure: answered %u and not %u", told.number, number);
+    check(memcmp(lent.table, after->table, sizeof lent.table) == 0, "into a structure: the table is changed");
+    check(memcmp(lent.work, after->work, sizeof lent.work) == 0, "into a structure: another work table");
+    check(memcmp(lent.map, after->map, sizeof lent.map) == 0, "into a structure: another map");
+    check(memcmp(results.palette, after->palette, sizeof results.palette) == 0, "into a structure: another palette");
+    check(memcmp(results.counts, after->counts, sizeof results.counts) == 0, "into a structure: other counts");
+    check(memcmp(results.remainders, after->remainders, sizeof results.remainders) == 0,
+          "into a structure: other remainders");
+    check(memcmp(results.boxes, after->boxes, sizeof results.boxes) == 0, "into a structure: other boxes");
+    check(memcmp(results.spreads, after->spreads, sizeof results.spreads) == 0, "into a structure: other spreads");
+}
+
 /* Asks all cuts, which have to tell and to leave the same, but for what is left in work tables: the narrow ones where
- * the total is one of a narrow table, and then also widens, which has to give the table back. */
+ * the total is one of a narrow table, and then also widens, which has to give the table back. Where 5 is due, a list is
+ * short that the structure has room for. */
 static struct answer ask_cuts(struct asked *q, unsigned number, const char *what, const char *and)
 {
     static const enum call others[] = {CUT_SLOWLY, NARROW_CUT, NARROW_CUT_SLOWLY};
     struct asked before = *q;
     const bool narrow = lay_narrow(&before);
     const struct answer answer = ask(CUT, q, number, what, and);
+    if (number != 5) ask_into(&before, q, number);
     for (size_t i = 0; i < (narrow ? COUNT(others) : 1); i++) {
         struct asked other = before;
         const struct answer told = ask(others[i], &other, number, what, and);
@@ -1772,6 +1801,71 @@ static void ask_length(size_t pixels)
     ask_cuts(&q, 0, words, "k one more");
 }
 
+/* Each length and number that the cut into one structure is told, one off, with the answer that is due then. */
+static void ask_into_changed(void)
+{
+    static const size_t more[] = {1, SIZE_MAX};
+    now("cut_into");
+    for (size_t i = 0; i < COUNT(more); i++) {
+        struct asked q = good();
+        q.length[TABLE] += more[i];
+        ask_into(&q, &q, 5);
+        q = good();
+        q.length[WORK] += more[i];
+        ask_into(&q, &q, 5);
+        q = good();
+        q.length[MAP] += more[i];
+        ask_into(&q, &q, 5);
+        q = good();
+        q.b2 += more[i];
+        ask_into(&q, &q, 1);
+    }
+    struct asked q = good();
+    q.k = 0;
+    ask_into(&q, &q, 2);
+    q.k = 257;
+    ask_into(&q, &q, 2);
+    q = good();
+    q.table[4] = MORE_THAN(195075);
+    ask_into(&q, &q, 6);
+    memset(q.table, 0, sizeof q.table);
+    ask_into(&q, &q, 8);
+}
+
+/* ---- The version, and the answers by name and in words */
+
+static void ask_version(void)
+{
+    char words[40];
+    const unsigned number = seluvava_version();
+    now("version");
+    check(number == SELUVAVA_VERSION_NUMBER, "the library is of %u, and the header of %u", number,
+          (unsigned)SELUVAVA_VERSION_NUMBER);
+    snprintf(words, sizeof words, "%u.%u.%u", number / 10000, number / 100 % 100, number % 100);
+    check(strcmp(words, SELUVAVA_VERSION) == 0, "the library is of %s, and the header of %s", words, SELUVAVA_VERSION);
+}
+
+static void ask_messages(void)
+{
+    static const unsigned numbers[] = {
+        SELUVAVA_DONE, SELUVAVA_REFUSED_GRID_SIZE, SELUVAVA_REFUSED_PALETTE_SIZE, SELUVAVA_REFUSED_STRAY_BYTES,
+        SELUVAVA_REFUSED_WEIGHTS, SELUVAVA_REFUSED_LENGTH, SELUVAVA_REFUSED_UNSOUND, SELUVAVA_REFUSED_TOTAL,
+        SELUVAVA_REFUSED_EMPTY, SELUVAVA_REFUSED_MAP_ENTRY, SELUVAVA_REFUSED_PPM_HEADER, SELUVAVA_REFUSED_PPM_MAXIMUM,
+        SELUVAVA_REFUSED_PPM_LENGTH, SELUVAVA_REFUSED_INTERVAL, SELUVAVA_REFUSED_NOT_IN_FORCE,
+        SELUVAVA_REFUSED_NARROW_TOTAL,
+    };
+    const char *const none = seluvava_message(16);
+    now("messages");
+    check(COUNT(numbers) == 16, "there are %zu answers", COUNT(numbers));
+    check(strcmp(seluvava_message(UINT_MAX), none) == 0 && none[0], "no words for a number that no call answers");
+    for (unsigned i = 0; i < COUNT(numbers); i++) {
+        check(numbers[i] == i, "constant %u is %u", i, numbers[i]);
+        check(seluvava_message(i)[0] && strcmp(seluvava_message(i), none) != 0, "no words for %u", i);
+        for (unsigned j = 0; j < i; j++)
+            check(strcmp(seluvava_message(i), seluvava_message(j)) != 0, "the same words for %u and %u", i, j);
+    }
+}
+
 /* ---- The sizes that a caller has to lend */
 
 static void ask_sizes(void)
@@ -1822,6 +1916,9 @@ int main(void)
     flush(true);
     ask_all();
     flush(false);
+    ask_into_changed();
+    ask_version();
+    ask_messages();
     ask_sizes();
     printf("calls: %zu checks\n", checks);
     return 0;

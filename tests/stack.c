@@ -40,6 +40,11 @@ static struct lent on_large, on_small;
 
 /* ---- The calls, one after the other */
 
+static void version(struct lent *l)
+{
+    l->answer = seluvava_version();
+}
+
 static void bins(struct lent *l)
 {
     l->answer = seluvava_bins(B1, B2, B3);
@@ -209,6 +214,7 @@ static const struct call {
     void (*make)(struct lent *);
     size_t answer;
 } calls[] = {
+    {"version", version, SELUVAVA_VERSION_NUMBER},
     {"bins", bins, BINS},
     {"numbers", numbers, 5 * BINS},
     {"load", load, 0},

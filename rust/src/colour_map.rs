@@ -1,4 +1,4 @@
-use crate::{Grid, Refused, sys};
+use crate::{Grid, Lent, Refused, sys};
 use std::{fmt, ops::Range};
 
 /// The most colours that a palette has.
@@ -55,8 +55,8 @@ impl ColourMap {
     ///
     /// # Errors
     ///
-    /// [`Refused::Length`] where there is not one entry for each of [`Grid::bins`], or the palette does not have 1 to
-    /// 256 colours.
+    /// [`Refused::Length`] of [`Lent::MapEntries`] where there is not one entry for each of [`Grid::bins`], and of
+    /// [`Lent::Palette`] where the palette does not have 1 to 256 colours.
     ///
     /// ```
     /// use seluvava::{ColourMap, Grid, Refused};
@@ -70,8 +70,11 @@ impl ColourMap {
         entries: Vec<u8>,
         palette: Vec<[u8; 3]>,
     ) -> Result<ColourMap, Refused> {
-        if entries.len() != grid.bins() || !(1..=MOST_COLOURS).contains(&palette.len()) {
-            return Err(Refused::Length);
+        if entries.len() != grid.bins() {
+            return Err(Refused::Length(Lent::MapEntries));
+        }
+        if !(1..=MOST_COLOURS).contains(&palette.len()) {
+            return Err(Refused::Length(Lent::Palette));
         }
         Ok(ColourMap {
             grid,
@@ -111,16 +114,42 @@ impl ColourMap {
     /// [`Refused::MapEntry`], which is never so for the colour map of a cut.
     pub fn map(&self, frame: &[[u8; 3]]) -> Result<Vec<u8>, Refused> {
         let mut indices = vec![0; frame.len()];
-        self.map_band(frame, &mut indices, 0..frame.len())?;
+        self.map_into(frame, &mut indices)?;
         Ok(indices)
+    }
+
+    /// Writes the index of each pixel of a frame into a list that is kept, and allocates nothing.
+    ///
+    /// # Errors
+    ///
+    /// [`Refused::Length`] of [`Lent::Indices`] where there is not one index per pixel, and [`Refused::MapEntry`],
+    /// which is never so for the colour map of a cut.
+    ///
+    /// ```
+    /// use seluvava::{Grid, Table};
+    ///
+    /// let frames = [[[0, 0, 0], [255, 0, 0]], [[255, 0, 0], [255, 0, 0]]];
+    /// let mut table = Table::new(Grid::rgb());
+    /// table.load(frames.as_flattened())?;
+    /// let map = table.cut(2)?.into_colour_map();
+    ///
+    /// let mut indices = [0; 2];
+    /// for frame in &frames {
+    ///     map.map_into(frame, &mut indices)?;
+    ///     assert_eq!(map.palette()[usize::from(indices[1])], [255, 0, 0]);
+    /// }
+    /// # Ok::<(), seluvava::Refused>(())
+    /// ```
+    pub fn map_into(&self, frame: &[[u8; 3]], indices: &mut [u8]) -> Result<(), Refused> {
+        self.map_band(frame, indices, 0..frame.len())
     }
 
     /// Writes the index of each pixel of a band of a frame into the same band of the index buffer.
     ///
     /// # Errors
     ///
-    /// [`Refused::Length`] where there is not one index per pixel of the frame, or the band reaches past the frame or
-    /// ends before it starts; [`Refused::MapEntry`].
+    /// [`Refused::Length`] of [`Lent::Indices`] where there is not one index per pixel of the frame; [`Refused::Band`]
+    /// where the band reaches past the frame or ends before it starts; [`Refused::MapEntry`].
     ///
     /// ```
     /// # use seluvava::{ColourMap, Grid};
@@ -154,6 +183,11 @@ impl ColourMap {
         indices: &mut [u8],
         band: Range<usize>,
     ) -> Result<(), Refused> {
+        let wrong = if indices.len() != frame.len() / 3 {
+            Refused::Length(Lent::Indices)
+        } else {
+            Refused::Band
+        };
         sys::map(
             self.grid,
             &self.entries,
@@ -162,6 +196,7 @@ impl ColourMap {
             indices,
             band_of(band),
         )
+        .map_err(|refused| refused.or(|| wrong))
     }
 
     /// Gives each pixel of a frame its colour of the palette.
@@ -178,7 +213,7 @@ impl ColourMap {
     ///
     /// # Errors
     ///
-    /// [`Refused::Length`] where the band reaches past the frame or ends before it starts; [`Refused::MapEntry`].
+    /// [`Refused::Band`] where the band reaches past the frame or ends before it starts; [`Refused::MapEntry`].
     pub fn paint_band(&self, frame: &mut [[u8; 3]], band: Range<usize>) -> Result<(), Refused> {
         self.paint_bytes(frame.as_flattened_mut(), band)
     }
@@ -197,6 +232,7 @@ impl ColourMap {
             frame,
             band_of(band),
         )
+        .map_err(|refused| refused.or(|| Refused::Band))
     }
 }
 

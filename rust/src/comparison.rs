@@ -123,7 +123,7 @@ impl Table {
     ///
     /// # Errors
     ///
-    /// [`Refused::Length`] where the grids differ, in any size; [`Refused::Unsound`] where either table is.
+    /// [`Refused::OtherGrid`] where the grids differ, in any size; [`Refused::Unsound`] where either table is.
     ///
     /// ```
     /// use seluvava::{Grid, Table};
@@ -142,7 +142,7 @@ impl Table {
     pub fn compare(&self, second: &Table) -> Result<Comparison, Refused> {
         let grid = self.grid();
         if second.grid() != grid {
-            return Err(Refused::Length);
+            return Err(Refused::OtherGrid);
         }
         let mut differences = vec![0; grid.numbers()];
         let (differing, first) =

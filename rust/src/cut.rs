@@ -141,6 +141,26 @@ impl Cut {
         &self.counts
     }
 
+    /// The colours of the boxes with their counts, in the order of the palette.
+    ///
+    /// ```
+    /// use seluvava::{Grid, Table};
+    ///
+    /// let mut table = Table::new(Grid::rgb());
+    /// table.load(&[[0, 0, 0], [255, 255, 255], [255, 255, 255]])?;
+    /// let cut = table.cut(16)?;
+    /// let (colour, count) = cut.colours().max_by_key(|&(_, count)| count).expect("a cut has a colour");
+    /// assert_eq!((colour, count), ([255, 255, 255], 2));
+    /// assert_eq!(cut.colours().len(), 2);
+    /// # Ok::<(), seluvava::Refused>(())
+    /// ```
+    pub fn colours(
+        &self,
+    ) -> impl ExactSizeIterator<Item = ([u8; 3], u32)> + DoubleEndedIterator + '_ {
+        let counts = self.counts.iter().copied();
+        self.palette().iter().copied().zip(counts)
+    }
+
     /// What rounding down leaves of each box: of each component, colour times count plus remainder is the sum over the
     /// colours in the box, and the remainder is below the count.
     ///

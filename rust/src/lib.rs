@@ -18,7 +18,15 @@
 //! the crate quantette 0.6.0, module `quantize/wu`, for colours of three `u8` components; over a million runs beside
 //! its own text gave the same answers.
 //!
-//! What to know before choosing a grid, or saving a table, stands in docs/CHOOSING.md of the project.
+//! # Where to read on
+//!
+//! - [The guide](pages::guide): the first steps, from C too, and how a release is installed.
+//! - [Choosing](pages::choosing): which grid, what comes back inexactly, how a table is saved.
+//! - [The rules](pages::rules): what is computed and refused, to the bit.
+//! - [From quantette](pages::from_quantette), call by call; [sampled frames](pages::intervals) and
+//!   [a damaged table](pages::rescue) by example.
+//!
+//! # Rounding
 //!
 //! A cut works in `f64` and counts on the processor rounding to nearest, which no call can test. Rust programs have it:
 //! they begin so, and the language takes it as given everywhere, so that changing it is undefined behaviour in any of
@@ -93,21 +101,41 @@ pub use cut::{ColourBox, Cut, WorkTable};
 pub use grid::Grid;
 pub use narrow::NarrowTable;
 pub use recorder::Recorder;
-pub use refused::Refused;
+pub use refused::{Lent, Refused};
 pub use rescue::{ClearedBin, Reason, Rescue};
 pub use table::Table;
 
-/// The examples of the guide, compiled and run with the others.
-#[cfg(doctest)]
-#[doc = include_str!("../../docs/FROM_QUANTETTE.md")]
-struct FromQuantette;
+/// The version of the proved code that is linked, as one number: 10,000·a + 100·b + c for version a.b.c.
+///
+/// It is the version of this crate, whose build refuses an archive of another.
+///
+/// ```
+/// let [major, minor, patch] = [10_000, 100, 1].map(|unit| seluvava::version() / unit % 100);
+/// assert_eq!(format!("{major}.{minor}.{patch}"), env!("CARGO_PKG_VERSION"));
+/// ```
+#[must_use]
+pub fn version() -> u32 {
+    sys::version()
+}
 
-/// And those of the page on intervals.
-#[cfg(doctest)]
-#[doc = include_str!("../../docs/INTERVALS.md")]
-struct Intervals;
+/// The pages of the project, for `cargo doc` to show. Their examples are compiled and run with the others.
+#[cfg(any(doc, doctest))]
+pub mod pages {
+    #[doc = include_str!("../../docs/GUIDE.md")]
+    pub mod guide {}
 
-/// And those of the page on a damaged table.
-#[cfg(doctest)]
-#[doc = include_str!("../../docs/RESCUE.md")]
-struct Rescued;
+    #[doc = include_str!("../../docs/CHOOSING.md")]
+    pub mod choosing {}
+
+    #[doc = include_str!("../../docs/RULES.md")]
+    pub mod rules {}
+
+    #[doc = include_str!("../../docs/FROM_QUANTETTE.md")]
+    pub mod from_quantette {}
+
+    #[doc = include_str!("../../docs/INTERVALS.md")]
+    pub mod intervals {}
+
+    #[doc = include_str!("../../docs/RESCUE.md")]
+    pub mod rescue {}
+}

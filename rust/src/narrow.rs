@@ -1,4 +1,4 @@
-use crate::{Cut, Grid, Refused, Table, WorkTable, sys};
+use crate::{Cut, Grid, Lent, Refused, Table, WorkTable, sys};
 use std::fmt;
 
 /// The colours that were counted, as in a [`Table`], in three fifths of its room.
@@ -70,15 +70,16 @@ impl NarrowTable {
     ///
     /// # Errors
     ///
-    /// [`Refused::Length`] where there are not exactly 4 · [`Grid::bins`] sums and [`Grid::bins`] squares.
+    /// [`Refused::Length`] of [`Lent::Sums`] where there are not exactly 4 · [`Grid::bins`] sums, and of
+    /// [`Lent::Squares`] where there are not [`Grid::bins`] squares.
     ///
     /// ```
     /// use seluvava::{Grid, NarrowTable, Refused};
     ///
     /// let grid = Grid::new(2, 2, 2)?;
     /// let squares = vec![1, 0, 0, 0, 0, 0, 0, 0]; // the first bin has no colour
-    /// let mut table = NarrowTable::from_parts(grid, vec![0; 32], squares)?;
-    /// assert_eq!(table.load(&[]), Err(Refused::Unsound));
+    /// let table = NarrowTable::from_parts(grid, vec![0; 32], squares)?;
+    /// assert_eq!(table.check(), Err(Refused::Unsound));
     /// # Ok::<(), Refused>(())
     /// ```
     pub fn from_parts(
@@ -86,8 +87,11 @@ impl NarrowTable {
         sums: Vec<u32>,
         squares: Vec<u64>,
     ) -> Result<NarrowTable, Refused> {
-        if (sums.len(), squares.len()) != (4 * grid.bins(), grid.bins()) {
-            return Err(Refused::Length);
+        if sums.len() != 4 * grid.bins() {
+            return Err(Refused::Length(Lent::Sums));
+        }
+        if squares.len() != grid.bins() {
+            return Err(Refused::Length(Lent::Squares));
         }
         Ok(NarrowTable {
             grid,
@@ -142,6 +146,18 @@ impl NarrowTable {
     #[must_use]
     pub fn total(&self) -> u64 {
         self.sums.iter().step_by(4).map(|&n| u64::from(n)).sum()
+    }
+
+    /// Whether the table is sound, as [`Table::check`] asks of a table.
+    ///
+    /// # Errors
+    ///
+    /// [`Refused::Unsound`].
+    pub fn check(&self) -> Result<(), Refused> {
+        match self.cut_slowly(1) {
+            Ok(_) | Err(Refused::Empty) => Ok(()),
+            Err(refused) => Err(refused),
+        }
     }
 
     /// Takes every colour out, so that the table can be filled anew.
@@ -201,11 +217,11 @@ impl NarrowTable {
     ///
     /// # Errors
     ///
-    /// [`Refused::Length`] where the grids differ, in any size; [`Refused::Unsound`] where either table is;
+    /// [`Refused::OtherGrid`] where the grids differ, in any size; [`Refused::Unsound`] where either table is;
     /// [`Refused::NarrowTotal`].
     pub fn merge(&mut self, second: &NarrowTable) -> Result<(), Refused> {
         if second.grid != self.grid {
-            return Err(Refused::Length);
+            return Err(Refused::OtherGrid);
         }
         sys::narrow_merge(self.grid, self.lists_mut(), second.lists())
     }
@@ -268,8 +284,7 @@ impl NarrowTable {
 
 /// The narrow table of the same numbers.
 ///
-/// There is no call of the archive for it: whether the table is sound is asked of a slow cut into one colour. So no
-/// second table is made for that, but only a map, a byte a bin, which is dropped again.
+/// There is no call of the archive for it: the table is [checked](Table::check), and its numbers are copied.
 ///
 /// ```
 /// use seluvava::{Grid, NarrowTable, Refused, Table};
@@ -291,10 +306,7 @@ impl TryFrom<&Table> for NarrowTable {
     /// [`Refused::Unsound`] where the table is; [`Refused::NarrowTotal`] where its total is above
     /// [`LARGEST_TOTAL`](NarrowTable::LARGEST_TOTAL).
     fn try_from(table: &Table) -> Result<NarrowTable, Refused> {
-        match table.cut_slowly(1) {
-            Ok(_) | Err(Refused::Empty) => {}
-            Err(refused) => return Err(refused),
-        }
+        table.check()?;
         if table.total() > NarrowTable::LARGEST_TOTAL {
             return Err(Refused::NarrowTotal);
         }

@@ -1,4 +1,4 @@
-use crate::{Refused, Table, sys};
+use crate::{Lent, Refused, Table, sys};
 
 /// Records frames of which one in so many was sampled.
 ///
@@ -167,9 +167,9 @@ impl Recorder {
     /// # Errors
     ///
     /// Those of an entry stand in the answer: [`Refused::Interval`], [`Refused::NotInForce`], [`Refused::Total`]. The
-    /// replay itself is refused by [`Refused::Length`] where a kind is neither of the two, a reload has colours, or
-    /// colours and weights are not exactly those of the batches, and by [`Refused::Unsound`]. Then nothing is
-    /// replayed, and the recorder keeps its interval.
+    /// replay itself is refused by [`Refused::Entry`] where a kind is neither of the two or a reload has colours, by
+    /// [`Refused::Length`] of [`Lent::Colours`] or [`Lent::RecordedWeights`] where these are not exactly those of the
+    /// batches, and by [`Refused::Unsound`]. Then nothing is replayed, and the recorder keeps its interval.
     ///
     /// ```
     /// use seluvava::{Grid, Recorder, Refused, Table};
@@ -212,8 +212,8 @@ impl Recorder {
     ///
     /// # Errors
     ///
-    /// [`Refused::Length`] where the entries are not in threes or more than the answers, and those of
-    /// [`replay`](Recorder::replay).
+    /// [`Refused::Length`] of [`Lent::Entries`] where the entries are not in threes, and of [`Lent::Answers`] where
+    /// they are more than the answers; and those of [`replay`](Recorder::replay).
     pub fn replay_numbers(
         &mut self,
         table: &mut Table,
@@ -227,8 +227,33 @@ impl Recorder {
             colours,
             weights,
         };
+        let room = answers.len();
         let (grid, numbers) = (table.grid(), table.numbers_mut());
-        self.interval = sys::replay(self.interval, grid, numbers, &recorded, answers)?;
+        self.interval = sys::replay(self.interval, grid, numbers, &recorded, answers)
+            .map_err(|refused| refused.or(|| wrong_with(&recorded, room)))?;
         Ok(())
+    }
+}
+
+/// What of a recorded list was refused with 5, with room for so many answers.
+fn wrong_with(recorded: &sys::Recorded<'_>, room: usize) -> Refused {
+    let entries = recorded.entries.chunks_exact(3);
+    let is_batch = |entry: &&[u32]| entry[0] == Recorder::BATCH;
+    let is_reload = |entry: &[u32]| entry[0] == Recorder::RELOAD && entry[2] == 0;
+    let batches = entries.clone().filter(is_batch);
+    let colours: usize = batches.map(|entry| entry[2] as usize).sum();
+    if !entries.remainder().is_empty() {
+        Refused::Length(Lent::Entries)
+    } else if room < entries.len() {
+        Refused::Length(Lent::Answers)
+    } else if !entries
+        .clone()
+        .all(|entry| is_batch(&entry) || is_reload(entry))
+    {
+        Refused::Entry
+    } else if recorded.colours.len() != 3 * colours {
+        Refused::Length(Lent::Colours)
+    } else {
+        Refused::Length(Lent::RecordedWeights)
     }
 }

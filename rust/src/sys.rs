@@ -14,8 +14,14 @@ use seluvava_sys::{
     seluvava_map, seluvava_merge, seluvava_narrow_cut, seluvava_narrow_cut_slowly,
     seluvava_narrow_load, seluvava_narrow_merge, seluvava_nearest, seluvava_paint,
     seluvava_ppm_header, seluvava_reload, seluvava_replay, seluvava_rescue, seluvava_table_len,
-    seluvava_widen,
+    seluvava_version, seluvava_widen,
 };
+
+/// The version of the archive.
+pub fn version() -> u32 {
+    // SAFETY: nothing is lent.
+    unsafe { seluvava_version() }
+}
 
 /// The bins of a grid, or 0 where it is refused.
 pub fn bins([b1, b2, b3]: [usize; 3]) -> usize {

@@ -1,4 +1,4 @@
-use crate::{Grid, Refused, sys};
+use crate::{Grid, Lent, Refused, sys};
 use std::fmt;
 
 /// The colours that were counted, by the bins of a grid.
@@ -52,13 +52,13 @@ impl Table {
     /// A table of numbers that come from elsewhere, as from another machine.
     ///
     /// Only their length is looked at. Every call looks at the numbers themselves and refuses an unsound table with
-    /// [`Refused::Unsound`]; a load of no colours does nothing else. A table is *sound* if the sums and squares of each
-    /// bin are within the bounds that its weight sets, and all weights add up to at most 4,294,967,295. Loads and
+    /// [`Refused::Unsound`]; [`check`](Table::check) does nothing else. A table is *sound* if the sums and squares of
+    /// each bin are within the bounds that its weight sets, and all weights add up to at most 4,294,967,295. Loads and
     /// merges keep a table sound.
     ///
     /// # Errors
     ///
-    /// [`Refused::Length`] where there are not exactly [`Grid::numbers`] of them.
+    /// [`Refused::Length`] of [`Lent::Numbers`] where there are not exactly [`Grid::numbers`] of them.
     ///
     /// ```
     /// use seluvava::{Grid, Refused, Table};
@@ -66,13 +66,13 @@ impl Table {
     /// let grid = Grid::new(2, 2, 2)?;
     /// let mut numbers = vec![0; grid.numbers()];
     /// numbers[4] = 1; // squares of the first bin, which has no colour
-    /// let mut table = Table::from_numbers(grid, numbers)?;
-    /// assert_eq!(table.load(&[]), Err(Refused::Unsound));
+    /// let table = Table::from_numbers(grid, numbers)?;
+    /// assert_eq!(table.check(), Err(Refused::Unsound));
     /// # Ok::<(), Refused>(())
     /// ```
     pub fn from_numbers(grid: Grid, numbers: Vec<u64>) -> Result<Table, Refused> {
         if numbers.len() != grid.numbers() {
-            return Err(Refused::Length);
+            return Err(Refused::Length(Lent::Numbers));
         }
         Ok(Table { grid, numbers })
     }
@@ -107,6 +107,38 @@ impl Table {
     pub fn total(&self) -> u64 {
         let weights = self.numbers.iter().step_by(5);
         weights.fold(0, |total, &weight| total.saturating_add(weight))
+    }
+
+    /// Whether the table is sound, as every call that is lent it asks before it does anything else.
+    ///
+    /// It is for a table that comes from elsewhere, before it is put beside others: a [merge](Table::merge) that is
+    /// refused does not say which of the two tables is unsound. A table that was only loaded and merged is always
+    /// sound. Soundness is no checksum: damage can pass.
+    ///
+    /// The archive has no call that does just this, so that it is asked of a slow cut into one colour, which reads the
+    /// table twice. A byte a bin is allocated for that and dropped again.
+    ///
+    /// # Errors
+    ///
+    /// [`Refused::Unsound`].
+    ///
+    /// ```
+    /// use seluvava::{Grid, Refused, Table};
+    ///
+    /// let mut table = Table::new(Grid::rgb());
+    /// table.check()?;
+    /// table.load(&[[255, 0, 0]])?;
+    /// let mut numbers = table.into_numbers();
+    /// numbers[0] = 1; // a pixel more in the first bin, and no sums of it
+    /// numbers[1] = 99;
+    /// assert_eq!(Table::from_numbers(Grid::rgb(), numbers)?.check(), Err(Refused::Unsound));
+    /// # Ok::<(), Refused>(())
+    /// ```
+    pub fn check(&self) -> Result<(), Refused> {
+        match self.cut_slowly(1) {
+            Ok(_) | Err(Refused::Empty) => Ok(()),
+            Err(refused) => Err(refused),
+        }
     }
 
     /// Takes every colour out, so that the table can be filled anew.
@@ -165,11 +197,11 @@ impl Table {
     ///
     /// # Errors
     ///
-    /// [`Refused::Length`] where the grids differ, in any size; [`Refused::Unsound`] where either table is;
+    /// [`Refused::OtherGrid`] where the grids differ, in any size; [`Refused::Unsound`] where either table is;
     /// [`Refused::Total`].
     pub fn merge(&mut self, second: &Table) -> Result<(), Refused> {
         if second.grid != self.grid {
-            return Err(Refused::Length);
+            return Err(Refused::OtherGrid);
         }
         sys::merge(self.grid, &mut self.numbers, &second.numbers)
     }

@@ -16,7 +16,7 @@
 //! terminal::write_frame(&mut std::io::stdout(), map.palette(), &map.map(&frame)?, 2)?;
 //! # Ok::<(), Box<dyn std::error::Error>>(())
 //! ```
-use crate::{Refused, sys};
+use crate::{Lent, Refused, colour_map::MOST_COLOURS, sys};
 use std::io::{self, ErrorKind, Write};
 
 /// For each colour of a palette the number of the nearest of the 240 fixed colours: the one with the smallest squared
@@ -26,7 +26,7 @@ use std::io::{self, ErrorKind, Write};
 ///
 /// # Errors
 ///
-/// [`Refused::Length`] where the palette does not have 1 to 256 colours.
+/// [`Refused::Length`] of [`Lent::Palette`] where the palette does not have 1 to 256 colours.
 pub fn nearest(palette: &[[u8; 3]]) -> Result<Vec<u8>, Refused> {
     let mut numbers = vec![0; palette.len()];
     nearest_into(palette, &mut numbers)?;
@@ -37,10 +37,15 @@ pub fn nearest(palette: &[[u8; 3]]) -> Result<Vec<u8>, Refused> {
 ///
 /// # Errors
 ///
-/// [`Refused::Length`] where the palette does not have 1 to 256 colours, or the list is shorter; then nothing is
-/// written.
+/// [`Refused::Length`] of [`Lent::Palette`] where the palette does not have 1 to 256 colours, and of
+/// [`Lent::TerminalNumbers`] where the list is shorter; then nothing is written.
 pub fn nearest_into(palette: &[[u8; 3]], numbers: &mut [u8]) -> Result<(), Refused> {
-    sys::nearest(palette, numbers)
+    let wrong = if (1..=MOST_COLOURS).contains(&palette.len()) {
+        Lent::TerminalNumbers
+    } else {
+        Lent::Palette
+    };
+    sys::nearest(palette, numbers).map_err(|refused| refused.or(|| Refused::Length(wrong)))
 }
 
 /// Writes a frame, given by the indices of its pixels row by row, as lines of half blocks.

@@ -1,5 +1,5 @@
 //! Narrow tables beside tables of the same colours: they give the same, up to the total at which they are refused.
-use seluvava::{Cut, Grid, NarrowTable, Refused, Table, WorkTable};
+use seluvava::{Cut, Grid, Lent, NarrowTable, Refused, Table, WorkTable};
 use seluvava_sys::seluvava_narrow_cut;
 
 mod common;
@@ -177,9 +177,14 @@ fn in_any_order_and_batches() -> Result<(), Refused> {
 fn lengths_of_parts() {
     for (sums, squares) in [(31, 8), (33, 8), (32, 7), (32, 9), (0, 8), (32, 0), (8, 32)] {
         let table = NarrowTable::from_parts(grid(), vec![0; sums], vec![0; squares]);
+        let wrong = if sums == 32 {
+            Lent::Squares
+        } else {
+            Lent::Sums
+        };
         assert_eq!(
             table,
-            Err(Refused::Length),
+            Err(Refused::Length(wrong)),
             "{sums} sums, {squares} squares"
         );
     }
@@ -381,6 +386,10 @@ fn holds(cut: &Cut, tables: &[(&str, &[u64])], (words, told): &(String, Vec<u64>
 #[test]
 fn recorded_answers() -> Result<(), Refused> {
     let script = concat!(env!("CARGO_MANIFEST_DIR"), "/../crates/replay/stdin");
+    // A release has the crate alone, without the project around it.
+    if !std::path::Path::new(concat!(env!("CARGO_MANIFEST_DIR"), "/../crates")).exists() {
+        return Ok(());
+    }
     let script = std::fs::read_to_string(script).expect("the script of `replay`");
     let (mut at, mut past) = (0, 0);
     for case in script

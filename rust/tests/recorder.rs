@@ -1,5 +1,5 @@
 //! Recorders: intervals, batches at them, and replays held to their entries one by one.
-use seluvava::{Grid, Recorder, Refused, Table};
+use seluvava::{Grid, Lent, Recorder, Refused, Table};
 
 mod common;
 
@@ -267,33 +267,46 @@ fn malformed_lists() {
     let reload = |colours| [Recorder::RELOAD, 3, colours];
     let black = [[0; 3]; 4];
     let ones = [1; 4];
-    let lists: &[(&[[u32; 3]], usize, usize)] = &[
-        (&[[2, 3, 0]], 0, 0),
-        (&[[u32::MAX, 3, 0]], 0, 0),
-        (&[reload(1)], 1, 1),
-        (&[reload(1), batch(0)], 1, 1),
-        (&[batch(2)], 1, 2),
-        (&[batch(2)], 2, 1),
-        (&[batch(2)], 3, 2),
-        (&[batch(2)], 2, 3),
-        (&[batch(2), batch(1)], 2, 2),
-        (&[batch(2)], 4, 4),
-        (&[], 1, 1),
-        (&[], 1, 0),
-        (&[], 0, 1),
-        (&[batch(u32::MAX)], 4, 4),
-        (&[batch(u32::MAX), batch(u32::MAX), batch(6)], 4, 4),
-        (&[batch(1 << 31), batch(1 << 31), batch(4)], 4, 4),
+    let colours_of = Refused::Length(Lent::Colours);
+    let weights_of = Refused::Length(Lent::RecordedWeights);
+    let lists: &[(Refused, &[[u32; 3]], usize, usize)] = &[
+        (Refused::Entry, &[[2, 3, 0]], 0, 0),
+        (Refused::Entry, &[[u32::MAX, 3, 0]], 0, 0),
+        (Refused::Entry, &[reload(1)], 1, 1),
+        (Refused::Entry, &[reload(1), batch(0)], 1, 1),
+        (colours_of, &[batch(2)], 1, 2),
+        (weights_of, &[batch(2)], 2, 1),
+        (colours_of, &[batch(2)], 3, 2),
+        (weights_of, &[batch(2)], 2, 3),
+        (colours_of, &[batch(2), batch(1)], 2, 2),
+        (colours_of, &[batch(2)], 4, 4),
+        (colours_of, &[], 1, 1),
+        (colours_of, &[], 1, 0),
+        (weights_of, &[], 0, 1),
+        (colours_of, &[batch(u32::MAX)], 4, 4),
+        (
+            colours_of,
+            &[batch(u32::MAX), batch(u32::MAX), batch(6)],
+            4,
+            4,
+        ),
+        (
+            colours_of,
+            &[batch(1 << 31), batch(1 << 31), batch(4)],
+            4,
+            4,
+        ),
     ];
-    for &(entries, colours, weights) in lists {
+    for &(expected, entries, colours, weights) in lists {
         let table = with_room(1_000);
         let (mut recorder, mut later) = (Recorder::begin(3).unwrap(), table.clone());
         let refused = recorder.replay(&mut later, entries, &black[..colours], &ones[..weights]);
-        assert_eq!(refused, Err(Refused::Length), "{entries:?}");
+        assert_eq!(refused, Err(expected), "{entries:?}");
+        assert_eq!(expected.number(), 5);
         assert_eq!((recorder.interval(), later), (3, table));
         // 5 comes before 6.
         let refused = recorder.replay(&mut unsound(), entries, &black[..colours], &ones[..weights]);
-        assert_eq!(refused, Err(Refused::Length), "{entries:?}");
+        assert_eq!(refused, Err(expected), "{entries:?}");
     }
     let mut recorder = Recorder::begin(3).unwrap();
     let refused = recorder.replay(&mut unsound(), &[[Recorder::RELOAD, 5, 0]], &[], &[]);
@@ -311,7 +324,7 @@ fn numbers_and_answers_as_they_are_lent() -> Result<(), Refused> {
         let replayed =
             recorder.replay_numbers(&mut table, &entries, &colours, &weights, &mut answers);
         if lent < 4 {
-            assert_eq!(replayed, Err(Refused::Length));
+            assert_eq!(replayed, Err(Refused::Length(Lent::Answers)));
             assert_eq!((table, answers), (before, vec![99; lent]));
             assert_eq!(recorder.interval(), 3);
         } else {
@@ -324,12 +337,16 @@ fn numbers_and_answers_as_they_are_lent() -> Result<(), Refused> {
             );
         }
     }
-    for (entries, colours) in [(&entries[..11], 6), (&entries[..10], 6), (&entries, 5)] {
+    for (wrong, entries, colours) in [
+        (Lent::Entries, &entries[..11], 6),
+        (Lent::Entries, &entries[..10], 6),
+        (Lent::Colours, &entries, 5),
+    ] {
         let (mut recorder, mut table) = (Recorder::begin(3)?, with_room(1_000));
         let mut answers = [99; 4];
         let bytes = &[0; 6][..colours];
         let replayed = recorder.replay_numbers(&mut table, entries, bytes, &weights, &mut answers);
-        assert_eq!((replayed, answers), (Err(Refused::Length), [99; 4]));
+        assert_eq!((replayed, answers), (Err(Refused::Length(wrong)), [99; 4]));
     }
     Ok(())
 }

@@ -1,6 +1,6 @@
 //! Each refusal, the order of their numbers, and that a refused call changes nothing.
-use seluvava::{ColourMap, Grid, Refused, Table};
-use std::ops::Range;
+use seluvava::{ColourMap, Grid, Lent, NarrowTable, Refused, Table};
+use std::{collections::HashSet, ops::Range};
 
 fn grid() -> Grid {
     Grid::new(2, 2, 2).unwrap()
@@ -52,14 +52,19 @@ fn lengths_of_parts() {
     for length in [0, 39, 41, 80] {
         assert_eq!(
             Table::from_numbers(grid(), vec![0; length]),
-            Err(Refused::Length)
+            Err(Refused::Length(Lent::Numbers))
         );
     }
     for (entries, colours) in [(7, 1), (9, 1), (0, 1), (8, 0), (8, 257)] {
         let map = ColourMap::from_parts(grid(), vec![0; entries], vec![[0; 3]; colours]);
+        let wrong = if entries == 8 {
+            Lent::Palette
+        } else {
+            Lent::MapEntries
+        };
         assert_eq!(
             map,
-            Err(Refused::Length),
+            Err(Refused::Length(wrong)),
             "{entries} entries, {colours} colours"
         );
     }
@@ -134,6 +139,7 @@ fn merge() {
         t.merge(&Table::new(Grid::new(2, 4, 2).unwrap()))
     });
     refuses(5, &table(), |t| t.merge(&long));
+    assert_eq!(table().merge(&long), Err(Refused::OtherGrid));
     refuses(6, &unsound(), |t| t.merge(&table()));
     refuses(6, &table(), |t| t.merge(&unsound()));
     refuses(7, &full(), |t| t.merge(&table()));
@@ -151,6 +157,7 @@ fn compare() {
     let other = Table::new(Grid::new(2, 4, 2).unwrap());
     refuses(5, &long, |t| compared(t, &other));
     refuses(5, &table(), |t| compared(t, &long));
+    assert_eq!(compared(&table(), &long), Err(Refused::OtherGrid));
     refuses(6, &unsound(), |t| compared(t, &table()));
     refuses(6, &table(), |t| compared(t, &unsound()));
     refuses(6, &unsound(), |t| compared(t, &unsound()));
@@ -216,7 +223,10 @@ fn map_and_paint() {
             1..usize::MAX,
             usize::MAX..usize::MAX,
         ] {
-            band_refuses(5, map, 6, band);
+            band_refuses(5, map, 6, band.clone());
+            let mapped = map.map_band(&[[0; 3]; 2], &mut [0; 2], band.clone());
+            let painted = map.paint_band(&mut [[0; 3]; 2], band);
+            assert_eq!([mapped, painted], [Err(Refused::Band); 2]);
         }
     }
     // Every entry is looked at, whatever the band.
@@ -232,9 +242,46 @@ fn index_buffer() {
     let map = table().cut(1).unwrap().into_colour_map();
     for length in [0, 1, 3] {
         let mut indices = vec![9; length];
+        let wrong = Err(Refused::Length(Lent::Indices));
         let mapped = map.map_band(&[[0, 0, 0]; 2], &mut indices, 0..1);
-        assert_eq!((mapped, indices), (Err(Refused::Length), vec![9; length]));
+        assert_eq!((mapped, &indices), (wrong, &vec![9; length]));
+        let mapped = map.map_into(&[[0, 0, 0]; 2], &mut indices);
+        assert_eq!((mapped, indices), (wrong, vec![9; length]));
     }
+}
+
+/// A check answers what a call that is lent the table answers, and leaves it as it is.
+#[test]
+fn check() {
+    let empty = Table::new(grid());
+    for sound in [&empty, &table(), &full()] {
+        assert_eq!(sound.check(), Ok(()));
+        assert_eq!(sound.clone().load(&[]), Ok(()));
+    }
+    refuses(6, &unsound(), |t| t.check());
+    for corner in 0..8 {
+        let high = [4, 2, 1].map(|bit| corner & bit != 0);
+        let halves = high.iter().filter(|&&high| high).count() as u64;
+        let highs = 2 * (halves * 255 * 255 + (3 - halves) * 127 * 127);
+        assert_eq!(squares(high, highs).check(), Ok(()));
+        refuses(6, &squares(high, highs + 1), |t| t.check());
+    }
+    // Too much weight over all bins, each of which is within its bounds.
+    let mut numbers = vec![0; grid().numbers()];
+    (numbers[0], numbers[5]) = (1, u64::from(u32::MAX));
+    numbers[8] = 128 * numbers[5];
+    numbers[9] = 128 * 128 * numbers[5];
+    refuses(6, &Table::from_numbers(grid(), numbers).unwrap(), |t| {
+        t.check()
+    });
+
+    let parts = |sums, squares| NarrowTable::from_parts(grid(), sums, squares).unwrap();
+    assert_eq!(NarrowTable::new(grid()).check(), Ok(()));
+    assert_eq!(NarrowTable::try_from(&table()).unwrap().check(), Ok(()));
+    assert_eq!(
+        parts(vec![0; 32], vec![1; 8]).check(),
+        Err(Refused::Unsound)
+    );
 }
 
 #[test]
@@ -246,6 +293,25 @@ fn numbers_and_texts() {
             .collect::<Vec<_>>(),
         [1, 2, 3, 4, 5, 6, 7, 8, 9, 10, 11, 12, 13, 14, 15]
     );
+    let named = [
+        Lent::Numbers,
+        Lent::Sums,
+        Lent::Squares,
+        Lent::MapEntries,
+        Lent::Palette,
+        Lent::Indices,
+        Lent::TerminalNumbers,
+        Lent::Entries,
+        Lent::Colours,
+        Lent::RecordedWeights,
+        Lent::Answers,
+    ];
+    let fives = [Refused::Band, Refused::OtherGrid, Refused::Entry];
+    let fives = fives.into_iter().chain(named.map(Refused::Length));
+    assert!(fives.clone().all(|refused| refused.number() == 5));
+    let all: Vec<Refused> = all.into_iter().chain(fives).collect();
+    let texts: HashSet<String> = all.iter().map(|refused| refused.to_string()).collect();
+    assert_eq!(texts.len(), all.len(), "each says something else");
     for refused in all {
         let error: &dyn std::error::Error = &refused;
         let start = format!("refused {}: ", refused.number());

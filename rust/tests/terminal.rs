@@ -1,5 +1,5 @@
 //! The nearest of a terminal's colours, held to the rule of their levels, and frames as half blocks.
-use seluvava::{Refused, terminal};
+use seluvava::{Lent, Refused, terminal};
 use std::io::{self, ErrorKind, Write};
 
 /// The colour of a number, by the rule.
@@ -46,12 +46,14 @@ fn none_is_closer_and_each_lower_number_is_farther() -> Result<(), Refused> {
 
 #[test]
 fn lengths() {
-    assert_eq!(terminal::nearest(&[]), Err(Refused::Length));
-    assert_eq!(terminal::nearest(&[[0; 3]; 257]), Err(Refused::Length));
+    let palette = Err(Refused::Length(Lent::Palette));
+    assert_eq!(terminal::nearest(&[]), palette);
+    assert_eq!(terminal::nearest(&[[0; 3]; 257]), palette);
     assert_eq!(terminal::nearest(&[[9; 3]; 256]), Ok(vec![232; 256]));
     let mut short = [7; 1];
     let refused = terminal::nearest_into(&[[0; 3]; 2], &mut short);
-    assert_eq!((refused, short), (Err(Refused::Length), [7]));
+    let numbers = Err(Refused::Length(Lent::TerminalNumbers));
+    assert_eq!((refused, short), (numbers, [7]));
     let mut long = [7; 4];
     assert_eq!(terminal::nearest_into(&[[255; 3]; 2], &mut long), Ok(()));
     assert_eq!(long, [231, 231, 7, 7]);

@@ -61,18 +61,74 @@ fn write(text: &[u8]) {
     }
 }
 
-// Says where an input of bare triples looks like a file of pictures, which no triple is: a hint, since it is listed as
-// it is.
+// Says which kind of file the input looks like, what becomes of it, and how its pixels are listed.
+fn name_kind(kind: &[u8], fate: &[u8]) {
+    io::write_all(STDERR_FILENO, b"listing: the input looks like ");
+    io::write_all(STDERR_FILENO, kind);
+    io::write_all(STDERR_FILENO, fate);
+    io::write_all(
+        STDERR_FILENO,
+        b"; to list its pixels: magick FILE -depth 8 ppm:- | ./listing --ppm\n",
+    );
+}
+
+// Says where bytes begin as a file of another program does. It is a hint, since a file of triples may begin so too.
+fn hint_of_program(bytes: &[u8], fate: &[u8]) {
+    if inputs::looks::begins_with(bytes, b"\x89PNG\r\n\x1a\n") {
+        name_kind(b"a PNG", fate);
+    }
+    if inputs::looks::begins_with(bytes, b"\xff\xd8\xff") {
+        name_kind(b"a JPEG", fate);
+    }
+    if inputs::looks::begins_with(bytes, b"GIF8") {
+        name_kind(b"a GIF", fate);
+    }
+    if inputs::looks::begins_with(bytes, b"BM") {
+        name_kind(b"a BMP", fate);
+    }
+    if inputs::looks::begins_with(bytes, b"II*\x00") {
+        name_kind(b"a TIFF", fate);
+    }
+    if inputs::looks::begins_with(bytes, b"MM\x00*") {
+        name_kind(b"a TIFF", fate);
+    }
+    if inputs::looks::begins_with(bytes, b"RIFF") {
+        name_kind(b"a WebP", fate);
+    }
+    if inputs::looks::begins_with(bytes, b"qoif") {
+        name_kind(b"a QOI", fate);
+    }
+}
+
+// Likewise for the kinds of Netpbm that are no PPM of bytes: bitmaps, grey ones, text, and PAM.
+fn hint_of_netpbm(bytes: &[u8], fate: &[u8]) {
+    if inputs::looks::begins_with(bytes, b"P1\n") {
+        name_kind(b"a PBM", fate);
+    }
+    if inputs::looks::begins_with(bytes, b"P2\n") {
+        name_kind(b"a PGM", fate);
+    }
+    if inputs::looks::begins_with(bytes, b"P3\n") {
+        name_kind(b"a PPM of text", fate);
+    }
+    if inputs::looks::begins_with(bytes, b"P4\n") {
+        name_kind(b"a PBM", fate);
+    }
+    if inputs::looks::begins_with(bytes, b"P5\n") {
+        name_kind(b"a PGM", fate);
+    }
+    if inputs::looks::begins_with(bytes, b"P7\n") {
+        name_kind(b"a PAM", fate);
+    }
+}
+
+// What is said of bare triples, which are listed all the same.
 fn hint(space: &[u8], filled: usize)
     requires { ⌜ filled ≤ length (now space) ⌝ }
 {
     let bytes = &space[0..filled];
-    if inputs::looks::begins_with(bytes, b"\x89PNG\r\n\x1a\n") {
-        complain(b"the input looks like a PNG, and is listed as bare RGB triples");
-    }
-    if inputs::looks::begins_with(bytes, b"\xff\xd8\xff") {
-        complain(b"the input looks like a JPEG, and is listed as bare RGB triples");
-    }
+    hint_of_program(bytes, b", and is listed as bare RGB triples");
+    hint_of_netpbm(bytes, b", and is listed as bare RGB triples");
     match read_header(bytes) {
         Header::Malformed => return,
         Header::Maximum => (),
@@ -81,6 +137,24 @@ fn hint(space: &[u8], filled: usize)
     complain(
         b"the input looks like a PPM, and is listed as bare RGB triples: --ppm lists it as a PPM",
     );
+}
+
+// What is said of an input that was to be a PPM and is none, before it is refused. A maximum other than 255 is a
+// PPM's, and has an answer of its own.
+fn hint_no_ppm(space: &[u8], filled: usize)
+    requires { ⌜ filled ≤ length (now space) ⌝ }
+{
+    let bytes = &space[0..filled];
+    match read_header(bytes) {
+        Header::Malformed => (),
+        Header::Maximum => return,
+        Header::Image(f) => return,
+    }
+    hint_of_program(bytes, b", and is no PPM");
+    hint_of_netpbm(bytes, b", and is no PPM");
+    if filled == space.len() {
+        complain(b"the header is no PPM's, or is longer than a batch, 49152 bytes");
+    }
 }
 
 // ---- Reading
@@ -215,9 +289,7 @@ fn begin_frame(space: &mut [u8]) -> Begun
     let filled = first.bytes;
     let header = read_header(&space[0..filled]);
     let Header::Image(f) = header else {
-        if filled == space.len() {
-            complain(b"the header is no PPM's, or is longer than a batch, 49152 bytes");
-        }
+        hint_no_ppm(space, filled);
         return Begun {
             header,
             there: 0,

@@ -107,6 +107,7 @@ use Rattle.cutter.proofs.call.cut as cut
 use Rattle.cutter.proofs.call.cut_slowly as cut-slowly
 use Rattle.seluvava.specs.declared.cut.CutAnswer.{CutAnswer}
 use Rattle.seluvava.specs.Cut.{Lent, lent, LentIn, lentIn}
+use Rattle.seluvava.proofs.version.seluvava_version as exported-version
 use Rattle.seluvava.proofs.sizes.seluvava_bins as exported-bins
 use Rattle.seluvava.proofs.tables.seluvava_table_len as exported-table-len
 use Rattle.seluvava.proofs.tables.seluvava_load as exported-load
@@ -494,6 +495,10 @@ pub swatch-text-determined : Determines {A = ℕ × List ℕ} 2 swatch-text.Kind
 swatch-text-determined κs a r s x y p q = both (determined (p .0) (q .0)) (determined (p .1 .0) (q .1 .0))
 
 -- ---- seluvava
+pub exported-version-determined : Determines 0 exported-version.Kinds.ps exported-version.Kinds.r
+    exported-version.Reads.Learnt (λ κs r e. r)
+exported-version-determined κs a r s x y p q = determined p q
+
 pub exported-bins-determined : Determines 0 exported-bins.Kinds.ps exported-bins.Kinds.r exported-bins.Reads.Learnt
     (λ κs r e. r)
 exported-bins-determined κs a r s x y p q = determined p q

@@ -2,3 +2,4 @@ pub mod Sizes
 pub mod Cut
 pub mod Inner
 pub mod Files
+pub mod Version

@@ -8,3 +8,4 @@ pub mod recordings;
 pub mod sizes;
 pub mod tables;
 pub mod terminals;
+pub mod version;

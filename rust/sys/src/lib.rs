@@ -53,6 +53,8 @@ pub struct SessionAnswer {
 
 // SAFETY: types and order are those of the header.
 unsafe extern "C" {
+    pub fn seluvava_version() -> u32;
+
     pub fn seluvava_bins(b1: usize, b2: usize, b3: usize) -> usize;
 
     pub fn seluvava_table_len(b1: usize, b2: usize, b3: usize) -> usize;

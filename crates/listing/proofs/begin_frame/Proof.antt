@@ -26,11 +26,8 @@ read-header-requires c κs = search needs
 enum-known-header : tie.Need-enum-known-header
 enum-known-header c = search needs
 
-slice-aggregate-complain : tie.Need-slice-aggregate-complain
-slice-aggregate-complain c = search needs
-
-complain-requires : tie.Need-complain-requires
-complain-requires c κs = search needs
+hint-no-ppm-requires : tie.Need-hint-no-ppm-requires
+hint-no-ppm-requires c κs = search needs
 
 same-length : tie.Need-same-length
 same-length c = search needs
@@ -38,23 +35,17 @@ same-length c = search needs
 returns : tie.Need-returns
 returns c = search needs
 
-same-length-2 : tie.Need-same-length-2
-same-length-2 c = search needs
-
-returns-2 : tie.Need-returns-2
-returns-2 c = search needs
-
 to-front-requires : tie.Need-to-front-requires
 to-front-requires c κs =
     let read = sym (c .before .before .before .before .read-header .ensures) ∙ c .before .before .header .given .1 in
     let fits = c .before .before .before .before .before .before .before .before .before .fill .ensures .0 .1 in
     (omega (arith, in-file _ read .starts, fits), search needs)
 
-same-length-3 : tie.Need-same-length-3
-same-length-3 c = search needs
+same-length-2 : tie.Need-same-length-2
+same-length-2 c = search needs
 
-returns-3 : tie.Need-returns-3
-returns-3 c =
+returns-2 : tie.Need-returns-2
+returns-2 c =
     let k = c .before .before .before .before .before in
     (record { bytes = _; is = sym (k .header .given .1) ∙ k .before .before .read-header .ensures }, search needs)
 
@@ -68,12 +59,9 @@ begin-frame-spec =
     part-read-header-end
     read-header-requires
     enum-known-header
-    slice-aggregate-complain
-    complain-requires
+    hint-no-ppm-requires
     same-length
     returns
-    same-length-2
-    returns-2
     to-front-requires
-    same-length-3
-    returns-3)
+    same-length-2
+    returns-2)
