@@ -1,4 +1,4 @@
--- `sums::moments::wide_row` meets its contract: after b bins of the row their moments stand, and the line is the sum along
+-- `sums::inner_rows::wide_row` meets its contract: after b bins of the row their moments stand, and the line is the sum along
 -- them.
 -- Assumes nothing.
 use mathlib.Core.Path.{_≡_, refl, sym, ap, _∙_}
@@ -15,8 +15,8 @@ use Rattle.table.specs.declared.layout.Layout.the-variants.{Wide}
 use Rattle.table.specs.Layout.{laid, laidView}
 use Rattle.sums.specs.Inner.{lineCell, Before}
 use Rattle.sums.proofs.Steps.{line-start, before-same, row-ready, one-on}
-use Rattle.sums.proofs.moments.wide_row.Statement.{statement}
-use Rattle.sums.proofs.moments.wide_row.Tie as tie
+use Rattle.sums.proofs.inner_rows.wide_row.Statement.{statement}
+use Rattle.sums.proofs.inner_rows.wide_row.Tie as tie
 
 abbrev Inv-loop : tie.InvT-loop
 Inv-loop small large smallwork₀ largework₀ g r gr line₀ b₀ smallwork largework line b =
@@ -34,24 +34,24 @@ loop-holds c =
     let s = c .before .before .before .before in (
       omega arith,
       line-start (s .args .g) (laidView Wide (now (s .args .small)) (now (s .args .large))) (s .args .r) (s .args .gr),
-      before-same (s .pre .before) (sym (add-zero _)),
+      before-same (s .pre .0 .before) (sym (add-zero _)),
       refl,
       refl,
     )
 
-next-bin-requires : tie.Need-next-bin-requires Inv-loop μ-loop
-next-bin-requires c κs =
+inner-bin-requires : tie.Need-inner-bin-requires Inv-loop μ-loop
+inner-bin-requires c κs =
     let s = c .before .before .before .before .before .before .before .before .before in
     let l = c .before .before .before .before .loop in
-    let i = s .pre .inside in (
+    let i = s .pre .0 .inside in (
       row-ready (record { accepted = i .accepted; one = i .one; two = i .two; three = c .before .before .if1 .taken })
           (l .inv .2),
-      l .inv .1,
+      (l .inv .1, s .pre .1),
     )
 
 add-b : tie.Need-add-b Inv-loop μ-loop
 add-b c =
-    omega (arith, c .before .before .before .before .before .before .before .if1 .taken, size-high (three (c .before .before .before .before .before .before .before .before .before .before .before .before .before .before .pre .inside .accepted)))
+    omega (arith, c .before .before .before .before .before .before .before .if1 .taken, size-high (three (c .before .before .before .before .before .before .before .before .before .before .before .before .before .before .pre .0 .inside .accepted)))
 
 loop-less : tie.Need-loop-less Inv-loop μ-loop
 loop-less c = omega arith
@@ -60,12 +60,12 @@ loop-again : tie.Need-loop-again Inv-loop μ-loop
 loop-again c =
     let s = c .before .before .before .before .before .before .before .before .before .before .before .before .before .before in
     let l = c .before .before .before .before .before .before .before .before .before .loop in
-    let i = s .pre .inside in
+    let i = s .pre .0 .inside in
     let ready =
     row-ready (record { accepted = i .accepted; one = i .one; two = i .two; three = c .before .before .before .before .before .before .before .if1 .taken }) (l .inv .2) in (
       omega (arith, c .before .before .before .before .before .before .before .if1 .taken),
-      c .before .before .before .before .next-bin .ensures .0,
-      before-same (one-on ready (c .before .before .before .before .next-bin .ensures .1))
+      c .before .before .before .before .inner-bin .ensures .0,
+      before-same (one-on ready (c .before .before .before .before .inner-bin .ensures .1))
           (ap (λ (n : ℕ). n + 1) (sym (place-along (s .args .g) (s .args .r) (s .args .gr) (l .b)))
           ∙ add-assoc _ (l .b) 1),
       search needs,
@@ -92,7 +92,7 @@ wide-row-spec =
     Inv-loop
     μ-loop
     loop-holds
-    next-bin-requires
+    inner-bin-requires
     add-b
     loop-less
     loop-again
