@@ -1,5 +1,5 @@
--- `sums::edge_rows::edge_row` meets its contract: after b bins of the row their moments stand, and the line is the sum along
--- them.
+-- `sums::edge_rows::edge_row` meets its contract: after b bins of the row their moments stand, and the line is the sum
+-- along them.
 -- Assumes nothing.
 use mathlib.Core.Path.{_≡_, refl, sym, ap, _∙_}
 use Prim.Native.Nat.{ℕ, _+_, _≤_, _-_}

@@ -9,23 +9,20 @@ use Rattle.sums.proofs.Steps.{near-cell, moment-held, table-cell, line-
 use Rattle.sums.proofs.inner_rows.inner_bin.Statement.{statement}
 use Rattle.sums.proofs.inner_rows.inner_bin.Tie as tie
 
-place-requires : tie.Need-place-requires
-place-requires c κs = search needs
-
 cell-in-requires : tie.Need-cell-in-requires
-cell-in-requires c κs = table-cell (c .before .before .before .before .before .pre .0) (c .place .ensures)
+cell-in-requires c κs = let s = c .before .before .before .before in table-cell (s .pre .0) (s .pre .1 .1 .2)
 
 plus-requires : tie.Need-plus-requires
 plus-requires c κs =
-    let s = c .before .before .before .before .before .before in
-    line-room (s .pre .0) (s .pre .1 .0) (c .before .place .ensures) (c .cell-in .ensures)
+    let s = c .before .before .before .before .before in
+    line-room (s .pre .0) (s .pre .1 .0) (s .pre .1 .1 .2) (c .cell-in .ensures)
 
 inner-at-requires : tie.Need-inner-at-requires
 inner-at-requires c κs =
-    let s = c .before .before .before .before .before .before .before .before .before in (
+    let s = c .before .before .before .before .before .before .before .before in (
       s .pre .0,
       (
-        line-through (s .pre .0) (s .pre .1 .0) (c .before .before .before .before .place .ensures)
+        line-through (s .pre .0) (s .pre .1 .0) (s .pre .1 .1 .2)
             (c .before .before .before .cell-in .ensures) (c .before .before .plus .ensures),
         s .pre .1 .1,
       ),
@@ -33,8 +30,8 @@ inner-at-requires c κs =
 
 put-cell-requires : tie.Need-put-cell-requires
 put-cell-requires c κs =
-    let s = c .before .before .before .before .before .before .before .before .before .before .before .before in (
-      near-cell (s .pre .0) (s .args .r) (s .args .gr) (omega arith) (omega arith) (c .before .before .before .before .before .before .before .place .ensures),
+    let s = c .before .before .before .before .before .before .before .before .before .before .before in (
+      near-cell (s .pre .0) (s .args .r) (s .args .gr) (omega arith) (omega arith) (s .pre .1 .1 .2),
       moment-held (s .pre .0) (c .before .before .inner-at .ensures),
     )
 
@@ -46,20 +43,19 @@ same-length-2 c = search needs
 
 returns : tie.Need-returns
 returns c =
-    let s = c .before .before .before .before .before .before .before .before .before .before .before .before .before .before .before .before .before in (
-      line-through (s .pre .0) (s .pre .1 .0) (c .before .before .before .before .before .before .before .before .before .before .before .before .place .ensures) (c .before .before .before .before .before .before .before .before .before .before .before .cell-in .ensures)
+    let s = c .before .before .before .before .before .before .before .before .before .before .before .before .before .before .before .before in (
+      line-through (s .pre .0) (s .pre .1 .0) (s .pre .1 .1 .2) (c .before .before .before .before .before .before .before .before .before .before .before .cell-in .ensures)
           (c .before .before .before .before .before .before .before .before .before .before .plus .ensures),
       c .before .before .before .before .put-cell .ensures
           ∙ (λ i. putIn (s .args .layout)
           (laid (s .args .layout) (now (s .args .smallwork)) (now (s .args .largework)))
-          (c .before .before .before .before .before .before .before .before .before .before .before .before .place .ensures i) (c .before .before .before .before .before .before .before .inner-at .ensures i)),
+          (s .pre .1 .1 .2 i) (c .before .before .before .before .before .before .before .inner-at .ensures i)),
     )
 
 pub inner-bin-spec : {M : Type 1} → statement M
 inner-bin-spec =
     tie.close
     (tie.spec
-    place-requires
     cell-in-requires
     plus-requires
     inner-at-requires

@@ -1,5 +1,5 @@
--- `sums::inner_rows::wide_row` meets its contract: after b bins of the row their moments stand, and the line is the sum along
--- them.
+-- `sums::inner_rows::wide_row` meets its contract: after b bins of the row their moments stand, and the line is the sum
+-- along them.
 -- Assumes nothing.
 use mathlib.Core.Path.{_≡_, refl, sym, ap, _∙_}
 use Prim.Native.Nat.{ℕ, _+_, _≤_, _-_}
@@ -9,7 +9,7 @@ use borrow.Author.Needs.{needs}
 use denote.Ref.{now}
 use lib.ListN.{length}
 use Rattle.grid.specs.Grid.{placeOf}
-use Rattle.grid.proofs.Places.{three, place-along}
+use Rattle.grid.proofs.Places.{three, place-lt, place-along, bins-high}
 use Rattle.grid.proofs.Size.{size-high}
 use Rattle.table.specs.declared.layout.Layout.the-variants.{Wide}
 use Rattle.table.specs.Layout.{laid, laidView}
@@ -19,7 +19,7 @@ use Rattle.sums.proofs.inner_rows.wide_row.Statement.{statement}
 use Rattle.sums.proofs.inner_rows.wide_row.Tie as tie
 
 abbrev Inv-loop : tie.InvT-loop
-Inv-loop small large smallwork₀ largework₀ g r gr line₀ b₀ smallwork largework line b =
+Inv-loop small large smallwork₀ largework₀ g r gr start line₀ b₀ smallwork largework line b =
     (b ≤ g .size3)
     × (line ≡ lineCell g (laidView Wide small large) r gr b)
     × Before Wide g (laid Wide small large) (laid Wide smallwork largework) (placeOf g r gr 0 + b)
@@ -27,7 +27,7 @@ Inv-loop small large smallwork₀ largework₀ g r gr line₀ b₀ smallwork lar
     × (length largework ≡ length largework₀)
 
 abbrev μ-loop : tie.MeasureT-loop
-μ-loop small large smallwork₀ largework₀ g r gr line₀ b₀ smallwork largework line b = g .size3 - b
+μ-loop small large smallwork₀ largework₀ g r gr start line₀ b₀ smallwork largework line b = g .size3 - b
 
 loop-holds : tie.Need-loop-holds Inv-loop μ-loop
 loop-holds c =
@@ -39,6 +39,12 @@ loop-holds c =
       refl,
     )
 
+add-inner-bin : tie.Need-add-inner-bin Inv-loop μ-loop
+add-inner-bin c =
+    let s = c .before .before .before .before .before .before .before .before .before in
+    let i = s .pre .0 .inside in
+    omega (arith, s .pre .1 .2, place-lt i, bins-high (i .accepted), size-high (three (i .accepted)), c .before .before .if1 .taken)
+
 inner-bin-requires : tie.Need-inner-bin-requires Inv-loop μ-loop
 inner-bin-requires c κs =
     let s = c .before .before .before .before .before .before .before .before .before in
@@ -46,7 +52,14 @@ inner-bin-requires c κs =
     let i = s .pre .0 .inside in (
       row-ready (record { accepted = i .accepted; one = i .one; two = i .two; three = c .before .before .if1 .taken })
           (l .inv .2),
-      (l .inv .1, s .pre .1),
+      (
+        l .inv .1,
+        (
+          s .pre .1 .0,
+          s .pre .1 .1,
+          ap (λ (n : ℕ). n + l .b) (s .pre .1 .2) ∙ place-along (s .args .g) (s .args .r) (s .args .gr) (l .b),
+        ),
+      ),
     )
 
 add-b : tie.Need-add-b Inv-loop μ-loop
@@ -92,6 +105,7 @@ wide-row-spec =
     Inv-loop
     μ-loop
     loop-holds
+    add-inner-bin
     inner-bin-requires
     add-b
     loop-less

@@ -12,7 +12,7 @@ use Rattle.sums.proofs.moments.next_row.Tie as tie
 edge-row-requires : tie.Need-edge-row-requires
 edge-row-requires c κs =
     let none : c .before .before .before .before .before .before .before .args .r ≡ 0 = c .before .before .if1 .taken in
-    (c .before .before .before .before .before .before .before .pre, record { no-row = λ h. absurd (omega (arith, none)) })
+    (c .before .before .before .before .before .before .before .pre .0, record { no-row = λ h. absurd (omega (arith, none)) })
 
 same-length : tie.Need-same-length
 same-length c = search needs
@@ -26,7 +26,7 @@ returns c = search needs
 -- ---- the first row of any other plane
 edge-row-requires-2 : tie.Need-edge-row-requires-2
 edge-row-requires-2 c κs =
-    (c .before .before .before .before .before .before .before .before .pre, record { no-row = λ h. c .before .before .if2 .taken })
+    (c .before .before .before .before .before .before .before .before .pre .0, record { no-row = λ h. c .before .before .if2 .taken })
 
 same-length-3 : tie.Need-same-length-3
 same-length-3 c = search needs
@@ -46,8 +46,8 @@ wide-row-requires c κs =
     let s = c .before .before .before .before .before .before .before .before .before .before in
     let a = s .args in (
       ready-as (c .before .before .enum-told .given .1) (a .g) (now (a .small)) (now (a .large)) (now (a .smallwork))
-          (now (a .largework)) (a .r) (a .gr) 0 (s .pre),
-      (omega (arith, c .before .before .before .before .before .if1 .left), omega (arith, c .before .before .before .before .if2 .left)),
+          (now (a .largework)) (a .r) (a .gr) 0 (s .pre .0),
+      (omega (arith, c .before .before .before .before .before .if1 .left), omega (arith, c .before .before .before .before .if2 .left), s .pre .1),
     )
 
 enum-told-2 : tie.Need-enum-told-2
@@ -58,7 +58,7 @@ narrow-row-requires c κs =
     let s = c .before .before .before .before .before .before .before .before .before .before in
     let a = s .args in (
       ready-as (c .before .before .enum-told2 .given .1) (a .g) (now (a .small)) (now (a .large)) (now (a .smallwork))
-          (now (a .largework)) (a .r) (a .gr) 0 (s .pre),
+          (now (a .largework)) (a .r) (a .gr) 0 (s .pre .0),
       (omega (arith, c .before .before .before .before .before .if1 .left), omega (arith, c .before .before .before .before .if2 .left)),
     )
 
