@@ -14,7 +14,7 @@ use Rattle.grid.specs.Grid.{Accepted, Inside, binsOf, placeOf}
 use Rattle.basics.specs.Range.{sumFrom}
 use Rattle.basics.proofs.Range.{sum-last}
 use Rattle.grid.proofs.Size.{size-low}
-use Rattle.grid.proofs.Places.{two, three, place-lt, place-along}
+use Rattle.grid.proofs.Places.{two, three, place-lt, place-along, row-start, plane-start}
 use Rattle.table.specs.declared.cell.Cell.{Cell}
 use Rattle.table.specs.Cell.{View, numberOf, cellOf, plusCell, minusCell, SumsFit}
 use Rattle.table.specs.declared.layout.Layout.{Layout}
@@ -39,6 +39,37 @@ rows-earlier r' r gr' gr d p h k l = go (decLe r r')
     go : Dec (r ≤ r') → r' * d + gr' < r * d + gr
     go (yes e) = omega (arith, mul-le-mul-right {m = r'} {n = r} d h)
     go (no n) = omega (arith, mul-le-mul-right {m = suc r'} {n = r} d (omega arith), suc-mul r' d)
+
+pub add-one-mul : (k n : ℕ) → (k + 1) * n ≡ k * n + n
+add-one-mul k n = add-mul k 1 n ∙ ap (λ (x : ℕ). k * n + x) (one-mul n)
+
+-- ---- the places a row and a plane before
+back-mul : (n d : ℕ) → 0 < n → n * d ≡ (n - 1) * d + d
+back-mul n d h = ap (λ (k : ℕ). k * d) one-on-back ∙ add-one-mul (n - 1) d
+  where
+    one-on-back : n ≡ (n - 1) + 1
+    one-on-back = omega arith
+
+flat : (g : Grid) (r gr b : ℕ) → placeOf g r gr b ≡ r * (g .size2 * g .size3) + gr * g .size3 + b
+flat g r gr b = omega (arith, place-along g r gr b, row-start g r gr, plane-start g r)
+
+module _ (g : Grid) (r gr b : ℕ) {p : ℕ} (at : p ≡ placeOf g r gr b) where
+  pub row-back : 0 < gr → p ≡ placeOf g r (gr - 1) b + g .size3
+  row-back h = omega (arith, at, flat g r gr b, flat g r (gr - 1) b, back-mul gr (g .size3) h)
+
+  pub plane-back : 0 < r → p ≡ placeOf g (r - 1) gr b + g .size2 * g .size3
+  plane-back h = omega (arith, at, flat g r gr b, flat g (r - 1) gr b, back-mul r (g .size2 * g .size3) h)
+
+  pub both-back : 0 < r → 0 < gr → p ≡ placeOf g (r - 1) (gr - 1) b + g .size2 * g .size3 + g .size3
+  both-back h k =
+      omega (
+        arith,
+        at,
+        flat g r gr b,
+        flat g (r - 1) (gr - 1) b,
+        back-mul r (g .size2 * g .size3) h,
+        back-mul gr (g .size3) k,
+      )
 
 -- a cell of zeros
 zero-number : (j : ℕ) → j < 5 → numberOf zeroCell j ≡ 0
@@ -296,9 +327,6 @@ module _ {l k : Layout} (e : l ≡ k) (g : Grid) (small large smallwork largewor
 
 pub before-same : {l : Layout} {g : Grid} {t w : TableIn l} {p : ℕ} → Before l g t w p → {q : ℕ} → p ≡ q → Before l g t w q
 before-same {l} {g} {t} {w} h e = subst (λ (n : ℕ). Before l g t w n) e h
-
-pub add-one-mul : (k n : ℕ) → (k + 1) * n ≡ k * n + n
-add-one-mul k n = add-mul k 1 n ∙ ap (λ (x : ℕ). k * n + x) (one-mul n)
 
 -- the next bin of a row
 pub row-ready : {l : Layout} {g : Grid} {t w : TableIn l} {r gr b : ℕ} → Inside g r gr b → Before l g t w (placeOf g r gr 0 + b)

@@ -1,5 +1,6 @@
 -- What the crate's own functions are told: sums on the way to the moments, and where the work table has them.
 -- Definitions only.
+use mathlib.Core.Path.{_≡_}
 use Prim.Native.Nat.{ℕ, _+_, _-_, _^_, _≤_, _<_}
 use Rattle.basics.specs.Range.{sumFrom}
 use Rattle.grid.specs.declared.place.Grid.{Grid}
@@ -48,6 +49,10 @@ pub record Before (l : Layout) (g : Grid) (t w : TableIn l) (p : ℕ) : Type 0 w
 pub record Ready (l : Layout) (g : Grid) (t w : TableIn l) (r gr b : ℕ) : Type 0 where
   pub inside : Inside g r gr b
   pub before : Before l g t w (placeOf g r gr b)
+
+-- a bin with no plane before it or no row above it
+pub record AtEdge (r gr : ℕ) : Type 0 where
+  pub no-row : 0 < r → gr ≡ 0
 
 -- the work table holds the moments, and some bins of the grid end at r, gr and b, at least one in each dimension
 pub record Corner (l : Layout) (g : Grid) (t w : TableIn l) (r gr b : ℕ) : Type 0 where

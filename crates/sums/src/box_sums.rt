@@ -77,6 +77,27 @@ pub fn sum_of_bins(layout: Layout, small: &[u32], large: &[u64], g: Grid, x: Bou
     stats_of(add_up(layout, small, large, g, x))
 }
 
+// The five sums of a box, from where sums come from.
+fn cell_from(
+    layout: Layout,
+    small: &[u32],
+    large: &[u64],
+    smallwork: &[u32],
+    largework: &[u64],
+    source: Source,
+    g: Grid,
+    x: Bounds,
+) -> Cell
+    requires { ⌜ CanSum layout limit source g (laid layout (now small) (now large))
+        (laid layout (now smallwork) (now largework)) × Within g x ⌝ }
+    ensures { λ c. ⌜ c ≡ boxCell g (laidView layout (now (small .entry)) (now (large .entry))) x ⌝ }
+{
+    match source {
+        Source::Moments => box_cell(layout, small, large, smallwork, largework, g, x),
+        Source::Bins => add_up(layout, small, large, g, x),
+    }
+}
+
 // The statistics of a box, from where sums come from.
 pub fn box_sum(
     layout: Layout,
@@ -92,8 +113,5 @@ pub fn box_sum(
         (laid layout (now smallwork) (now largework)) × Within g x ⌝ }
     ensures { λ r. ⌜ r ≡ statsOf g (laidView layout (now (small .entry)) (now (large .entry))) x ⌝ }
 {
-    match source {
-        Source::Moments => stats_of(box_cell(layout, small, large, smallwork, largework, g, x)),
-        Source::Bins => sum_of_bins(layout, small, large, g, x),
-    }
+    stats_of(cell_from(layout, small, large, smallwork, largework, source, g, x))
 }

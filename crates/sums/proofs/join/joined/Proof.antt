@@ -7,8 +7,8 @@ use Rattle.table.specs.declared.cell.Cell.{Cell}
 use Rattle.table.specs.Cell.{numberOf, plusCell}
 use Rattle.table.proofs.Cells.{number-plus, number-minus}
 use Rattle.sums.specs.Inner.{joinedCell}
-use Rattle.sums.proofs.moments.joined.Statement.{statement}
-use Rattle.sums.proofs.moments.joined.Tie as tie
+use Rattle.sums.proofs.join.joined.Statement.{statement}
+use Rattle.sums.proofs.join.joined.Tie as tie
 
 plus-requires : tie.Need-plus-requires
 plus-requires c κs = record { fits = λ j h. omega (arith, c .pre .fits j h) }

@@ -1,5 +1,5 @@
--- `sums::moments::narrow_row` meets its contract: after b bins of the row their moments stand, and the line is the sum along
--- them.
+-- `sums::inner_rows::narrow_row` meets its contract: after b bins of the row their moments stand, and the line is the sum
+-- along them.
 -- Assumes nothing.
 use mathlib.Core.Path.{_≡_, refl, sym, ap, _∙_}
 use Prim.Native.Nat.{ℕ, _+_, _≤_, _-_}
@@ -9,17 +9,17 @@ use borrow.Author.Needs.{needs}
 use denote.Ref.{now}
 use lib.ListN.{length}
 use Rattle.grid.specs.Grid.{placeOf}
-use Rattle.grid.proofs.Places.{three, place-along}
+use Rattle.grid.proofs.Places.{three, place-lt, place-along, bins-high}
 use Rattle.grid.proofs.Size.{size-high}
 use Rattle.table.specs.declared.layout.Layout.the-variants.{Narrow}
 use Rattle.table.specs.Layout.{laid, laidView}
 use Rattle.sums.specs.Inner.{lineCell, Before}
 use Rattle.sums.proofs.Steps.{line-start, before-same, row-ready, one-on}
-use Rattle.sums.proofs.moments.narrow_row.Statement.{statement}
-use Rattle.sums.proofs.moments.narrow_row.Tie as tie
+use Rattle.sums.proofs.inner_rows.narrow_row.Statement.{statement}
+use Rattle.sums.proofs.inner_rows.narrow_row.Tie as tie
 
 abbrev Inv-loop : tie.InvT-loop
-Inv-loop small large smallwork₀ largework₀ g r gr line₀ b₀ smallwork largework line b =
+Inv-loop small large smallwork₀ largework₀ g r gr start line₀ b₀ smallwork largework line b =
     (b ≤ g .size3)
     × (line ≡ lineCell g (laidView Narrow small large) r gr b)
     × Before Narrow g (laid Narrow small large) (laid Narrow smallwork largework) (placeOf g r gr 0 + b)
@@ -27,45 +27,61 @@ Inv-loop small large smallwork₀ largework₀ g r gr line₀ b₀ smallwork lar
     × (length largework ≡ length largework₀)
 
 abbrev μ-loop : tie.MeasureT-loop
-μ-loop small large smallwork₀ largework₀ g r gr line₀ b₀ smallwork largework line b = g .size3 - b
+μ-loop small large smallwork₀ largework₀ g r gr start line₀ b₀ smallwork largework line b = g .size3 - b
+
+place-requires : tie.Need-place-requires Inv-loop μ-loop
+place-requires c κs = c .before .before .before .before .pre .0 .inside
 
 loop-holds : tie.Need-loop-holds Inv-loop μ-loop
 loop-holds c =
-    let s = c .before .before .before .before in (
+    let s = c .before .before .before .before .before in (
       omega arith,
       line-start (s .args .g) (laidView Narrow (now (s .args .small)) (now (s .args .large))) (s .args .r) (s .args .gr),
-      before-same (s .pre .before) (sym (add-zero _)),
+      before-same (s .pre .0 .before) (sym (add-zero _)),
       refl,
       refl,
     )
 
-next-bin-requires : tie.Need-next-bin-requires Inv-loop μ-loop
-next-bin-requires c κs =
-    let s = c .before .before .before .before .before .before .before .before .before in
+add-inner-bin : tie.Need-add-inner-bin Inv-loop μ-loop
+add-inner-bin c =
+    let s = c .before .before .before .before .before .before .before .before .before .before in
+    let i = s .pre .0 .inside in
+    omega (arith, c .before .before .before .before .before .place .ensures, place-lt i, bins-high (i .accepted), size-high (three (i .accepted)), c .before .before .if1 .taken)
+
+inner-bin-requires : tie.Need-inner-bin-requires Inv-loop μ-loop
+inner-bin-requires c κs =
+    let s = c .before .before .before .before .before .before .before .before .before .before in
     let l = c .before .before .before .before .loop in
-    let i = s .pre .inside in (
+    let i = s .pre .0 .inside in (
       row-ready (record { accepted = i .accepted; one = i .one; two = i .two; three = c .before .before .if1 .taken })
           (l .inv .2),
-      l .inv .1,
+      (
+        l .inv .1,
+        (
+          s .pre .1 .0,
+          s .pre .1 .1,
+          ap (λ (n : ℕ). n + l .b) (c .before .before .before .before .before .place .ensures) ∙ place-along (s .args .g) (s .args .r) (s .args .gr) (l .b),
+        ),
+      ),
     )
 
 add-b : tie.Need-add-b Inv-loop μ-loop
 add-b c =
-    omega (arith, c .before .before .before .before .before .before .before .if1 .taken, size-high (three (c .before .before .before .before .before .before .before .before .before .before .before .before .before .before .pre .inside .accepted)))
+    omega (arith, c .before .before .before .before .before .before .before .if1 .taken, size-high (three (c .before .before .before .before .before .before .before .before .before .before .before .before .before .before .before .pre .0 .inside .accepted)))
 
 loop-less : tie.Need-loop-less Inv-loop μ-loop
 loop-less c = omega arith
 
 loop-again : tie.Need-loop-again Inv-loop μ-loop
 loop-again c =
-    let s = c .before .before .before .before .before .before .before .before .before .before .before .before .before .before in
+    let s = c .before .before .before .before .before .before .before .before .before .before .before .before .before .before .before in
     let l = c .before .before .before .before .before .before .before .before .before .loop in
-    let i = s .pre .inside in
+    let i = s .pre .0 .inside in
     let ready =
     row-ready (record { accepted = i .accepted; one = i .one; two = i .two; three = c .before .before .before .before .before .before .before .if1 .taken }) (l .inv .2) in (
       omega (arith, c .before .before .before .before .before .before .before .if1 .taken),
-      c .before .before .before .before .next-bin .ensures .0,
-      before-same (one-on ready (c .before .before .before .before .next-bin .ensures .1))
+      c .before .before .before .before .inner-bin .ensures .0,
+      before-same (one-on ready (c .before .before .before .before .inner-bin .ensures .1))
           (ap (λ (n : ℕ). n + 1) (sym (place-along (s .args .g) (s .args .r) (s .args .gr) (l .b)))
           ∙ add-assoc _ (l .b) 1),
       search needs,
@@ -81,7 +97,7 @@ same-length-2 c = c .before .before .loop .inv .4
 returns : tie.Need-returns Inv-loop μ-loop
 returns c =
     let l = c .before .before .loop in
-    let a = c .before .before .before .before .before .before .before .args in
+    let a = c .before .before .before .before .before .before .before .before .args in
     let all : l .b ≡ a .g .size3 = omega arith in
     before-same (l .inv .2) (ap (λ (n : ℕ). placeOf (a .g) (a .r) (a .gr) 0 + n) all)
 
@@ -91,8 +107,10 @@ narrow-row-spec =
     (tie.spec
     Inv-loop
     μ-loop
+    place-requires
     loop-holds
-    next-bin-requires
+    add-inner-bin
+    inner-bin-requires
     add-b
     loop-less
     loop-again
