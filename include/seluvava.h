@@ -222,7 +222,8 @@ uint8_t seluvava_load_ppm(size_t b1, size_t b2, size_t b3,
                           const uint8_t *file, size_t file_len);
 
 /*
- * Merge: adds a second table into a first, number by number.
+ * Merge: adds a second table into a first, number by number. Either order gives the same answer and, where that is 0,
+ * the same sum, so tables may be merged in any tree; a table of zeros changes nothing.
  *
  *   table     5 * bins numbers, sound. Changed.
  *   second    5 * bins numbers, sound.
@@ -368,7 +369,9 @@ struct seluvava_cut_answer {
 
 /*
  * Cut: divides the grid into at most k boxes, each with weight in it, and each bin in exactly one. A table loaded from
- * colours gets as many as the smaller of k and the bins that have weight.
+ * colours gets as many as the smaller of k and the bins that have weight. Where all numbers of a table are multiplied by
+ * a power of two and the total still fits, boxes, palette and map are the same, and counts, remainders and spreads are
+ * multiplied.
  *
  *   table     5 * bins numbers, sound, with a total above 0.
  *   work      5 * bins numbers, whatever they are. Afterwards the moments: at each place the sum over all bins
@@ -475,7 +478,7 @@ uint8_t seluvava_narrow_load(size_t b1, size_t b2, size_t b3,
                              const uint32_t *weights, size_t weights_len);
 
 /*
- * Narrow merge: adds a second narrow table into a first, number by number.
+ * Narrow merge: adds a second narrow table into a first, number by number, in any order and tree as merge does.
  *
  *   sums, squares
  *             a narrow table, as for narrow_load. Both are changed.

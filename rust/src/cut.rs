@@ -237,7 +237,9 @@ impl Cut {
 impl Table {
     /// Cuts the table down to at most k colours. The table stays as it is, and can be loaded further.
     ///
-    /// What was loaded is cut into as many colours as the smaller of k and the number of bins that it fell in.
+    /// What was loaded is cut into as many colours as the smaller of k and the number of bins that it fell in. With
+    /// every weight multiplied by a power of two, where the total still fits, colours and map are the same, and counts,
+    /// remainders and spreads are multiplied.
     ///
     /// # Errors
     ///

@@ -213,7 +213,7 @@ impl NarrowTable {
         sys::narrow_load(self.grid, self.lists_mut(), colours, Some(weights))
     }
 
-    /// Adds a second narrow table of the same grid.
+    /// Adds a second narrow table of the same grid, in any order and any tree as [`Table::merge`] does.
     ///
     /// # Errors
     ///

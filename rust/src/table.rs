@@ -193,7 +193,8 @@ impl Table {
         sys::load(self.grid, &mut self.numbers, colours, Some(weights))
     }
 
-    /// Adds a second table of the same grid.
+    /// Adds a second table of the same grid, number by number. Tables may be merged in any order and any tree: where
+    /// none is refused, the sum is the same. An empty table changes nothing.
     ///
     /// # Errors
     ///
