@@ -69,7 +69,7 @@ module _ (t : ℕ) where
       ∙ take-out-view (growBox t) bySpread bySpread keeps-order noItem h n
 
   -- 0.0 stays, so whether a spread is above it does
-  pub zero-box : (x : Bounds) → withZero x ≡ growBox t (withZero x)
+  zero-box : (x : Bounds) → withZero x ≡ growBox t (withZero x)
   unfolding growBox grow newExponent
   zero-box x = refl
 
@@ -96,10 +96,10 @@ module _ (t : ℕ) where
 
 -- ---- one round
 module _ {g : Grid} {v : View} (s : Sound limit g v) (t : ℕ) (few : t ≤ 100) where
-  box-doubled : {x : Bounds} → Within g x → 1 ≤ boxSum g v x 0
+  box-grown : {x : Bounds} → Within g x → 1 ≤ boxSum g v x 0
       → withSpread g (doubled t v) x ≡ growBox t (withSpread g v x)
   unfolding withSpread growBox
-  box-doubled {x} w some = λ i. record { bounds = x; spread = spread-doubled s t few w some i }
+  box-grown {x} w some = λ i. record { bounds = x; spread = spread-doubled s t few w some i }
 
   after-doubled : {x : Bounds} → Within g x → (p : Position) → bestCut g v x ≡ p → (h : List BoxSpread) (n : ℕ)
       → roomAfter g (doubled t v) (growRoom t h) n x (growPosition t p) ≡ growRoom t (roomAfter g v h n x p)
@@ -109,8 +109,8 @@ module _ {g : Grid} {v : View} (s : Sound limit g v) (t : ℕ) (few : t ≤ 100)
       let low = withSpread g v (lowSide x d i) in
       let high = withSpread g v (highSide x d i) in
       (λ j. putIn bySpread noItem
-      (putIn bySpread noItem (growRoom t h) n (box-doubled (low-box v w e) (pos-of-ne-zero (good .low)) j)) (n + 1)
-      (box-doubled (high-box v w e) (pos-of-ne-zero (good .high)) j))
+      (putIn bySpread noItem (growRoom t h) n (box-grown (low-box v w e) (pos-of-ne-zero (good .low)) j)) (n + 1)
+      (box-grown (high-box v w e) (pos-of-ne-zero (good .high)) j))
       ∙ ap (λ (k : List BoxSpread). putIn bySpread noItem k (n + 1) (growBox t high)) (put-grow t h n low)
       ∙ put-grow t (putIn bySpread noItem h n low) (n + 1) high
   after-doubled {x} w Nowhere e h n =
