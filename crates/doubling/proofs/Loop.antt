@@ -28,7 +28,7 @@ use Rattle.heap.proofs.View.{KeepsOrder, item-view, put-in-view, take-out-view}
 use Rattle.rounds.specs.declared.gather.BoxSpread.{BoxSpread}
 use Rattle.rounds.specs.Loop.{bySpread, noItem, withSpread, withZero, Heap, startRoom, start, roomAfter, boxesAfter}
 use Rattle.rounds.specs.Loop.{roundRoom, roundBoxes, round, rounds, heapOf}
-use Rattle.rounds.proofs.OneRound.{low-box, high-box}
+use Rattle.spread.proofs.Cases.{low-box, high-box}
 use Rattle.rounds.proofs.Filled.{Each, Fit, fit-kept, each-round, start-each, start-fit}
 use Rattle.doubling.specs.Grow.{doubled, newExponent, grow, growPosition, growBox, growRoom, growHeap}
 use Rattle.doubling.proofs.Grow.{lt-grow, le-grow, zero-grow}

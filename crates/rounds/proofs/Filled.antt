@@ -25,7 +25,8 @@ use Rattle.rounds.specs.Loop.{roundBoxes, round, rounds, start, heapOf}
 use Rattle.boxes.specs.Box.{noBox, wholeOf}
 use Rattle.boxes.proofs.Whole.{whole-within}
 use Rattle.rounds.proofs.Grids.{whole-sum}
-use Rattle.rounds.proofs.OneRound.{low-box, high-box, round-cases, rounds-keep}
+use Rattle.spread.proofs.Cases.{low-box, high-box}
+use Rattle.rounds.proofs.OneRound.{round-cases, rounds-keep}
 
 -- a room with n places in use
 pub record InUse (h : List BoxSpread) (n : ℕ) : Type 0 where

@@ -10,13 +10,11 @@ use lib.Ieee.{Float, lt}
 use Rattle.grid.specs.declared.place.Grid.{Grid}
 use Rattle.table.specs.Cell.{View}
 use Rattle.boxes.specs.declared.sides.Bounds.{Bounds}
-use Rattle.boxes.specs.Box.{lowSide, highSide, Within}
-use Rattle.boxes.proofs.Within.{low-within, high-within}
+use Rattle.boxes.specs.Box.{lowSide, highSide}
 use Rattle.spread.specs.declared.position.Position.{Position}
 use Rattle.spread.specs.declared.position.Position.the-variants.{At, Nowhere}
 use Rattle.spread.specs.Spread.{zeroOf}
 use Rattle.spread.specs.Cut.{bestCut}
-use Rattle.spread.proofs.Best.{answered}
 use Rattle.heap.specs.Heap.{item, putIn, takeOut}
 use Rattle.rounds.specs.declared.gather.BoxSpread.{BoxSpread}
 use Rattle.rounds.specs.Loop.{bySpread, noItem, withSpread, withZero, Heap, roomAfter, boxesAfter, roundRoom}
@@ -40,14 +38,6 @@ module _ (g : Grid) (v : View) (h : List BoxSpread) (n : ℕ) (x : Bounds) {p : 
       (n + 1) (withSpread g v (highSide x d i))
   unfolding roomAfter
   room-cut q = ap (roomAfter g v h n x) q
-
--- both sides of an answered position are boxes of the grid
-module _ {g : Grid} (v : View) {x : Bounds} (w : Within g x) {d i : ℕ} {s : Float} (q : bestCut g v x ≡ At d i s) where
-  pub low-box : Within g (lowSide x d i)
-  low-box = let a = answered g v x q .1 .inside in low-within w d i (a .0) (a .1)
-
-  pub high-box : Within g (highSide x d i)
-  high-box = let a = answered g v x q .1 .inside in high-within w d i (a .1)
 
 -- a round whose top is to be cut, and one that stops
 module _ (g : Grid) (v : View) (h : List BoxSpread) (n : ℕ) where

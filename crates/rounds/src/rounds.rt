@@ -48,43 +48,21 @@ fn cut_top(
         (bestCut g (laidView layout (now (small .entry)) (now (large .entry))) x) ⌝ }
     ensures arrays { λ r. ⌜ TwoArrays (now (spreads .exit)) (now (boxes .exit)) ⌝ }
 {
+    let best = best_cut(layout, small, large, smallwork, largework, source, g, x);
+    let position = best.position;
     let Position::At {
         dimension,
         bin,
         score: _,
-    } = best_cut(layout, small, large, smallwork, largework, source, g, x)
+    } = position
     else {
         put_box(spreads, boxes, left, 0.0, x);
         return left + 1;
     };
     let low = low_side(x, dimension, bin);
     let high = high_side(x, dimension, bin);
-    put_with_spread(
-        layout,
-        small,
-        large,
-        smallwork,
-        largework,
-        source,
-        g,
-        spreads,
-        boxes,
-        left,
-        low,
-    );
-    put_with_spread(
-        layout,
-        small,
-        large,
-        smallwork,
-        largework,
-        source,
-        g,
-        spreads,
-        boxes,
-        left + 1,
-        high,
-    );
+    put_with_spread(spreads, boxes, left, low, best.low);
+    put_with_spread(spreads, boxes, left + 1, high, best.high);
     left + 2
 }
 

@@ -12,7 +12,8 @@ use Rattle.sums.specs.Box.{statsOf}
 use Rattle.boxes.specs.Box.{minAt, maxAt, lowSide, highSide}
 use Rattle.spread.specs.declared.position.Position.{Position}
 use Rattle.spread.specs.declared.position.Position.the-variants.{At, Nowhere}
-use Rattle.spread.specs.Spread.{scoreOf}
+use Rattle.spread.specs.declared.both_sides.BestCut.{BestCut}
+use Rattle.spread.specs.Spread.{zeroOf, scoreOf}
 
 -- the answer, the values and the scores of each case: "either a position with its float score, or that no position
 -- exists"; neither is a refusal
@@ -56,3 +57,21 @@ bestIn g v x d = bestRun g v x d (minAt x d + 1) (maxAt x d - (minAt x d + 1))
 -- "The smallest score wins; on a tie the lowest dimension, in it the lowest bin"
 unfoldable pub bestCut : Grid → View → Bounds → Position
 bestCut g v x = better (better (bestIn g v x 0) (bestIn g v x 1)) (bestIn g v x 2)
+
+-- ---- the two sides of a position
+-- all zeros, of no box
+abbrev pub noStats : Stats
+noStats = record { weight = 0; sum1 = 0; sum2 = 0; sum3 = 0; squares = zeroOf }
+
+abbrev pub noCut : BestCut
+noCut = record { position = Nowhere; low = noStats; high = noStats }
+
+-- a position of a box with the statistics of its two sides: "the low side is [min, bin), the high side the rest"
+unfoldable pub cutAt : Grid → View → Bounds → Position → BestCut
+cutAt g v x (At d bin score) =
+    record {
+      position = At d bin score;
+      low = statsOf g v (lowSide x d bin);
+      high = statsOf g v (highSide x d bin);
+    }
+cutAt g v x Nowhere = noCut

@@ -3,7 +3,7 @@ use crate::low_side::less;
 use crate::narrow_search::best_narrow;
 use crate::position::Position;
 use crate::position::position_between;
-use crate::walk::walk_of;
+use crate::walk::Walk;
 use crate::wide_search::best_wide;
 use boxes::sides::Bounds;
 use boxes::sides::end_bin;
@@ -19,7 +19,7 @@ ghost use Rattle.sums.specs.declared.source.Source.the-variants.{Moments};
 ghost use Rattle.sums.specs.Box.{statsOf};
 ghost use Rattle.sums.specs.Moments.{CanSum};
 ghost use Rattle.spread.specs.Cut.{positionAt, bestIn};
-ghost use Rattle.spread.specs.Inner.{Sided};
+ghost use Rattle.spread.specs.Inner.{Sided, walkOf};
 
 // The position at a bin, from the records of the box and of its low side: the high side is the rest of the box. The
 // table is named by the contract alone.
@@ -52,16 +52,17 @@ pub(crate) fn best_by_moments(
     x: Bounds,
     dimension: u8,
     all: Stats,
+    walk: Walk,
 ) -> Position
     requires { ⌜ CanSum layout limit Moments g (laid layout (now small) (now large))
         (laid layout (now smallwork) (now largework)) × Within g x ⌝ }
     requires { ⌜ all ≡ statsOf g (laidView layout (now small) (now large)) x ⌝ }
+    requires { ⌜ walk ≡ walkOf g x dimension ⌝ }
     ensures { λ r. ⌜ r ≡ bestIn g (laidView layout (now (small .entry)) (now (large .entry))) x dimension ⌝ }
 {
     if end_bin(x, dimension) - first_bin(x, dimension) == 1 {
         return Position::Nowhere;
     }
-    let walk = walk_of(g, x, dimension);
     match layout {
         Layout::Wide => best_wide(
             small,

@@ -9,6 +9,7 @@ use table::layout::Layout;
 use table::layout::cell_in;
 ghost use mathlib.Core.Path.{_≡_};
 ghost use Prim.Native.Nat.{_-_, _≤_};
+ghost use Rattle.grid.specs.Grid.{placeOf};
 ghost use Rattle.table.specs.declared.layout.Layout.the-variants.{Narrow};
 ghost use Rattle.table.specs.Sound.{limit};
 ghost use Rattle.table.specs.Layout.{laid, laidView};
@@ -18,7 +19,8 @@ ghost use Rattle.sums.specs.declared.source.Source.the-variants.{Moments
 ghost use Rattle.sums.specs.Moments.{CanSum};
 ghost use Rattle.sums.specs.Inner.{binCell, Corner};
 
-// The sums of all bins below r, gr and b. The table is named by the contract alone, here and in the three below.
+// The sums of all bins below r, gr and b, given where the last row before starts. Table and grid are named by the
+// contract alone, here and in the three below.
 fn narrow_corner(
     small: &[u32],
     large: &[u64],
@@ -28,17 +30,14 @@ fn narrow_corner(
     r: usize,
     gr: usize,
     b: usize,
+    row: usize,
 ) -> Cell
     requires { ⌜ Corner Narrow g (laid Narrow (now small) (now large))
         (laid Narrow (now smallwork) (now largework)) r gr b ⌝ }
+    requires { ⌜ row ≡ placeOf g (r - 1) (gr - 1) 0 ⌝ }
     ensures { λ c. ⌜ c ≡ binCell g (laidView Narrow (now (small .entry)) (now (large .entry))) 0 r 0 gr 0 b ⌝ }
 {
-    cell_in(
-        Layout::Narrow,
-        smallwork,
-        largework,
-        place(g, r - 1, gr - 1, b - 1),
-    )
+    cell_in(Layout::Narrow, smallwork, largework, row + (b - 1))
 }
 
 // The sums of the bins from b0 to b1, below r and gr.
@@ -52,18 +51,20 @@ fn narrow_bins_from(
     gr: usize,
     b0: usize,
     b1: usize,
+    row: usize,
 ) -> Cell
     requires { ⌜ Corner Narrow g (laid Narrow (now small) (now large))
         (laid Narrow (now smallwork) (now largework)) r gr b1 × (b0 ≤ b1) ⌝ }
+    requires { ⌜ row ≡ placeOf g (r - 1) (gr - 1) 0 ⌝ }
     ensures { λ c. ⌜ c ≡ binCell g (laidView Narrow (now (small .entry)) (now (large .entry))) 0 r 0 gr b0 (b1 - b0) ⌝ }
 {
-    let upper = narrow_corner(small, large, smallwork, largework, g, r, gr, b1);
+    let upper = narrow_corner(small, large, smallwork, largework, g, r, gr, b1, row);
     if b0 == 0 {
         return upper;
     }
     minus(
         upper,
-        narrow_corner(small, large, smallwork, largework, g, r, gr, b0),
+        narrow_corner(small, large, smallwork, largework, g, r, gr, b0, row),
     )
 }
 
@@ -76,42 +77,28 @@ fn narrow_slab(
     g: Grid,
     r: usize,
     x: Bounds,
+    plane: usize,
 ) -> Cell
     requires { ⌜ Corner Narrow g (laid Narrow (now small) (now large))
         (laid Narrow (now smallwork) (now largework)) r (x .g1) (x .b1) × (x .g0 ≤ x .g1) × (x .b0 ≤ x .b1) ⌝ }
+    requires { ⌜ plane ≡ placeOf g (r - 1) 0 0 ⌝ }
     ensures { λ c. ⌜ c
         ≡ binCell g (laidView Narrow (now (small .entry)) (now (large .entry))) 0 r
         (x .g0) (x .g1 - x .g0) (x .b0) (x .b1 - x .b0) ⌝ }
 {
     let b0 = x.b0 as usize;
     let b1 = x.b1 as usize;
-    let upper = narrow_bins_from(
-        small,
-        large,
-        smallwork,
-        largework,
-        g,
-        r,
-        x.g1 as usize,
-        b0,
-        b1,
-    );
-    if x.g0 == 0 {
+    let g0 = x.g0 as usize;
+    let g1 = x.g1 as usize;
+    let last = plane + place(g, 0, g1 - 1, 0);
+    let upper = narrow_bins_from(small, large, smallwork, largework, g, r, g1, b0, b1, last);
+    if g0 == 0 {
         return upper;
     }
+    let before = plane + place(g, 0, g0 - 1, 0);
     minus(
         upper,
-        narrow_bins_from(
-            small,
-            large,
-            smallwork,
-            largework,
-            g,
-            r,
-            x.g0 as usize,
-            b0,
-            b1,
-        ),
+        narrow_bins_from(small, large, smallwork, largework, g, r, g0, b0, b1, before),
     )
 }
 
@@ -128,12 +115,32 @@ pub(crate) fn narrow_box(
         (laid Narrow (now smallwork) (now largework)) × Within g x ⌝ }
     ensures { λ c. ⌜ c ≡ boxCell g (laidView Narrow (now (small .entry)) (now (large .entry))) x ⌝ }
 {
-    let upper = narrow_slab(small, large, smallwork, largework, g, x.r1 as usize, x);
-    if x.r0 == 0 {
+    let r0 = x.r0 as usize;
+    let r1 = x.r1 as usize;
+    let upper = narrow_slab(
+        small,
+        large,
+        smallwork,
+        largework,
+        g,
+        r1,
+        x,
+        place(g, r1 - 1, 0, 0),
+    );
+    if r0 == 0 {
         return upper;
     }
     minus(
         upper,
-        narrow_slab(small, large, smallwork, largework, g, x.r0 as usize, x),
+        narrow_slab(
+            small,
+            large,
+            smallwork,
+            largework,
+            g,
+            r0,
+            x,
+            place(g, r0 - 1, 0, 0),
+        ),
     )
 }

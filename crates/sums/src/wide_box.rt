@@ -8,6 +8,7 @@ use table::cell::minus;
 use table::wide::cell_at;
 ghost use mathlib.Core.Path.{_≡_};
 ghost use Prim.Native.Nat.{_-_, _≤_};
+ghost use Rattle.grid.specs.Grid.{placeOf};
 ghost use Rattle.table.specs.declared.layout.Layout.the-variants.{Wide};
 ghost use Rattle.table.specs.Sound.{limit};
 ghost use Rattle.table.specs.Table.{viewOf};
@@ -17,12 +18,22 @@ ghost use Rattle.sums.specs.declared.source.Source.the-variants.{Moments
 ghost use Rattle.sums.specs.Moments.{CanSum};
 ghost use Rattle.sums.specs.Inner.{binCell, Corner};
 
-// The sums of all bins below r, gr and b. The table is named by the contract alone, here and in the three below.
-fn wide_corner(table: &[u64], work: &[u64], g: Grid, r: usize, gr: usize, b: usize) -> Cell
+// The sums of all bins below r, gr and b, given where the last row before starts. Table and grid are named by the
+// contract alone, here and in the three below.
+fn wide_corner(
+    table: &[u64],
+    work: &[u64],
+    g: Grid,
+    r: usize,
+    gr: usize,
+    b: usize,
+    row: usize,
+) -> Cell
     requires { ⌜ Corner Wide g (now table) (now work) r gr b ⌝ }
+    requires { ⌜ row ≡ placeOf g (r - 1) (gr - 1) 0 ⌝ }
     ensures { λ c. ⌜ c ≡ binCell g (viewOf (now (table .entry))) 0 r 0 gr 0 b ⌝ }
 {
-    cell_at(work, place(g, r - 1, gr - 1, b - 1))
+    cell_at(work, row + (b - 1))
 }
 
 // The sums of the bins from b0 to b1, below r and gr.
@@ -34,32 +45,36 @@ fn wide_bins_from(
     gr: usize,
     b0: usize,
     b1: usize,
+    row: usize,
 ) -> Cell
     requires { ⌜ Corner Wide g (now table) (now work) r gr b1 × (b0 ≤ b1) ⌝ }
+    requires { ⌜ row ≡ placeOf g (r - 1) (gr - 1) 0 ⌝ }
     ensures { λ c. ⌜ c ≡ binCell g (viewOf (now (table .entry))) 0 r 0 gr b0 (b1 - b0) ⌝ }
 {
-    let upper = wide_corner(table, work, g, r, gr, b1);
+    let upper = wide_corner(table, work, g, r, gr, b1, row);
     if b0 == 0 {
         return upper;
     }
-    minus(upper, wide_corner(table, work, g, r, gr, b0))
+    minus(upper, wide_corner(table, work, g, r, gr, b0, row))
 }
 
 // The sums of the bins of a box's last two dimensions, below r.
-fn wide_slab(table: &[u64], work: &[u64], g: Grid, r: usize, x: Bounds) -> Cell
+fn wide_slab(table: &[u64], work: &[u64], g: Grid, r: usize, x: Bounds, plane: usize) -> Cell
     requires { ⌜ Corner Wide g (now table) (now work) r (x .g1) (x .b1) × (x .g0 ≤ x .g1) × (x .b0 ≤ x .b1) ⌝ }
+    requires { ⌜ plane ≡ placeOf g (r - 1) 0 0 ⌝ }
     ensures { λ c. ⌜ c ≡ binCell g (viewOf (now (table .entry))) 0 r (x .g0) (x .g1 - x .g0) (x .b0) (x .b1 - x .b0) ⌝ }
 {
     let b0 = x.b0 as usize;
     let b1 = x.b1 as usize;
-    let upper = wide_bins_from(table, work, g, r, x.g1 as usize, b0, b1);
-    if x.g0 == 0 {
+    let g0 = x.g0 as usize;
+    let g1 = x.g1 as usize;
+    let last = plane + place(g, 0, g1 - 1, 0);
+    let upper = wide_bins_from(table, work, g, r, g1, b0, b1, last);
+    if g0 == 0 {
         return upper;
     }
-    minus(
-        upper,
-        wide_bins_from(table, work, g, r, x.g0 as usize, b0, b1),
-    )
+    let before = plane + place(g, 0, g0 - 1, 0);
+    minus(upper, wide_bins_from(table, work, g, r, g0, b0, b1, before))
 }
 
 // The five sums of a box, from the moments of its table (`volume`).
@@ -67,9 +82,14 @@ pub(crate) fn wide_box(table: &[u64], work: &[u64], g: Grid, x: Bounds) -> Cell
     requires { ⌜ CanSum Wide limit Moments g (now table) (now work) × Within g x ⌝ }
     ensures { λ c. ⌜ c ≡ boxCell g (viewOf (now (table .entry))) x ⌝ }
 {
-    let upper = wide_slab(table, work, g, x.r1 as usize, x);
-    if x.r0 == 0 {
+    let r0 = x.r0 as usize;
+    let r1 = x.r1 as usize;
+    let upper = wide_slab(table, work, g, r1, x, place(g, r1 - 1, 0, 0));
+    if r0 == 0 {
         return upper;
     }
-    minus(upper, wide_slab(table, work, g, x.r0 as usize, x))
+    minus(
+        upper,
+        wide_slab(table, work, g, r0, x, place(g, r0 - 1, 0, 0)),
+    )
 }

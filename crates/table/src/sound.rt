@@ -62,20 +62,12 @@ fn lies_far_between(span: u64, n: u64, sum: u64) -> bool
     wrapping_sub_u64(sum, n * (span % 4294967296)) <= n * (span / 4294967296)
 }
 
-// Whether all but the weight are zeros.
+// Whether all but the weight are zeros: together they have no bit. A test of each would be a branch more at each empty
+// bin, of which most tables have many.
 fn is_bare(c: Cell) -> bool
     ensures { λ r. ⌜ r ≡ (leb (c .sum1) 0 && (leb (c .sum2) 0 && (leb (c .sum3) 0 && leb (c .squares) 0))) ⌝ }
 {
-    if 0 < c.sum1 {
-        return false;
-    }
-    if 0 < c.sum2 {
-        return false;
-    }
-    if 0 < c.sum3 {
-        return false;
-    }
-    c.squares <= 0
+    c.sum1 | (c.sum2 | (c.sum3 | c.squares)) <= 0
 }
 
 // Whether a bin keeps its own bounds, with a weight that is not past the limit by itself: by the spans of its row and

@@ -43,15 +43,12 @@ returns c =
       s .pre .0 .1 .some (a .dimension),
     ))
 
-walk-of-requires : tie.Need-walk-of-requires
-walk-of-requires c κs = c .before .before .before .before .before .before .before .pre .0 .1
-
 enum-told : tie.Need-enum-told
 enum-told c = search needs
 
 best-wide-requires : tie.Need-best-wide-requires
 best-wide-requires c κs =
-    let s = c .before .before .before .before .before .before .before .before .before .before in
+    let s = c .before .before .before .before .before .before .before .before .before in
     let a = s .args in (
       (
         subst (λ (l : Layout). CanSum l limit Moments (a .g) (laid l (now (a .small)) (now (a .large)))
@@ -59,9 +56,9 @@ best-wide-requires c κs =
         s .pre .0 .1,
       ),
       (
-        s .pre .1 ∙ ap (λ (l : Layout). statsOf (a .g) (laidView l (now (a .small)) (now (a .large))) (a .x))
+        s .pre .1 .0 ∙ ap (λ (l : Layout). statsOf (a .g) (laidView l (now (a .small)) (now (a .large))) (a .x))
             (c .enum-told .given .1),
-        c .before .before .walk-of .ensures,
+        s .pre .1 .1,
       ),
     )
 
@@ -70,7 +67,7 @@ enum-told-2 c = search needs
 
 best-narrow-requires : tie.Need-best-narrow-requires
 best-narrow-requires c κs =
-    let s = c .before .before .before .before .before .before .before .before .before .before in
+    let s = c .before .before .before .before .before .before .before .before .before in
     let a = s .args in (
       (
         subst (λ (l : Layout). CanSum l limit Moments (a .g) (laid l (now (a .small)) (now (a .large)))
@@ -78,22 +75,22 @@ best-narrow-requires c κs =
         s .pre .0 .1,
       ),
       (
-        s .pre .1 ∙ ap (λ (l : Layout). statsOf (a .g) (laidView l (now (a .small)) (now (a .large))) (a .x))
+        s .pre .1 .0 ∙ ap (λ (l : Layout). statsOf (a .g) (laidView l (now (a .small)) (now (a .large))) (a .x))
             (c .enum-told2 .given .1),
-        c .before .before .walk-of .ensures,
+        s .pre .1 .1,
       ),
     )
 
 returns-2 : tie.Need-returns-2
 returns-2 c =
-    let a = c .before .before .before .before .before .before .before .before .before .before .before .args in
+    let a = c .before .before .before .before .before .before .before .before .before .before .args in
     c .best-wide .ensures
     ∙ ap (λ (l : Layout). bestIn (a .g) (laidView l (now (a .small)) (now (a .large))) (a .x) (a .dimension))
     (sym (c .before .enum-told .given .1))
 
 returns-3 : tie.Need-returns-3
 returns-3 c =
-    let a = c .before .before .before .before .before .before .before .before .before .before .before .args in
+    let a = c .before .before .before .before .before .before .before .before .before .before .args in
     c .best-narrow .ensures
     ∙ ap (λ (l : Layout). bestIn (a .g) (laidView l (now (a .small)) (now (a .large))) (a .x) (a .dimension))
     (sym (c .before .enum-told2 .given .1))
@@ -101,5 +98,5 @@ returns-3 c =
 pub best-by-moments-spec : {M : Type 1} → statement M
 best-by-moments-spec =
     tie.close
-    (tie.spec end-bin-requires first-bin-requires sub-if1 returns walk-of-requires enum-told best-wide-requires enum-told-2
+    (tie.spec end-bin-requires first-bin-requires sub-if1 returns enum-told best-wide-requires enum-told-2
     best-narrow-requires returns-2 returns-3)

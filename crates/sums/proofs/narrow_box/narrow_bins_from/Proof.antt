@@ -1,6 +1,7 @@
 -- `sums::narrow_box::narrow_bins_from` meets its contract: the bins up to the end are those up to the start and those of the run.
 -- Assumes nothing.
 use Prim.Native.Nat.{ℕ}
+use native.Mathlib.Omega.{arith}
 use borrow.Author.Needs.{needs}
 use denote.Ref.{now}
 use Rattle.table.specs.declared.layout.Layout.the-variants.{Narrow}
@@ -8,7 +9,7 @@ use Rattle.table.specs.Layout.{laidView}
 use Rattle.sums.specs.Inner.{binCell}
 use Rattle.bins.specs.Sum.{binSum}
 use Rattle.bins.proofs.Runs.{third-from}
-use Rattle.sums.proofs.Corners.{from-least, from-is, from-start}
+use Rattle.sums.proofs.Corners.{from-least, from-is, from-start, fewer-bins}
 use Rattle.sums.proofs.narrow_box.narrow_bins_from.Statement.{statement}
 use Rattle.sums.proofs.narrow_box.narrow_bins_from.Tie as tie
 
@@ -24,24 +25,28 @@ unfolding binCell
 returns c =
     let s = c .before .before .before .before .before .before in
     from-start (runs s) (third-from (s .args .g) (laidView Narrow (now (s .args .small)) (now (s .args .large))) 0 (s .args .r) 0 (s .args .gr))
-    (s .pre .1) (c .before .narrow-corner .ensures) (c .if1 .taken)
+    (s .pre .0 .1) (c .before .narrow-corner .ensures) (c .if1 .taken)
 
 narrow-corner-requires-2 : tie.Need-narrow-corner-requires-2
-narrow-corner-requires-2 c κs = search needs
+narrow-corner-requires-2 c κs =
+    let s = c .before .before .before .before .before .before in (
+      fewer-bins (s .pre .0 .0) (s .pre .0 .1) (omega (arith, c .if1 .left)),
+      s .pre .1,
+    )
 
 minus-requires : tie.Need-minus-requires
 unfolding binCell
 minus-requires c κs =
     let s = c .before .before .before .before .before .before .before in
     from-least (runs s) (third-from (s .args .g) (laidView Narrow (now (s .args .small)) (now (s .args .large))) 0 (s .args .r) 0 (s .args .gr))
-    (s .pre .1) (c .before .before .narrow-corner .ensures) (c .narrow-corner2 .ensures)
+    (s .pre .0 .1) (c .before .before .narrow-corner .ensures) (c .narrow-corner2 .ensures)
 
 returns-2 : tie.Need-returns-2
 unfolding binCell
 returns-2 c =
     let s = c .before .before .before .before .before .before .before .before in
     from-is (runs s) (third-from (s .args .g) (laidView Narrow (now (s .args .small)) (now (s .args .large))) 0 (s .args .r) 0 (s .args .gr))
-    (s .pre .1) (c .before .before .before .narrow-corner .ensures) (c .before .narrow-corner2 .ensures) (c .minus .ensures)
+    (s .pre .0 .1) (c .before .before .before .narrow-corner .ensures) (c .before .narrow-corner2 .ensures) (c .minus .ensures)
 
 pub narrow-bins-from-spec : {M : Type 1} → statement M
 narrow-bins-from-spec = tie.close (tie.spec narrow-corner-requires returns narrow-corner-requires-2 minus-requires returns-2)

@@ -2,7 +2,7 @@
 -- Assumes nothing.
 use mathlib.Core.Path.{_≡_}
 use Prim.Native.Nat.{ℕ, _+_, _-_, _≤_}
-use native.Mathlib.Nat.{le-trans, le-of-lt}
+use native.Mathlib.Nat.{le-of-lt}
 use native.Mathlib.Omega.{arith}
 use borrow.Author.Needs.{needs}
 use denote.Ref.{now}
@@ -11,7 +11,7 @@ use Rattle.table.specs.Layout.{laidView}
 use Rattle.sums.specs.Inner.{binCell}
 use Rattle.bins.specs.Sum.{binSum, boxSum, boxCell}
 use Rattle.bins.proofs.Runs.{first-from}
-use Rattle.sums.proofs.Corners.{from-least, from-is, from-start}
+use Rattle.sums.proofs.Corners.{from-least, from-is, from-start, plane-inside, box-end, box-start}
 use Rattle.boxes.proofs.Within.{sides}
 use Rattle.sums.proofs.narrow_box.narrow_box.Statement.{statement}
 use Rattle.sums.proofs.narrow_box.narrow_box.Tie as tie
@@ -27,69 +27,79 @@ split s a e j h =
     first-from (s .args .g) (laidView Narrow (now (s .args .small)) (now (s .args .large))) a e (s .args .x .g0) (s .args .x .g1 - s .args .x .g0)
     (s .args .x .b0) (s .args .x .b1 - s .args .x .b0) j h
 
-cast-narrow-slab : tie.Need-cast-narrow-slab
-cast-narrow-slab c = search needs
+cast-r0 : tie.Need-cast-r0
+cast-r0 c = search needs
+
+cast-r1 : tie.Need-cast-r1
+cast-r1 c = search needs
+
+sub-place : tie.Need-sub-place
+sub-place c =
+    let s = c .before .before .before .before .before .before in
+    omega (arith, box-end (s .pre .0) (s .pre .1) .some-one)
+
+place-requires : tie.Need-place-requires
+place-requires c κs =
+    let s = c .before .before .before .before .before .before in
+    plane-inside (box-end (s .pre .0) (s .pre .1))
 
 narrow-slab-requires : tie.Need-narrow-slab-requires
 narrow-slab-requires c κs =
-    let s = c .before .before .before .before .before in
+    let s = c .before .before .before .before .before .before .before in
     let e = sides (s .pre .1) in (
-      record {
-        can-sum = s .pre .0;
-        some-one = omega (arith, e .one);
-        one = e .one-fits;
-        some-two = omega (arith, e .two);
-        two = e .two-fits;
-        some-three = omega (arith, e .three);
-        three = e .three-fits;
-      },
-      le-of-lt
-          (e .two),
-      le-of-lt (e .three),
+      (box-end (s .pre .0) (s .pre .1), le-of-lt (e .two), le-of-lt (e .three)),
+      c .place .ensures,
     )
 
 returns : tie.Need-returns
 unfolding binCell boxCell boxSum
 returns c =
-    let s = c .before .before .before .before .before .before .before .before in
-    from-start (planes s) (split s) (le-of-lt (sides (s .pre .1) .one)) (c .before .before .narrow-slab .ensures)
+    let s = c .before .before .before .before .before .before .before .before .before in
+    from-start (planes s) (split s) (le-of-lt (sides (s .pre .1) .one)) (c .before .narrow-slab .ensures)
     (c .if1 .taken)
 
-cast-narrow-slab-2 : tie.Need-cast-narrow-slab-2
-cast-narrow-slab-2 c = search needs
+sub-place-2 : tie.Need-sub-place-2
+sub-place-2 c = search needs
+
+place-requires-2 : tie.Need-place-requires-2
+place-requires-2 c κs =
+    let s = c .before .before .before .before .before .before .before .before .before in
+    plane-inside (box-start (s .pre .0) (s .pre .1) (omega (arith, c .if1 .left)))
 
 narrow-slab-requires-2 : tie.Need-narrow-slab-requires-2
 narrow-slab-requires-2 c κs =
-    let s = c .before .before .before .before .before .before .before .before .before in
+    let s = c .before .before .before .before .before .before .before .before .before .before in
     let e = sides (s .pre .1) in (
-      record {
-        can-sum = s .pre .0;
-        some-one = omega (arith, c .before .if1 .left);
-        one = le-trans (le-of-lt (e .one)) (e .one-fits);
-        some-two = omega (arith, e .two);
-        two = e .two-fits;
-        some-three = omega (arith, e .three);
-        three = e .three-fits;
-      },
-      le-of-lt (e .two),
-      le-of-lt (e .three),
+      (box-start (s .pre .0) (s .pre .1) (omega (arith, c .before .if1 .left)), le-of-lt (e .two), le-of-lt (e .three)),
+      c .place2 .ensures,
     )
 
 minus-requires : tie.Need-minus-requires
 unfolding binCell
 minus-requires c κs =
-    let s = c .before .before .before .before .before .before .before .before .before .before in
+    let s = c .before .before .before .before .before .before .before .before .before .before .before in
     from-least (planes s) (split s) (le-of-lt (sides (s .pre .1) .one))
-    (c .before .before .before .before .narrow-slab .ensures) (c .narrow-slab2 .ensures)
+    (c .before .before .before .narrow-slab .ensures) (c .narrow-slab2 .ensures)
 
 returns-2 : tie.Need-returns-2
 unfolding binCell boxCell boxSum
 returns-2 c =
-    let s = c .before .before .before .before .before .before .before .before .before .before .before in
+    let s = c .before .before .before .before .before .before .before .before .before .before .before .before in
     from-is (planes s) (split s) (le-of-lt (sides (s .pre .1) .one))
-    (c .before .before .before .before .before .narrow-slab .ensures) (c .before .narrow-slab2 .ensures) (c .minus .ensures)
+    (c .before .before .before .before .narrow-slab .ensures) (c .before .narrow-slab2 .ensures) (c .minus .ensures)
 
 pub narrow-box-spec : {M : Type 1} → statement M
 narrow-box-spec =
     tie.close
-    (tie.spec cast-narrow-slab narrow-slab-requires returns cast-narrow-slab-2 narrow-slab-requires-2 minus-requires returns-2)
+    (tie.spec
+    cast-r0
+    cast-r1
+    sub-place
+    place-requires
+    narrow-slab-requires
+    returns
+    sub-place-2
+    place-requires-2
+    narrow-slab-requires-2
+    minus-requires
+    returns-2)

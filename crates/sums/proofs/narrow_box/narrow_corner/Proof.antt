@@ -1,28 +1,26 @@
 -- `sums::narrow_box::narrow_corner` meets its contract: the moments at the last bin before the corner.
 -- Assumes nothing.
+use native.Mathlib.Omega.{arith}
 use borrow.Author.Needs.{needs}
-use Rattle.sums.proofs.Corners.{corner-inside, corner-cell, corner-is}
+use Rattle.sums.proofs.Corners.{corner-cell, corner-is, bin-is, bin-fits}
 use Rattle.sums.proofs.narrow_box.narrow_corner.Statement.{statement}
 use Rattle.sums.proofs.narrow_box.narrow_corner.Tie as tie
 
-sub-place : tie.Need-sub-place
-sub-place c = search needs
+sub-cell-in : tie.Need-sub-cell-in
+sub-cell-in c = search needs
 
-sub-place-2 : tie.Need-sub-place-2
-sub-place-2 c = search needs
-
-sub-place-3 : tie.Need-sub-place-3
-sub-place-3 c = search needs
-
-place-requires : tie.Need-place-requires
-place-requires c κs = corner-inside (c .before .before .before .before .pre)
+add-cell-in : tie.Need-add-cell-in
+add-cell-in c = let s = c .before .before .before .before in omega (arith, bin-fits (s .pre .0) (s .pre .1))
 
 cell-in-requires : tie.Need-cell-in-requires
-cell-in-requires c κs = corner-cell (c .before .before .before .before .before .pre) (c .place .ensures)
+cell-in-requires c κs =
+    let s = c .before .before .before .before in
+    corner-cell (s .pre .0) (bin-is (s .pre .0) (s .pre .1))
 
 returns : tie.Need-returns
-returns c = corner-is (c .before .before .before .before .before .before .pre) (c .before .place .ensures) (c .cell-in .ensures)
+returns c =
+    let s = c .before .before .before .before .before in
+    corner-is (s .pre .0) (bin-is (s .pre .0) (s .pre .1)) (c .cell-in .ensures)
 
 pub narrow-corner-spec : {M : Type 1} → statement M
-narrow-corner-spec =
-    tie.close (tie.spec sub-place sub-place-2 sub-place-3 place-requires cell-in-requires returns)
+narrow-corner-spec = tie.close (tie.spec sub-cell-in add-cell-in cell-in-requires returns)

@@ -2,7 +2,6 @@
 -- Assumes nothing.
 use mathlib.Core.Path.{_≡_}
 use Prim.Native.Nat.{ℕ, _+_, _-_, _≤_}
-use native.Mathlib.Nat.{le-trans}
 use native.Mathlib.Omega.{arith}
 use borrow.Author.Needs.{needs}
 use denote.Ref.{now}
@@ -11,7 +10,7 @@ use Rattle.table.specs.Layout.{laidView}
 use Rattle.sums.specs.Inner.{binCell}
 use Rattle.bins.specs.Sum.{binSum}
 use Rattle.bins.proofs.Runs.{second-from}
-use Rattle.sums.proofs.Corners.{from-least, from-is, from-start}
+use Rattle.sums.proofs.Corners.{from-least, from-is, from-start, row-inside, row-is, row-fits, fewer-rows}
 use Rattle.sums.proofs.narrow_box.narrow_slab.Statement.{statement}
 use Rattle.sums.proofs.narrow_box.narrow_slab.Tie as tie
 
@@ -32,49 +31,72 @@ cast-b0 c = search needs
 cast-b1 : tie.Need-cast-b1
 cast-b1 c = search needs
 
-cast-narrow-bins-from : tie.Need-cast-narrow-bins-from
-cast-narrow-bins-from c = search needs
+cast-g0 : tie.Need-cast-g0
+cast-g0 c = search needs
+
+cast-g1 : tie.Need-cast-g1
+cast-g1 c = search needs
+
+sub-place : tie.Need-sub-place
+sub-place c = search needs
+
+place-requires : tie.Need-place-requires
+place-requires c κs =
+    let s = c .before .before .before .before .before .before .before .before in
+    row-inside (s .pre .0 .0)
+
+add-last : tie.Need-add-last
+add-last c =
+    let s = c .before .before .before .before .before .before .before .before .before in
+    omega (arith, row-fits (s .pre .0 .0) (s .pre .1) (c .place .ensures))
 
 narrow-bins-from-requires : tie.Need-narrow-bins-from-requires
-narrow-bins-from-requires c κs = search needs
+narrow-bins-from-requires c κs =
+    let s = c .before .before .before .before .before .before .before .before .before in (
+      (s .pre .0 .0, s .pre .0 .2),
+      row-is (s .pre .0 .0) (s .pre .1) (c .place .ensures),
+    )
 
 returns : tie.Need-returns
 unfolding binCell
 returns c =
-    let s = c .before .before .before .before .before .before .before .before .before .before in
-    from-start (rows s) (split s) (s .pre .1) (c .before .before .narrow-bins-from .ensures) (c .if1 .taken)
+    let s = c .before .before .before .before .before .before .before .before .before .before .before in
+    from-start (rows s) (split s) (s .pre .0 .1) (c .before .narrow-bins-from .ensures) (c .if1 .taken)
 
-cast-narrow-bins-from-2 : tie.Need-cast-narrow-bins-from-2
-cast-narrow-bins-from-2 c = search needs
+sub-place-2 : tie.Need-sub-place-2
+sub-place-2 c = search needs
+
+place-requires-2 : tie.Need-place-requires-2
+place-requires-2 c κs =
+    let s = c .before .before .before .before .before .before .before .before .before .before .before in
+    row-inside (fewer-rows (s .pre .0 .0) (s .pre .0 .1) (omega (arith, c .if1 .left)))
+
+add-before : tie.Need-add-before
+add-before c =
+    let s = c .before .before .before .before .before .before .before .before .before .before .before .before in
+    let k = fewer-rows (s .pre .0 .0) (s .pre .0 .1) (omega (arith, c .before .if1 .left)) in
+    omega (arith, row-fits k (s .pre .1) (c .place2 .ensures))
 
 narrow-bins-from-requires-2 : tie.Need-narrow-bins-from-requires-2
 narrow-bins-from-requires-2 c κs =
-    let s = c .before .before .before .before .before .before .before .before .before .before .before in
-    let k = s .pre .0 in (
-      record {
-        can-sum = k .can-sum;
-        some-one = k .some-one;
-        one = k .one;
-        some-two = omega (arith, c .before .if1 .left);
-        two = le-trans (s .pre .1) (k .two);
-        some-three = k .some-three;
-        three = k .three;
-      },
-      s .pre .2,
+    let s = c .before .before .before .before .before .before .before .before .before .before .before .before in
+    let k = fewer-rows (s .pre .0 .0) (s .pre .0 .1) (omega (arith, c .before .if1 .left)) in (
+      (k, s .pre .0 .2),
+      row-is k (s .pre .1) (c .place2 .ensures),
     )
 
 minus-requires : tie.Need-minus-requires
 unfolding binCell
 minus-requires c κs =
-    let s = c .before .before .before .before .before .before .before .before .before .before .before .before in
-    from-least (rows s) (split s) (s .pre .1) (c .before .before .before .before .narrow-bins-from .ensures)
+    let s = c .before .before .before .before .before .before .before .before .before .before .before .before .before in
+    from-least (rows s) (split s) (s .pre .0 .1) (c .before .before .before .narrow-bins-from .ensures)
     (c .narrow-bins-from2 .ensures)
 
 returns-2 : tie.Need-returns-2
 unfolding binCell
 returns-2 c =
-    let s = c .before .before .before .before .before .before .before .before .before .before .before .before .before in
-    from-is (rows s) (split s) (s .pre .1) (c .before .before .before .before .before .narrow-bins-from .ensures)
+    let s = c .before .before .before .before .before .before .before .before .before .before .before .before .before .before in
+    from-is (rows s) (split s) (s .pre .0 .1) (c .before .before .before .before .narrow-bins-from .ensures)
     (c .before .narrow-bins-from2 .ensures) (c .minus .ensures)
 
 pub narrow-slab-spec : {M : Type 1} → statement M
@@ -83,10 +105,16 @@ narrow-slab-spec =
     (tie.spec
     cast-b0
     cast-b1
-    cast-narrow-bins-from
+    cast-g0
+    cast-g1
+    sub-place
+    place-requires
+    add-last
     narrow-bins-from-requires
     returns
-    cast-narrow-bins-from-2
+    sub-place-2
+    place-requires-2
+    add-before
     narrow-bins-from-requires-2
     minus-requires
     returns-2)

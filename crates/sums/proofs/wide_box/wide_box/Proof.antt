@@ -2,7 +2,7 @@
 -- Assumes nothing.
 use mathlib.Core.Path.{_≡_}
 use Prim.Native.Nat.{ℕ, _+_, _-_, _≤_}
-use native.Mathlib.Nat.{le-trans, le-of-lt}
+use native.Mathlib.Nat.{le-of-lt}
 use native.Mathlib.Omega.{arith}
 use borrow.Author.Needs.{needs}
 use denote.Ref.{now}
@@ -10,7 +10,7 @@ use Rattle.table.specs.Table.{viewOf}
 use Rattle.sums.specs.Inner.{binCell}
 use Rattle.bins.specs.Sum.{binSum, boxSum, boxCell}
 use Rattle.bins.proofs.Runs.{first-from}
-use Rattle.sums.proofs.Corners.{from-least, from-is, from-start}
+use Rattle.sums.proofs.Corners.{from-least, from-is, from-start, plane-inside, box-end, box-start}
 use Rattle.boxes.proofs.Within.{sides}
 use Rattle.sums.proofs.wide_box.wide_box.Statement.{statement}
 use Rattle.sums.proofs.wide_box.wide_box.Tie as tie
@@ -26,69 +26,75 @@ split s a e j h =
     first-from (s .args .g) (viewOf (now (s .args .table))) a e (s .args .x .g0) (s .args .x .g1 - s .args .x .g0)
     (s .args .x .b0) (s .args .x .b1 - s .args .x .b0) j h
 
-cast-wide-slab : tie.Need-cast-wide-slab
-cast-wide-slab c = search needs
+cast-r0 : tie.Need-cast-r0
+cast-r0 c = search needs
+
+cast-r1 : tie.Need-cast-r1
+cast-r1 c = search needs
+
+sub-place : tie.Need-sub-place
+sub-place c = let s = c .before .before .before .before in omega (arith, box-end (s .pre .0) (s .pre .1) .some-one)
+
+place-requires : tie.Need-place-requires
+place-requires c κs = let s = c .before .before .before .before in plane-inside (box-end (s .pre .0) (s .pre .1))
 
 wide-slab-requires : tie.Need-wide-slab-requires
 wide-slab-requires c κs =
-    let s = c .before .before .before in
+    let s = c .before .before .before .before .before in
     let e = sides (s .pre .1) in (
-      record {
-        can-sum = s .pre .0;
-        some-one = omega (arith, e .one);
-        one = e .one-fits;
-        some-two = omega (arith, e .two);
-        two = e .two-fits;
-        some-three = omega (arith, e .three);
-        three = e .three-fits;
-      },
-      le-of-lt
-          (e .two),
-      le-of-lt (e .three),
+      (box-end (s .pre .0) (s .pre .1), le-of-lt (e .two), le-of-lt (e .three)),
+      c .place .ensures,
     )
 
 returns : tie.Need-returns
 unfolding binCell boxCell boxSum
 returns c =
-    let s = c .before .before .before .before .before .before in
-    from-start (planes s) (split s) (le-of-lt (sides (s .pre .1) .one)) (c .before .before .wide-slab .ensures)
+    let s = c .before .before .before .before .before .before .before in
+    from-start (planes s) (split s) (le-of-lt (sides (s .pre .1) .one)) (c .before .wide-slab .ensures)
     (c .if1 .taken)
 
-cast-wide-slab-2 : tie.Need-cast-wide-slab-2
-cast-wide-slab-2 c = search needs
+sub-place-2 : tie.Need-sub-place-2
+sub-place-2 c = search needs
+
+place-requires-2 : tie.Need-place-requires-2
+place-requires-2 c κs =
+    let s = c .before .before .before .before .before .before .before in
+    plane-inside (box-start (s .pre .0) (s .pre .1) (omega (arith, c .if1 .left)))
 
 wide-slab-requires-2 : tie.Need-wide-slab-requires-2
 wide-slab-requires-2 c κs =
-    let s = c .before .before .before .before .before .before .before in
+    let s = c .before .before .before .before .before .before .before .before in
     let e = sides (s .pre .1) in (
-      record {
-        can-sum = s .pre .0;
-        some-one = omega (arith, c .before .if1 .left);
-        one = le-trans (le-of-lt (e .one)) (e .one-fits);
-        some-two = omega (arith, e .two);
-        two = e .two-fits;
-        some-three = omega (arith, e .three);
-        three = e .three-fits;
-      },
-      le-of-lt (e .two),
-      le-of-lt (e .three),
+      (box-start (s .pre .0) (s .pre .1) (omega (arith, c .before .if1 .left)), le-of-lt (e .two), le-of-lt (e .three)),
+      c .place2 .ensures,
     )
 
 minus-requires : tie.Need-minus-requires
 unfolding binCell
 minus-requires c κs =
-    let s = c .before .before .before .before .before .before .before .before in
+    let s = c .before .before .before .before .before .before .before .before .before in
     from-least (planes s) (split s) (le-of-lt (sides (s .pre .1) .one))
-    (c .before .before .before .before .wide-slab .ensures) (c .wide-slab2 .ensures)
+    (c .before .before .before .wide-slab .ensures) (c .wide-slab2 .ensures)
 
 returns-2 : tie.Need-returns-2
 unfolding binCell boxCell boxSum
 returns-2 c =
-    let s = c .before .before .before .before .before .before .before .before .before in
+    let s = c .before .before .before .before .before .before .before .before .before .before in
     from-is (planes s) (split s) (le-of-lt (sides (s .pre .1) .one))
-    (c .before .before .before .before .before .wide-slab .ensures) (c .before .wide-slab2 .ensures) (c .minus .ensures)
+    (c .before .before .before .before .wide-slab .ensures) (c .before .wide-slab2 .ensures) (c .minus .ensures)
 
 pub wide-box-spec : {M : Type 1} → statement M
 wide-box-spec =
     tie.close
-    (tie.spec cast-wide-slab wide-slab-requires returns cast-wide-slab-2 wide-slab-requires-2 minus-requires returns-2)
+    (tie.spec
+    cast-r0
+    cast-r1
+    sub-place
+    place-requires
+    wide-slab-requires
+    returns
+    sub-place-2
+    place-requires-2
+    wide-slab-requires-2
+    minus-requires
+    returns-2)
