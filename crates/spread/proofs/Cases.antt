@@ -1,13 +1,18 @@
 -- A position with its two sides, by its cases.
 -- Assumes nothing.
-use mathlib.Core.Path.{_≡_, refl, sym, ap, _∙_}
+use mathlib.Core.Path.{_≡_, refl, sym, ap, subst, _∙_}
+use mathlib.Core.Bool.{true}
 use Prim.Native.Nat.{ℕ}
 use lib.Ieee.{Float}
 use Rattle.grid.specs.declared.place.Grid.{Grid}
 use Rattle.table.specs.Cell.{View}
+use Rattle.table.specs.declared.layout.Layout.{Layout}
+use Rattle.table.specs.Layout.{TableIn, viewIn, TableOfIn}
+use Rattle.table.specs.Sound.{limit, sound}
 use Rattle.boxes.specs.declared.sides.Bounds.{Bounds}
 use Rattle.boxes.specs.Box.{lowSide, highSide, Within}
 use Rattle.boxes.proofs.Within.{low-within, high-within}
+use Rattle.bins.specs.Sum.{CanAdd}
 use Rattle.sums.specs.declared.box_sums.Stats.{Stats}
 use Rattle.sums.specs.Box.{statsOf}
 use Rattle.spread.specs.declared.position.Position.{Position}
@@ -52,3 +57,8 @@ module _ {g : Grid} (v : View) {x : Bounds} (w : Within g x) {d i : ℕ} {s : Fl
 
   pub high-box : Within g (highSide x d i)
   high-box = let a = answered g v x q .1 .inside in high-within w d i (a .1)
+
+-- and a box of the grid can be added up
+pub side-adds : {l : Layout} {g : Grid} {t : TableIn l} → TableOfIn l g t → sound limit g (viewIn l t) ≡ true
+    → {x y : Bounds} → x ≡ y → Within g y → CanAdd l limit g t x
+side-adds {g = g} t s e w = record { table = t; is-sound = s; within = subst (Within g) (sym e) w }

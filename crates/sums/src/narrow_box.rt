@@ -19,8 +19,8 @@ ghost use Rattle.sums.specs.declared.source.Source.the-variants.{Moments
 ghost use Rattle.sums.specs.Moments.{CanSum};
 ghost use Rattle.sums.specs.Inner.{binCell, Corner};
 
-// The sums of all bins below r, gr and b, given where the last row before starts. Table and grid are named by the
-// contract alone, here and in the three below.
+// The sums of all bins below r, gr and b, given where the last row before starts. The table is named by the contract
+// alone, here and in the three below, and so are the grid, r and gr in the two that are told a row.
 fn narrow_corner(
     small: &[u32],
     large: &[u64],

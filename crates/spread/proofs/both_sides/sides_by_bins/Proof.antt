@@ -1,32 +1,18 @@
 -- `spread::both_sides::sides_by_bins` meets its contract: both sides are boxes of the grid, each added up by itself.
 -- Assumes nothing.
-use mathlib.Core.Path.{_≡_, sym, ap, subst, _∙_}
+use mathlib.Core.Path.{sym, ap, _∙_}
 use borrow.Author.Needs.{needs}
 use denote.Ref.{now}
 use Rattle.table.specs.Cell.{View}
-use Rattle.table.specs.Sound.{limit}
-use Rattle.table.specs.Layout.{laid, laidView}
-use Rattle.boxes.specs.declared.sides.Bounds.{Bounds}
-use Rattle.boxes.specs.Box.{Within}
-use Rattle.bins.specs.Sum.{CanAdd}
+use Rattle.table.specs.Layout.{laidView}
 use Rattle.sums.specs.Box.{statsOf}
-use Rattle.spread.proofs.Cases.{cut-none, cut-is, low-box, high-box}
+use Rattle.spread.proofs.Cases.{cut-none, cut-is, low-box, high-box, side-adds}
 use Rattle.spread.proofs.both_sides.sides_by_bins.Statement.{statement}
 use Rattle.spread.proofs.both_sides.sides_by_bins.Tie as tie
 
 module _ (s : tie.Start) where
   abbrev view : View
   view = laidView (s .args .layout) (now (s .args .small)) (now (s .args .large))
-
-  -- a side can be added up
-  side : {x y : Bounds} → x ≡ y → Within (s .args .g) y
-      → CanAdd (s .args .layout) limit (s .args .g) (laid (s .args .layout) (now (s .args .small)) (now (s .args .large))) x
-  side e w =
-      record {
-        table = s .pre .0 .table;
-        is-sound = s .pre .0 .is-sound;
-        within = subst (Within (s .args .g)) (sym e) w;
-      }
 
 enum-known-position : tie.Need-enum-known-position
 enum-known-position c = search needs
@@ -48,7 +34,7 @@ low-side-requires c κs = search needs
 sum-of-bins-requires : tie.Need-sum-of-bins-requires
 sum-of-bins-requires c κs =
     let s = c .before .before .before .before .before .before in
-    side s (c .low-side .ensures)
+    side-adds (s .pre .0 .table) (s .pre .0 .is-sound) (c .low-side .ensures)
     (low-box (view s) (s .pre .0 .within) (sym (s .pre .1) ∙ c .before .before .position .given .1))
 
 high-side-requires : tie.Need-high-side-requires
@@ -57,7 +43,7 @@ high-side-requires c κs = search needs
 sum-of-bins-requires-2 : tie.Need-sum-of-bins-requires-2
 sum-of-bins-requires-2 c κs =
     let s = c .before .before .before .before .before .before .before .before in
-    side s (c .high-side .ensures)
+    side-adds (s .pre .0 .table) (s .pre .0 .is-sound) (c .high-side .ensures)
     (high-box (view s) (s .pre .0 .within) (sym (s .pre .1) ∙ c .before .before .before .before .position .given .1))
 
 returns-2 : tie.Need-returns-2

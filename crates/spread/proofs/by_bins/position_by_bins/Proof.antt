@@ -1,18 +1,17 @@
 -- `spread::by_bins::position_by_bins` meets its contract: both sides are boxes of the grid, and their sums plain.
 -- Assumes nothing.
-use mathlib.Core.Path.{_≡_, sym, ap, subst, _∙_}
+use mathlib.Core.Path.{_≡_, ap, _∙_}
 use borrow.Author.Needs.{needs}
 use denote.Ref.{now}
 use Rattle.table.specs.Cell.{View}
 use Rattle.table.specs.Sound.{limit}
-use Rattle.table.specs.Layout.{laid, laidView}
+use Rattle.table.specs.Layout.{laidView}
 use Rattle.table.proofs.Soundness.{Sound}
-use Rattle.boxes.specs.declared.sides.Bounds.{Bounds}
 use Rattle.boxes.specs.Box.{lowSide, highSide, Within}
 use Rattle.boxes.proofs.Within.{low-within, high-within}
-use Rattle.bins.specs.Sum.{CanAdd}
 use Rattle.sums.specs.Box.{statsOf}
 use Rattle.spread.proofs.Choose.{plain-stats, position-is}
+use Rattle.spread.proofs.Cases.{side-adds}
 use Rattle.spread.proofs.by_bins.position_by_bins.Statement.{statement}
 use Rattle.spread.proofs.by_bins.position_by_bins.Tie as tie
 
@@ -30,26 +29,17 @@ module _ (s : tie.Start) where
   high-in : Within (s .args .g) (highSide (s .args .x) (s .args .dimension) (s .args .bin))
   high-in = let h = s .pre .1 in high-within (h .within) (s .args .dimension) (s .args .bin) (h .high)
 
-  -- a side can be added up
-  side : {x y : Bounds} → x ≡ y → Within (s .args .g) y → CanAdd (s .args .layout) limit (s .args .g) (laid (s .args .layout) (now (s .args .small)) (now (s .args .large))) x
-  side e w =
-      record {
-        table = s .pre .0;
-        is-sound = s .pre .1 .is-sound;
-        within = subst (Within (s .args .g)) (sym e) w;
-      }
-
 low-side-requires : tie.Need-low-side-requires
 low-side-requires c κs = search needs
 
 sum-of-bins-requires : tie.Need-sum-of-bins-requires
-sum-of-bins-requires c κs = let s = c .before .before .before in side s (c .low-side .ensures) (low-in s)
+sum-of-bins-requires c κs = let s = c .before .before .before in side-adds (s .pre .0) (s .pre .1 .is-sound) (c .low-side .ensures) (low-in s)
 
 high-side-requires : tie.Need-high-side-requires
 high-side-requires c κs = search needs
 
 sum-of-bins-requires-2 : tie.Need-sum-of-bins-requires-2
-sum-of-bins-requires-2 c κs = let s = c .before .before .before .before .before in side s (c .high-side .ensures) (high-in s)
+sum-of-bins-requires-2 c κs = let s = c .before .before .before .before .before in side-adds (s .pre .0) (s .pre .1 .is-sound) (c .high-side .ensures) (high-in s)
 
 -- what was added up are the statistics of the two sides
 the-low : (k : tie.After-sum-of-bins) → let s = k .before .before .before .before in
