@@ -12,7 +12,7 @@ use table::layout::Layout;
 use table::sound::limit_of;
 
 // What adding a batch comes to: the total then, or that it would pass the limit.
-#[derive(Drop)]
+#[derive(Clone, Copy)]
 pub enum Added {
     Total(u64),
     Passed,

@@ -1,2 +1,3 @@
 // What a box sums to, by adding up its bins one after the other.
+#![tactic(auto)]
 pub mod add_up;

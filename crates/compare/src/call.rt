@@ -9,7 +9,7 @@ use table::wide::table_len;
 
 // What a comparison hands back: its answer, how many bins differ, and the place of the first that does.
 #[repr(C)]
-#[derive(Drop)]
+#[derive(Clone, Copy)]
 pub struct Compared {
     pub number: u8,
     pub differ: usize,

@@ -1,3 +1,4 @@
 // The call that compares two tables.
+#![tactic(auto)]
 mod bins;
 pub mod call;

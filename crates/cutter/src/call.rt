@@ -21,7 +21,7 @@ use table::layout::{Layout, lengths_fit};
 
 // What a cut hands back: its answer, the number of boxes, the number of rounds, and a place for each box with its
 // spread.
-#[derive(Drop)]
+#[derive(Clone, Copy)]
 pub struct CutRecord {
     pub number: u8,
     pub boxes: usize,

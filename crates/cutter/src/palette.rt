@@ -15,7 +15,7 @@ use sums::source::Source;
 use table::layout::Layout;
 
 // A component's mean, rounded down, and what that leaves of its sum.
-#[derive(Drop)]
+#[derive(Clone, Copy)]
 pub struct Divided {
     pub quotient: u8,
     pub remainder: u32,

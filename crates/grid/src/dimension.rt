@@ -3,7 +3,7 @@ ghost use Rattle.std.specs.Prelude.{◌≡◌, ◌<◌};
 ghost use Rattle.grid.specs.Size.{shift_of, bin_of, span_of, InSize};
 
 // What a size is answered with.
-#[derive(Drop)]
+#[derive(Clone, Copy)]
 pub enum Shift {
     By(u8),
     Refused,
@@ -34,7 +34,7 @@ pub fn bin_of(shift: u8, component: u8) -> usize
 }
 
 // The smallest and the largest value of a component that fall in a bin.
-#[derive(Drop)]
+#[derive(Clone, Copy)]
 pub struct Span {
     pub low: u64,
     pub high: u64,

@@ -5,7 +5,7 @@ ghost use Rattle.grid.specs.Grid.{grid_of, rgb_grid, bins_of, place_of, Accepted
 use crate::dimension::{Shift, shift_of};
 
 // Three sizes with their shifts (`BinnerU8x3`).
-#[derive(Drop)]
+#[derive(Clone, Copy)]
 pub struct Grid {
     pub shift1: u8,
     pub shift2: u8,
@@ -32,7 +32,7 @@ impl Grid {
 }
 
 // What three sizes are answered with.
-#[derive(Drop)]
+#[derive(Clone, Copy)]
 pub enum Chosen {
     Accepted(Grid),
     Refused,

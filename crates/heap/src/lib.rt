@@ -1,2 +1,3 @@
 // The heap (Rules, Heap).
+#![tactic(auto)]
 pub mod arrays;

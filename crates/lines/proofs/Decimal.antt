@@ -105,7 +105,7 @@ value_from before (d ∷ ds) = value_from (before * 10 + (d - 48)) ds
 value_append : (before : ℕ) (xs ys : List ℕ) → value_from before (xs ++ ys) ≡ value_from (value_from before xs) ys
 unfolding value_from
 value_append before [] ys = refl
-value_append before (x ∷ xs) ys = value_append _ xs ys
+value_append before (x ∷ xs) ys = value_append (before * 10 + (x - 48)) xs ys
 
 -- the digits of a number say that number
 pub decimal_value : (n : ℕ) → value_from 0 (decimal_of n) ≡ n

@@ -26,7 +26,7 @@ fn lower(number: u8, other: u8) -> u8
 }
 
 // The lowest refusal that a load has given so far, 0 where there was none, and whether another batch may follow.
-#[derive(Drop)]
+#[derive(Clone, Copy)]
 pub struct Loaded {
     pub number: u8,
     pub more: bool,

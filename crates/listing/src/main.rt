@@ -1,6 +1,7 @@
 // Lists the palette of the colours on standard input: bare RGB triples or, where the program is started with the word
 // `--ppm`, a PPM. This file reads and writes; what is decided of the input is the crate `inputs`, what is loaded and
 // what is said of it `lines` and, for a terminal, `swatches`.
+#![tactic(auto)]
 ghost use Rattle.std.specs.Prelude.{◌≡◌, true, false, ◌+◌, ◌^◌, ◌≤◌, ◌<◌, length, take};
 ghost use Rattle.lines.specs.Reading.{progress, AllCame};
 ghost use Rattle.inputs.specs.Frames.{Read, Room, CameBehind};
@@ -155,7 +156,7 @@ fn hint_no_ppm(space: &[u8], filled: usize)
 // ---- Reading
 
 // The bytes at the start of a batch, and whether a read failed, which is not the end of the input.
-#[derive(Drop)]
+#[derive(Clone, Copy)]
 struct Batch {
     bytes: usize,
     failed: bool,
@@ -201,7 +202,7 @@ fn fill(space: &mut [u8], there: usize) -> Batch
 
 // The lowest refusal of the loads so far, 0 where there was none; how many bytes were loaded or refused; whether there
 // may be more to read; and whether a read failed.
-#[derive(Drop)]
+#[derive(Clone, Copy)]
 struct Progress {
     number: u8,
     bytes: u64,
@@ -270,7 +271,7 @@ fn load_triples(table: &mut [u64], space: &mut [u8]) -> Progress
 }
 
 // The header of a PPM, how many bytes of its pixels are at the front of a batch, and whether a read failed.
-#[derive(Drop)]
+#[derive(Clone, Copy)]
 struct Begun {
     header: Header,
     there: usize,

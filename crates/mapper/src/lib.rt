@@ -1,4 +1,5 @@
 // Mapping a band of a frame.
+#![tactic(auto)]
 mod blocks;
 pub mod call;
 

@@ -1,4 +1,5 @@
 // Painting a band of a frame.
+#![tactic(auto)]
 mod blocks;
 pub mod call;
 mod palette;

@@ -75,7 +75,7 @@ fn blank_seen(blank: bool, within: bool, c: u8) -> bool
 }
 
 // A gap: whether it has whitespace that is no part of a comment, and the place behind it.
-#[derive(Drop)]
+#[derive(Clone, Copy)]
 struct Skipped {
     blank: bool,
     end: usize,
@@ -103,7 +103,7 @@ fn gap(file: &[u8], at: usize) -> Skipped
 }
 
 // A number: its value, kept at 65,536 where it is more, and the place behind it.
-#[derive(Drop)]
+#[derive(Clone, Copy)]
 pub struct Digits {
     pub value: usize,
     pub end: usize,
@@ -138,7 +138,7 @@ fn number(file: &[u8], at: usize) -> Digits
 }
 
 // A field, or that there is none.
-#[derive(Drop)]
+#[derive(Clone, Copy)]
 pub enum Found {
     Read(Digits),
     None,

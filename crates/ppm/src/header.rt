@@ -5,7 +5,7 @@ ghost use Rattle.ppm.specs.Header.{is_magic, is_side, image_of, header_of};
 use crate::fields::{Found, field, is_blank};
 
 // An image: its width and height in pixels, and the place of its first pixel's byte in the file.
-#[derive(Drop)]
+#[derive(Clone, Copy)]
 pub struct Frame {
     pub width: usize,
     pub height: usize,
@@ -13,7 +13,7 @@ pub struct Frame {
 }
 
 // What the header of a file says.
-#[derive(Drop)]
+#[derive(Clone, Copy)]
 pub enum Header {
     Image(Frame),
     Maximum,

@@ -1,4 +1,5 @@
 // Recording by intervals: a session with its interval in force, batches that say their own, and replays.
+#![tactic(auto)]
 pub mod batch;
 mod entries;
 pub mod replay;

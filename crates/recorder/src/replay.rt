@@ -16,7 +16,7 @@ use table::sound::{SoundTotal, sound_total};
 use table::wide::table_len;
 
 // How a replay stands after an entry: its answer, the session, and the table's total.
-#[derive(Drop)]
+#[derive(Clone, Copy)]
 struct Stands {
     number: u8,
     session: Session,

@@ -4,14 +4,14 @@ ghost use Rattle.recorder.specs.Session.{interval_number, begun, reloaded};
 
 // The interval in force; 0 is under which every batch is refused.
 #[repr(C)]
-#[derive(Drop)]
+#[derive(Clone, Copy)]
 pub struct Session {
     pub interval: u32,
 }
 
 // What beginning, reloading and replaying hand back: the answer, and the session then.
 #[repr(C)]
-#[derive(Drop)]
+#[derive(Clone, Copy)]
 pub struct SessionAnswer {
     pub number: u8,
     pub session: Session,

@@ -21,7 +21,7 @@ fn number(line: &[u64], at: usize) -> usize {
 }
 
 // The numbers of a call's line: its list, its grid, and the three that follow.
-#[derive(Drop)]
+#[derive(Clone, Copy)]
 pub(crate) struct Numbers {
     pub(crate) list: usize,
     pub(crate) b1: usize,
@@ -106,7 +106,7 @@ fn with_map(n: Numbers, m: &mut [u64; 389158], paints: bool) -> u64 {
 // ---- A line with a call
 
 // Where the calls of a kind are counted, and where the answer stands in the line.
-#[derive(Drop)]
+#[derive(Clone, Copy)]
 struct Kind(usize, usize);
 
 fn kind_of(word: u64) -> Kind

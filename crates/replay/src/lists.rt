@@ -34,7 +34,7 @@ pub(crate) const SECOND: usize = 225316;
 pub(crate) const SECOND_NAME: u64 = 0x7365636f6e64;
 
 // Where the list of a name stands, and how many numbers there is room for behind its length.
-#[derive(Drop)]
+#[derive(Clone, Copy)]
 pub(crate) struct Area(pub(crate) usize, pub(crate) usize);
 
 pub(crate) fn area_of(name: u64) -> Area
@@ -169,7 +169,7 @@ pub(crate) fn hold_sums(line: &[u64; 163857], m: &mut [u64; 389158]) -> bool {
 }
 
 // The places of a list, from the first to past the last.
-#[derive(Drop)]
+#[derive(Clone, Copy)]
 struct Places(usize, usize);
 
 fn places_of(m: &[u64], name: u64) -> Places

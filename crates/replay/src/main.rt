@@ -1,5 +1,6 @@
 // Replays a script of calls, good and refused, and holds what each answers and leaves to the script on standard input.
 // docs/REPLAY.md says what its lines mean and where they come from.
+#![tactic(auto)]
 mod calls;
 mod cuts;
 mod lend;

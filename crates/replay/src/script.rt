@@ -60,7 +60,7 @@ fn grown(n: u64, b: u8) -> u64 {
 }
 
 // What stands between two separators, and the place after it.
-#[derive(Drop)]
+#[derive(Clone, Copy)]
 struct Word {
     n: u64,
     end: usize,

@@ -15,7 +15,7 @@ use sums::source::Source;
 use table::layout::Layout;
 
 // A box with its spread (`CubeVar`).
-#[derive(Drop)]
+#[derive(Clone, Copy)]
 pub struct BoxSpread {
     pub bounds: Bounds,
     pub spread: f64,
@@ -23,7 +23,7 @@ pub struct BoxSpread {
 
 // The boxes of a cut in order: how many there are, how often the top was taken out, and a place for each box, all zeros
 // past the last.
-#[derive(Drop)]
+#[derive(Clone, Copy)]
 pub struct Boxes {
     pub boxes: usize,
     pub rounds: usize,

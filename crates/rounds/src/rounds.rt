@@ -101,7 +101,7 @@ fn round(
 }
 
 // How many boxes there are at the end, and how often the top was taken out.
-#[derive(Drop)]
+#[derive(Clone, Copy)]
 pub struct Ended {
     pub boxes: usize,
     pub rounds: usize,

@@ -12,7 +12,7 @@ use table::layout::Layout;
 
 // What a cut answers; the boxes themselves go into lent arrays.
 #[repr(C)]
-#[derive(Drop)]
+#[derive(Clone, Copy)]
 pub struct CutAnswer {
     pub number: u8,
     pub boxes: usize,

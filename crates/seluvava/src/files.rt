@@ -8,7 +8,7 @@ use ppm::header::{Header, read_header};
 // What the header of a PPM says: its answer, and the size of the image with the place of its first pixel, all 0 where
 // it is refused.
 #[repr(C)]
-#[derive(Drop)]
+#[derive(Clone, Copy)]
 pub struct PpmAnswer {
     pub number: u8,
     pub width: usize,

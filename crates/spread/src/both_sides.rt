@@ -19,7 +19,7 @@ use table::layout::Layout;
 
 // The best position of a box, or that it has none, with the statistics of the low and of the high side there. Where
 // there is no position they are all zeros.
-#[derive(Drop)]
+#[derive(Clone, Copy)]
 pub struct BestCut {
     pub position: Position,
     pub low: Stats,

@@ -7,7 +7,7 @@ use crate::spread::score;
 use sums::box_sums::Stats;
 
 // A position to cut a box at, or that there is none.
-#[derive(Drop)]
+#[derive(Clone, Copy)]
 pub enum Position {
     At { dimension: u8, bin: u8, score: f64 },
     Nowhere,

@@ -65,7 +65,7 @@ fn start_of(g: Grid, dimension: u8, outer: u8, inner: u8) -> usize
 
 // What stays the same from bin to bin of a dimension: the step, the box's first bins in the two other dimensions, and
 // the four places that are read, at bin 0.
-#[derive(Drop)]
+#[derive(Clone, Copy)]
 pub(crate) struct Walk {
     pub(crate) step: usize,
     pub(crate) outer: u8,

@@ -19,7 +19,7 @@ use table::cell::Cell;
 use table::layout::Layout;
 
 // The statistics of a box (`Stats`).
-#[derive(Drop)]
+#[derive(Clone, Copy)]
 pub struct Stats {
     pub weight: u64,
     pub sum1: u64,

@@ -10,7 +10,7 @@ use crate::wide::{cell_at, put_at, table_len};
 use grid::place::{Grid, bins};
 
 // How a table is laid out: all five numbers of a bin in the large list, or all but the squares in the small one.
-#[derive(Drop)]
+#[derive(Clone, Copy)]
 pub enum Layout {
     Wide,
     Narrow,

@@ -32,7 +32,7 @@ pub fn limit_of(layout: Layout) -> u64
 }
 
 // The total of a sound table, or that it is not sound.
-#[derive(Drop)]
+#[derive(Clone, Copy)]
 pub enum SoundTotal {
     Total(u64),
     Unsound,

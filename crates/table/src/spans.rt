@@ -28,7 +28,7 @@ fn squared(s: Span) -> Span
 }
 
 // What the bins of a row have in common: their spans in the first two dimensions, and the squares of both added.
-#[derive(Drop)]
+#[derive(Clone, Copy)]
 pub struct RowSpans {
     pub one: u64,
     pub two: u64,

@@ -1,2 +1,3 @@
 // The call that widens a table.
+#![tactic(auto)]
 pub mod call;

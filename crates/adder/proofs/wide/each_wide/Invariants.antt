@@ -1,0 +1,22 @@
+-- `adder::wide::each_wide` meets its contract: after k colours the table holds what it held with the first k loaded.
+-- Assumes nothing.
+use mathlib.Core.Path.{◌≡◌, refl, ◌∙◌}
+use Prim.Native.Nat.{ℕ, ◌≤◌, ◌-◌, ◌<◌, ◌+◌}
+use native.Mathlib.Omega.{arith}
+use lib.ListN.{get_or}
+use Rattle.grid.specs.Grid.{bins_of}
+use Rattle.table.specs.declared.layout.Layout.TheVariants.{Wide}
+use Rattle.table.specs.Table.{view_of}
+use Rattle.table.proofs.Tables.{same_size}
+use Rattle.table.proofs.Layouts.{HoldsIn, holds_list_in}
+use Rattle.adder.specs.Batch.{loaded}
+use Rattle.adder.specs.Inner.{part_of, with_part, PartFits}
+use Rattle.adder.proofs.Parts.{held_none, fits_later, held_later, light, has_room_lem, at_once, alone, own_weight}
+use Rattle.adder.proofs.wide.each_wide.Given as goal
+
+abbrev pub invariant-loop-k : goal.invariant-loop-k
+invariant-loop-k l =
+    (l.k ≤ l.n) × HoldsIn Wide (bins_of l.g) l.table (loaded l.g (part_of l.scale l.colours l.weighted l.weights l.at l.k) (view_of l.initial.table))
+
+abbrev pub decreases-loop-k : goal.decreases-loop-k
+decreases-loop-k l = l.n - l.k

@@ -1,0 +1,17 @@
+-- `lines::listing::listing` meets its contract: after each turn the first line and the lines so far are put.
+-- Assumes nothing.
+use mathlib.Core.Path.{◌≡◌, ◌∙◌}
+use Prim.Native.Nat.{◌+◌, ◌-◌, ◌*◌, ◌≤◌}
+use native.Mathlib.Omega.{arith}
+use native.Mathlib.Numerals.{add-one}
+use borrow.Author.Rules.{rules}
+use Rattle.lines.specs.Text.{lines_of, listing_of, Put}
+use Rattle.lines.proofs.Putting.{put_none, put_more, put_length, put_whole}
+use Rattle.lines.proofs.listing.listing.Given as goal
+
+abbrev pub invariant-loop-i : goal.invariant-loop-i
+invariant-loop-i l =
+    Put l.initial.out l.initial.at (lines_of l.palette l.counts l.i) l.out l.at × (l.at ≤ 128 * (l.i + 1)) × (l.i ≤ l.boxes)
+
+abbrev pub decreases-loop-i : goal.decreases-loop-i
+decreases-loop-i l = l.boxes - l.i

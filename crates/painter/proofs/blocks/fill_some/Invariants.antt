@@ -1,0 +1,18 @@
+-- `painter::blocks::fill_some` meets its contract: after k pixels the first k have the colour.
+-- Assumes nothing.
+use mathlib.Core.Path.{◌≡◌, ap, ◌∙◌}
+use mathlib.Core.List.{List}
+use Prim.Native.Nat.{ℕ, ◌≤◌, ◌+◌, ◌-◌, ◌*◌}
+use native.Mathlib.Omega.{arith}
+use lib.ListN.{length}
+use Rattle.band.specs.Band.{write_band}
+use Rattle.painter.specs.Inner.{fill_at}
+use Rattle.band.proofs.Band.{band_empty, band_length}
+use Rattle.painter.proofs.Runs.{run_join}
+use Rattle.painter.proofs.blocks.fill_some.Given as goal
+
+abbrev pub invariant-loop-k : goal.invariant-loop-k
+invariant-loop-k l = (l.k ≤ l.pixels) × (l.bytes ≡ write_band (3 * l.first) (3 * l.k) (fill_at l.v) l.initial.bytes)
+
+abbrev pub decreases-loop-k : goal.decreases-loop-k
+decreases-loop-k l = l.pixels - l.k

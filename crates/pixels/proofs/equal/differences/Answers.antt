@@ -1,0 +1,58 @@
+-- `pixels::equal::differences` meets its contract: the loop counts from the front, and 192 fits a u8.
+-- Assumes nothing.
+use mathlib.Core.Path.{◌≡◌, refl, ap, ◌∙◌}
+use mathlib.Core.Logic.{⊎_elim}
+use Prim.Native.Nat.{ℕ, ◌+◌, ◌-◌, ◌≤◌}
+use native.Mathlib.Omega.{arith}
+use Rattle.basics.specs.Range.{sum_from}
+use Rattle.pixels.specs.Equal.{differs}
+use Rattle.basics.proofs.Range.{sum_last}
+use Rattle.pixels.proofs.EqualColours.{alike, unlike}
+use Rattle.pixels.proofs.equal.differences.Goals as goal
+
+pub loop-k-init : goal.loop-k-init
+unfolding sum_from
+loop-k-init c = (omega arith, omega arith, refl)
+
+pub overflow_add-at : goal.overflow_add-at
+overflow_add-at c = omega arith
+
+pub bounds-bytes-at : goal.bounds-bytes-at
+bounds-bytes-at c = omega arith
+
+pub overflow_add-at-in-loop-k : goal.overflow_add-at-in-loop-k
+overflow_add-at-in-loop-k c = omega arith
+
+pub overflow_add-at-in-loop-k-2 : goal.overflow_add-at-in-loop-k-2
+overflow_add-at-in-loop-k-2 c = omega arith
+
+pub bounds-bytes-at-in-loop-k : goal.bounds-bytes-at-in-loop-k
+bounds-bytes-at-in-loop-k c = omega arith
+
+pub overflow_add-count : goal.overflow_add-count
+overflow_add-count c = omega arith
+
+pub overflow_add-k : goal.overflow_add-k
+overflow_add-k c = omega arith
+
+pub loop-k-smaller : goal.loop-k-smaller
+loop-k-smaller c = omega arith
+
+pub loop-k-preserved : goal.loop-k-preserved
+loop-k-preserved c =
+    let l = c.loop-k in
+    let a = c.args in
+    let b = a.bytes.now in
+    let last = sum_last a.at l.k (differs b) in (
+      omega arith,
+      ⊎_elim (λ w. omega arith) (λ w. omega arith) c.if-bytes-at.branch,
+      ⊎_elim (λ w. omega (arith, last, unlike b (a.at + l.k) w.0.false))
+          (λ w. omega (arith, last, alike b (a.at + l.k) w.0.left)) c.if-bytes-at.branch,
+    )
+
+pub returns : goal.returns
+returns c =
+    let l = c.loop-k in
+    let a = c.args in
+    let all : l.k ≡ 192 = omega arith in
+    l.invariant.2 ∙ ap (λ (n : ℕ). sum_from a.at n (differs a.bytes.now)) all

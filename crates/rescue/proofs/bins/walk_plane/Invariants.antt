@@ -1,0 +1,20 @@
+-- `rescue::bins::walk_plane` meets its contract: after gr rows the walk stands where the next row begins.
+-- Assumes nothing.
+use mathlib.Core.Path.{◌≡◌, refl, sym, ap, ◌∙◌}
+use Prim.Native.Nat.{ℕ, ◌-◌, ◌≤◌}
+use native.Mathlib.Omega.{arith}
+use Rattle.grid.specs.Grid.{place_of}
+use Rattle.grid.proofs.Places.{two}
+use Rattle.grid.proofs.Size.{size_high}
+use Rattle.table.specs.Sound.{limit}
+use Rattle.rescue.specs.Inner.{Onward}
+use Rattle.rescue.proofs.Walks.{onward_none, onward_join, onward_at, row_end}
+use Rattle.rescue.proofs.bins.walk_plane.Given as goal
+
+abbrev pub invariant-loop-gr : goal.invariant-loop-gr
+invariant-loop-gr l =
+    (l.gr ≤ l.g.size2)
+    × Onward limit l.g (place_of l.g l.r 0 0) (place_of l.g l.r l.gr 0) l.initial.table l.initial.reasons l.had l.table l.reasons l.total
+
+abbrev pub decreases-loop-gr : goal.decreases-loop-gr
+decreases-loop-gr l = l.g.size2 - l.gr

@@ -1,0 +1,21 @@
+-- `seluvava::arrays::put_boxes` meets its contract: after each box, both arrays have the boxes so far in front.
+-- Assumes nothing.
+use mathlib.Core.Path.{◌≡◌, refl, sym, ap, ◌∙◌}
+use mathlib.Core.List.{List}
+use Prim.Native.Nat.{◌-◌, ◌≤◌, ◌<◌}
+use native.Mathlib.Omega.{arith}
+use lib.ListN.{length, take}
+use Rattle.rounds.specs.declared.gather.BoxSpread.{BoxSpread}
+use Rattle.cutter.specs.Fronts.{filled}
+use Rattle.cutter.proofs.Fronts.{filled_none}
+use Rattle.seluvava.specs.Cut.{its_bytes, spread_of, told}
+use Rattle.seluvava.proofs.Boxes.{six, one, told_all, boxes_next, spreads_next, boxes_long, spreads_long}
+use Rattle.seluvava.proofs.arrays.put_boxes.Given as goal
+
+abbrev pub invariant-loop-i : goal.invariant-loop-i
+invariant-loop-i l =
+    (l.i ≤ l.n) × (l.boxes ≡ filled 6 its_bytes (take l.i (told l.r)) l.initial.boxes)
+    × (l.spreads ≡ filled 1 spread_of (take l.i (told l.r)) l.initial.spreads)
+
+abbrev pub decreases-loop-i : goal.decreases-loop-i
+decreases-loop-i l = l.n - l.i

@@ -1,0 +1,177 @@
+-- `spread::wide_search::best_wide` meets its contract: after each bin the best is that of the positions so far.
+-- Assumes nothing.
+use mathlib.Core.Path.{◌≡◌, sym, ap, ◌∙◌}
+use mathlib.Core.Logic.{⊎_elim}
+use Prim.Native.Nat.{ℕ, ◌+◌, ◌-◌, ◌≤◌, ◌<◌}
+use native.Mathlib.Omega.{arith}
+use borrow.Author.Rules.{rules}
+use Rattle.table.specs.declared.layout.Layout.TheVariants.{Wide}
+use Rattle.table.specs.Layout.{laid_view}
+use Rattle.sums.specs.Box.{stats_of}
+use Rattle.boxes.specs.Box.{min_at, slab_to}
+use Rattle.spread.specs.declared.position.Position.{Position}
+use Rattle.spread.specs.Cut.{position_at, better, best_run}
+use Rattle.spread.specs.Inner.{CutsAt}
+use Rattle.spread.proofs.Choose.{later_is_better, earlier_is_better, end_high, run_none, run_next, run_whole}
+use Rattle.spread.proofs.wide_search.best_wide.Goals.{Else-bin-first, Start}
+use Rattle.spread.proofs.wide_search.best_wide.Goals as goal
+
+pub end_bin-end-requires : goal.end_bin-end-requires
+end_bin-end-requires c = search rules
+
+pub first_bin-first-requires : goal.first_bin-first-requires
+first_bin-first-requires c = search rules
+
+pub stats_of-base-requires : goal.stats_of-base-requires
+stats_of-base-requires c = search rules
+
+pub loop-bin-init : goal.loop-bin-init
+loop-bin-init c =
+    let s = c in
+    let first = c.first_bin-first.ensures in (
+      omega (arith, first),
+      omega (
+        arith,
+        first,
+        c.end_bin-end.ensures,
+        s.requires.can_sum.1.some
+            s.args.dimension,
+      ),
+      run_none s.args.g (laid_view Wide s.args.small.now s.args.large.now) s.args.x s.args.dimension
+          (min_at s.args.x s.args.dimension + 1) c.first_bin-first.result
+          (omega (arith, first)),
+      λ h. absurd (omega (arith, first)),
+    )
+
+pub wide_before-before-requires : goal.wide_before-before-requires
+wide_before-before-requires c =
+    let s = c in record { can_sum = (
+        s.requires.can_sum.0,
+        s.requires.can_sum.1,
+        omega (
+          arith,
+          c.loop-bin-test.true,
+          c.end_bin-end.ensures,
+        ),
+      ); walk_value = s.requires.walk_value }
+
+-- a bin past the first: the position there, and the best with it
+module _ (k : Else-bin-first) where
+  abbrev s : Start
+  s = k.before.before.before.before.before.before.before.before.before.before.before
+
+  abbrev bin : ℕ
+  bin = k.loop-bin.bin
+
+  abbrev from : ℕ
+  from = min_at s.args.x s.args.dimension
+
+  abbrev run : ℕ → Position
+  run n =
+      best_run s.args.g (laid_view Wide s.args.small.now s.args.large.now) s.args.x s.args.dimension (from + 1)
+      (n - (from + 1))
+
+  past_first : from < bin
+  past_first =
+      omega (
+        arith,
+        k.loop-bin.invariant.0,
+        k.first_bin-first.ensures,
+      )
+
+  cuts : CutsAt s.args.g (laid_view Wide s.args.small.now s.args.large.now) s.args.x s.args.dimension bin
+  cuts =
+      record {
+        is_sound = s.requires.can_sum.0.is_sound;
+        within = s.requires.can_sum.1;
+        low = past_first;
+        high =
+            omega (
+              arith,
+              k.end_bin-end.ensures,
+              k.loop-bin-test.true,
+            );
+      }
+
+  next : {p r : Position} → p
+      ≡ position_at s.args.g (laid_view Wide s.args.small.now s.args.large.now) s.args.x s.args.dimension bin
+      → r ≡ better k.loop-bin.best p → r ≡ run (bin + 1)
+  next =
+      run_next s.args.g (laid_view Wide s.args.small.now s.args.large.now) s.args.x s.args.dimension (from + 1) bin
+      (omega (arith, past_first)) k.loop-bin.invariant.2
+
+pub low_side_sums-low-requires : goal.low_side_sums-low-requires
+low_side_sums-low-requires c =
+    record {
+      cuts = cuts c;
+      of_bin = c.wide_before-before.ensures;
+      of_box =
+          c.loop-bin.invariant.3 (past_first c);
+    }
+
+pub position_at-later-requires : goal.position_at-later-requires
+position_at-later-requires c =
+    record { cuts = cuts c.before; of_all = (s c.before).requires.1.0; of_low = c.low_side_sums-low.ensures }
+
+pub later_wins-requires : goal.later_wins-requires
+later_wins-requires c = search rules
+
+pub overflow_add-bin : goal.overflow_add-bin
+overflow_add-bin c =
+    let s = c in
+    omega (
+      arith,
+      c.loop-bin-test.true,
+      c.end_bin-end.ensures,
+      end_high s.requires.can_sum.1 s.args.dimension,
+    )
+
+pub loop-bin-smaller : goal.loop-bin-smaller
+loop-bin-smaller c = omega arith
+
+pub loop-bin-preserved : goal.loop-bin-preserved
+loop-bin-preserved c =
+    let s = c in
+    let l = c.loop-bin in
+    let first = c.first_bin-first.ensures in
+    let from : ℕ = min_at s.args.x s.args.dimension in (
+      omega (arith, l.invariant.0),
+      omega (arith, c.loop-bin-test.true),
+      ⊎_elim
+          (λ w.
+          w.2
+          ∙ l.invariant.2
+          ∙ ap (best_run s.args.g (laid_view Wide s.args.small.now s.args.large.now) s.args.x s.args.dimension (from + 1))
+          (none from l.bin (w.0.false ∙ first)))
+          (⊎_elim
+          (λ w.
+          next (record { before = c.before; if1 = w.0 }) w.2.ensures
+          (w.6 ∙ later_is_better l.best w.2.result (sym w.3.ensures ∙ w.4.false)))
+          (λ w.
+          next (record { before = c.before; if1 = w.0 }) w.2.ensures
+          (w.6 ∙ earlier_is_better l.best w.2.result (sym w.3.ensures ∙ w.4.left))))
+          c.if-bin-first.branch,
+      λ h.
+          ⊎_elim
+          (λ w.
+          w.1
+          ∙ c.wide_before-before.ensures
+          ∙ ap (λ (n : ℕ). stats_of s.args.g (laid_view Wide s.args.small.now s.args.large.now)
+          (slab_to s.args.x s.args.dimension n))
+          (w.0.false ∙ first))
+          (⊎_elim
+          (λ w. w.5 ∙ l.invariant.3 (past_first (record { before = c.before; if1 = w.0 })))
+          (λ w. w.5 ∙ l.invariant.3 (past_first (record { before = c.before; if1 = w.0 }))))
+          c.if-bin-first.branch,
+    )
+  where
+    none : (from bin : ℕ) → bin ≡ from → bin - (from + 1) ≡ (bin + 1) - (from + 1)
+    none from bin e = omega arith
+
+pub returns : goal.returns
+returns c =
+    let s = c in
+    let l = c.loop-bin in
+    run_whole s.args.g (laid_view Wide s.args.small.now s.args.large.now) s.args.x s.args.dimension
+    (omega (arith, l.invariant.1, c.loop-bin-test.false, c.end_bin-end.ensures))
+    l.invariant.2

@@ -1,0 +1,87 @@
+-- `swatches::text::cut_text` meets its contract: a cut into 16 boxes finds no more, and for these there is room.
+-- Assumes nothing.
+use mathlib.Core.Path.{ap, ◌∙◌}
+use native.Mathlib.Omega.{arith}
+use Rattle.table.specs.declared.layout.Layout.TheVariants.{Wide}
+use Rattle.cutter.proofs.RecordSize.{few}
+use borrow.Author.Rules.{rules}
+use Rattle.sums.specs.declared.source.Source.TheVariants.{Moments}
+use Rattle.cutter.specs.Cut.{cut_record, cut_later}
+use Rattle.lines.proofs.Texts.{lent_zeros_lem}
+use Rattle.swatches.specs.Swatches.{numbers_of}
+use Rattle.swatches.proofs.Texts.{cut_refused, cut_listed}
+use Rattle.swatches.proofs.text.cut_text.Goals as goal
+
+pub slice_bounds-cut-end : goal.slice_bounds-cut-end
+slice_bounds-cut-end c = search rules
+
+pub slice_bounds-cut-end-2 : goal.slice_bounds-cut-end-2
+slice_bounds-cut-end-2 c = search rules
+
+pub slice_bounds-cut-end-3 : goal.slice_bounds-cut-end-3
+slice_bounds-cut-end-3 c = search rules
+
+pub slice_bounds-cut-end-4 : goal.slice_bounds-cut-end-4
+slice_bounds-cut-end-4 c = search rules
+
+pub slice_bounds-cut-end-5 : goal.slice_bounds-cut-end-5
+slice_bounds-cut-end-5 c = search rules
+
+pub cut-done-requires : goal.cut-done-requires
+cut-done-requires c = search rules
+
+pub refused-requires : goal.refused-requires
+refused-requires c = search rules
+
+pub shape_of-out-then-done-ne0 : goal.shape_of-out-then-done-ne0
+shape_of-out-then-done-ne0 c = search rules
+
+pub returns-then-done-ne0 : goal.returns-then-done-ne0
+returns-then-done-ne0 c =
+    let cut = c.cut-done in
+    rw (cut_refused _ (cut.ensures.0 ∙ ap (cut_record Moments 8 8 8 16 _) lent_zeros_lem)
+    c.if-done-ne0.true)
+    c.refused.ensures
+
+pub slice_bounds-nearest-end : goal.slice_bounds-nearest-end
+slice_bounds-nearest-end c = search rules
+
+pub slice_bounds-nearest-end-2 : goal.slice_bounds-nearest-end-2
+slice_bounds-nearest-end-2 c = search rules
+
+pub nearest-requires : goal.nearest-requires
+nearest-requires c = search rules
+
+pub slice_bounds-swatch_lines-end : goal.slice_bounds-swatch_lines-end
+slice_bounds-swatch_lines-end c = search rules
+
+pub slice_bounds-swatch_lines-end-2 : goal.slice_bounds-swatch_lines-end-2
+slice_bounds-swatch_lines-end-2 c = search rules
+
+pub slice_bounds-swatch_lines-end-3 : goal.slice_bounds-swatch_lines-end-3
+slice_bounds-swatch_lines-end-3 c = search rules
+
+pub swatch_lines-requires : goal.swatch_lines-requires
+swatch_lines-requires c =
+    let nearest = c in
+    let cut = nearest in
+    let room = cut.requires in
+    let h = few Wide Moments 16 (omega arith) (omega arith) _ 8 8 8 _ cut.cut-done.ensures.answer in
+    search rules
+
+pub shape_of-out : goal.shape_of-out
+shape_of-out c = search rules
+
+pub returns : goal.returns
+unfolding numbers_of
+returns c =
+    let listed = c in
+    let nearest = listed in
+    let cut = nearest.cut-done in
+    rw (
+      cut_listed _ (cut.ensures.0 ∙ ap (cut_record Moments 8 8 8 16 _) lent_zeros_lem)
+          (cut.ensures.1 ∙ ap (cut_later Moments 8 8 8 16 _) lent_zeros_lem)
+          nearest.if-done-ne0.false,
+      ← nearest.nearest.ensures.later,
+    )
+    listed.swatch_lines.ensures

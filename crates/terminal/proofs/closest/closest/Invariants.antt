@@ -1,0 +1,16 @@
+-- `terminal::closest::closest` meets its contract: after k turns the smallest key of the first k numbers is kept.
+-- Assumes nothing.
+use mathlib.Core.Path.{◌≡◌, ap, ◌∙◌}
+use mathlib.Core.Logic.{⊎_elim}
+use Prim.Native.Nat.{ℕ, ◌+◌, ◌*◌, ◌%◌, ◌-◌, ◌≤◌}
+use native.Mathlib.Omega.{arith}
+use Rattle.terminal.specs.Nearest.{distance_of, least_from, nearest_of}
+use Rattle.terminal.proofs.Lowest.{lowest_is, key_of, key_next, key_same}
+use Rattle.terminal.proofs.closest.closest.Given as goal
+
+abbrev pub invariant-loop-k : goal.invariant-loop-k
+invariant-loop-k l =
+    (1 ≤ l.k) × (l.k ≤ 240) × (l.least ≡ key_of 16 (distance_of l.x) (least_from 16 (l.k - 1) (distance_of l.x)))
+
+abbrev pub decreases-loop-k : goal.decreases-loop-k
+decreases-loop-k l = 240 - l.k
