@@ -12,12 +12,12 @@ use Rattle.table.proofs.Layouts.{holds_list_in}
 use Rattle.table.proofs.Soundness.{limit_high}
 use Rattle.adder.specs.Inner.{last_equal, with_part}
 use Rattle.adder.proofs.Parts.{light, has_room_lem, at_once, some_equal, last_same}
-use Rattle.adder.proofs.blocks.add_last.Goals.{Start, Then-last_equal}
+use Rattle.adder.proofs.blocks.add_last.Goals.{After-slice_known-then-last_equal-2-1, Start, Then-last_equal}
 use Rattle.adder.proofs.blocks.add_last.Goals as goal
 
 module _ (f : Then-last_equal) where
   abbrev start : Start
-  start = f.before.before.before.before.before.before
+  start = (goal.at-Then-last_equal f).Start
 
   bytes : (k : ℕ) → get_or start.args.colours.now k 0 < 256
   bytes k = omega (arith, f.shared_slice_known-1.given k)
@@ -41,13 +41,13 @@ colour-x-requires c = omega (arith, some c, (start c).requires.fits.there)
 
 pub block_weight-w-requires : goal.block_weight-w-requires
 block_weight-w-requires c =
-    let s = start c.before in
+    let s = start (goal.at-block_weight-w-requires c).Then-last_equal in
     let fits = s.requires.fits in
     (s.requires.few, fits.scaled.few, λ given. omega (arith, fits.there, fits.one_each given))
 
 pub add_colour-requires : goal.add_colour-requires
 add_colour-requires c =
-    let f = c in
+    let f = (goal.at-add_colour-requires c).Then-last_equal in
     let s = start f in record { steps = s.requires.steps; weight = omega (
           arith,
           light s.requires.fits (bytes f) (same f) c.colour-x.ensures
@@ -66,7 +66,7 @@ pub returns-then-last_equal : goal.returns-then-last_equal
 unfolding with_part
 returns-then-last_equal c =
     let b = c in
-    let f = b in
+    let f = (goal.at-After-slice_known-then-last_equal-2-1 b).Then-last_equal in
     holds_list_in (start f).args.layout
     (at_once (start f).requires.fits (bytes f) (same f) b.colour-x.ensures b.block_weight-w.ensures _
     c.add_colour.ensures)

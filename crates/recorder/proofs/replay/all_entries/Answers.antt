@@ -17,7 +17,7 @@ use Rattle.recorder.proofs.replay.all_entries.Goals as goal
 -- the colours of the next entry are there
 module _ (l : In-loop-i) where
   abbrev start : Start
-  start = l.before.before.before.before.before.before.before
+  start = (goal.at-In-loop-i l).Start
 
   abbrev entries : List ℕ
   entries = start.args.entries.now
@@ -66,19 +66,19 @@ bounds-entries-e c = omega arith
 
 pub overflow_cast-end : goal.overflow_cast-end
 unfolding count_at
-overflow_cast-end c = omega (arith, inside c.before)
+overflow_cast-end c = omega (arith, inside (goal.at-overflow_cast-end c).In-loop-i)
 
 pub overflow_add-end-in-loop-i : goal.overflow_add-end-in-loop-i
 unfolding count_at
-overflow_add-end-in-loop-i c = omega (arith, inside c.before, bytes c.before)
+overflow_add-end-in-loop-i c = omega (arith, inside (goal.at-overflow_add-end-in-loop-i c).In-loop-i, bytes (goal.at-overflow_add-end-in-loop-i c).In-loop-i)
 
 pub overflow_mul-from : goal.overflow_mul-from
 unfolding count_at
-overflow_mul-from c = omega (arith, inside c.before, bytes c.before)
+overflow_mul-from c = omega (arith, inside (goal.at-overflow_mul-from c).In-loop-i, bytes (goal.at-overflow_mul-from c).In-loop-i)
 
 pub overflow_mul-to : goal.overflow_mul-to
 unfolding count_at
-overflow_mul-to c = omega (arith, inside c.before, bytes c.before)
+overflow_mul-to c = omega (arith, inside (goal.at-overflow_mul-to c).In-loop-i, bytes (goal.at-overflow_mul-to c).In-loop-i)
 
 pub offset_bounds-entries-e-in-loop-i : goal.offset_bounds-entries-e-in-loop-i
 offset_bounds-entries-e-in-loop-i c = omega arith
@@ -100,7 +100,7 @@ slice_bounds-one_entry-count c = omega arith
 
 pub offset_bounds-weights-at : goal.offset_bounds-weights-at
 unfolding count_at
-offset_bounds-weights-at c = let l = c in omega (arith, inside l, narrow l)
+offset_bounds-weights-at c = let l = (goal.at-offset_bounds-weights-at c).In-loop-i in omega (arith, inside l, narrow l)
 
 pub slice_bounds-one_entry-count-in-loop-i : goal.slice_bounds-one_entry-count-in-loop-i
 slice_bounds-one_entry-count-in-loop-i c = omega arith
@@ -108,19 +108,19 @@ slice_bounds-one_entry-count-in-loop-i c = omega arith
 pub one_entry-a-requires : goal.one_entry-a-requires
 unfolding count_at
 one_entry-a-requires c =
-    let l = c in
+    let l = (goal.at-one_entry-a-requires c).In-loop-i in
     let a = (start l).args in
     let r = l.loop-i.invariant in record { known = r.known; steps = (start l).requires.steps; whole = entry_whole (entries l) a.colours.now a.weights.now l.loop-i.i r.place
             (omega (arith, inside l, bytes l)) (inside l) }
 
 pub bounds-answers-i : goal.bounds-answers-i
 bounds-answers-i c =
-    let l = c in
+    let l = (goal.at-bounds-answers-i c).In-loop-i in
     omega (arith, (fits l).room, l.loop-i.invariant.long)
 
 pub overflow_add-i : goal.overflow_add-i
 overflow_add-i c =
-    let l = c in
+    let l = (goal.at-overflow_add-i c).In-loop-i in
     omega (arith, short l)
 
 pub loop-i-smaller : goal.loop-i-smaller
@@ -131,7 +131,7 @@ loop-i-smaller c =
 pub loop-i-preserved : goal.loop-i-preserved
 unfolding count_at kind_at interval_at
 loop-i-preserved c =
-    let l = c in
+    let l = (goal.at-loop-i-preserved c).In-loop-i in
     let r = l.loop-i.invariant in
     let a = (start l).args in
     let o = c.one_entry-a in

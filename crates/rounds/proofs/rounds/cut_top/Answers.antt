@@ -53,7 +53,7 @@ fits s w e l a h =
 -- what was found, once the box was searched
 module _ (k : After-best_cut-best) where
   abbrev start : Start
-  start = k.before.before.before.before.before
+  start = (goal.at-After-best_cut-best k).Start
 
   position_is : k.best_cut-best.result.position ≡ best_cut start.args.g (view start) start.args.x
   position_is =
@@ -93,7 +93,7 @@ overflow_add-result c = search rules
 pub returns-in_default : goal.returns-in_default
 unfolding of_bits
 returns-in_default c =
-    let k = c in
+    let k = (goal.at-returns-in_default c).After-best_cut-best in
     let s = start k in
     let q = sym (position_is k) ∙ c.in_default.is in record { number = sym (boxes_none s.args.g (view s) (before s) s.args.left s.args.x q); room = c.put_box.ensures.room ∙ sym (room_none s.args.g (view s) (before s) s.args.left s.args.x q); arrays = c.put_box.ensures.arrays }
 
@@ -105,7 +105,7 @@ high_side-high-requires c = search rules
 
 pub put_with_spread-requires : goal.put_with_spread-requires
 put_with_spread-requires c =
-    let k = c in
+    let k = (goal.at-put_with_spread-requires c).After-best_cut-best in
     let q = c.in-At.is in
     let w = low_box (view (start k)) (start k).requires.can_sum.1 (best k q) in let both = fits (start k) w c.low_side-low.ensures (the_low k q)
     (start k).requires.two_arrays.0 (omega (arith, (start k).requires.two_arrays.1)) in record { two_arrays = both.0; ordered = both.1 }
@@ -115,7 +115,7 @@ overflow_add-left c = record { fits = omega (arith, c.requires.two_arrays.1) }
 
 pub put_with_spread-requires-2 : goal.put_with_spread-requires-2
 put_with_spread-requires-2 c =
-    let k = c in
+    let k = (goal.at-put_with_spread-requires-2 c).After-best_cut-best in
     let q = c.in-At.is in
     let w = high_box (view (start k)) (start k).requires.can_sum.1 (best k q) in let both = fits (start k) w c.high_side-high.ensures (the_high k q)
     c.put_with_spread.ensures.arrays (start k).requires.two_arrays.1 in record { two_arrays = both.0; ordered = both.1 }
@@ -125,7 +125,7 @@ overflow_add-result-2 c = omega (arith, c.requires.two_arrays.1)
 
 pub returns : goal.returns
 returns c =
-    let k = c in
+    let k = (goal.at-returns c).After-best_cut-best in
     let s = start k in
     let q = c.in-At.is in record { number = sym (boxes_cut s.args.g (view s) (before s) s.args.left s.args.x (best k q)); room = c.put_with_spread-2.ensures.room
             ∙ (λ t. put_in by_spread no_item

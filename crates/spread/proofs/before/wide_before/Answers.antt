@@ -113,7 +113,7 @@ returns-then-bin-eq0 c =
 -- ---- some bins: the corner. Each state that follows names the one that the function started from
 module _ (k : Else-bin-eq0) where
   abbrev from_bin : Start
-  from_bin = k.before.before.before.before
+  from_bin = (goal.at-Else-bin-eq0 k).Start
 
   some_bin : 0 < from_bin.args.bin
   some_bin = omega arith
@@ -125,20 +125,20 @@ pub overflow_cast-far : goal.overflow_cast-far
 overflow_cast-far c = search rules
 
 pub overflow_mul-far : goal.overflow_mul-far
-overflow_mul-far c = omega (arith, (corner (from_bin c.before) (some_bin c.before)).low)
+overflow_mul-far c = omega (arith, (corner (from_bin (goal.at-overflow_mul-far c).Else-bin-eq0) (some_bin (goal.at-overflow_mul-far c).Else-bin-eq0)).low)
 
 pub overflow_add-walk : goal.overflow_add-walk
-overflow_add-walk c = omega (arith, (corner (from_bin c.before.before) (some_bin c.before.before)).low)
+overflow_add-walk c = omega (arith, (corner (from_bin (goal.at-overflow_add-walk c).Else-bin-eq0) (some_bin (goal.at-overflow_add-walk c).Else-bin-eq0)).low)
 
 pub wide_record-corner-requires : goal.wide_record-corner-requires
-wide_record-corner-requires c = (corner (from_bin c.before.before) (some_bin c.before.before)).has
+wide_record-corner-requires c = (corner (from_bin (goal.at-wide_record-corner-requires c).Else-bin-eq0) (some_bin (goal.at-wide_record-corner-requires c).Else-bin-eq0)).has
 
 module _ (k : After-wide_record-corner) where
   abbrev from_corner : Start
-  from_corner = from_bin k.before.before.before
+  from_corner = from_bin (goal.at-After-wide_record-corner k).Else-bin-eq0
 
   bin_corner : 0 < from_corner.args.bin
-  bin_corner = some_bin k.before.before.before
+  bin_corner = some_bin (goal.at-After-wide_record-corner k).Else-bin-eq0
 
   abbrev none : Stats
   none = k.stats_of-none.result
@@ -168,7 +168,7 @@ module _ (k : After-wide_record-corner) where
 -- ---- a box that starts at 0 in the inner dimension
 module _ (k : Then-walk-eq0) where
   abbrev corner_edge : After-wide_record-corner
-  corner_edge = k.before.before
+  corner_edge = (goal.at-Then-walk-eq0 k).After-wide_record-corner
 
   abbrev from_edge : Start
   from_edge = from_corner corner_edge
@@ -178,7 +178,7 @@ module _ (k : Then-walk-eq0) where
 
 module _ (k : Then-walk-eq0-2) where
   abbrev edge_both : Then-walk-eq0
-  edge_both = k.before.before
+  edge_both = (goal.at-Then-walk-eq0-2 k).Then-walk-eq0
 
   above_edge_both : (i : ℕ)
       → Exact (none (corner_edge edge_both)) (ends (from_edge edge_both) (outer (from_edge edge_both)) i)
@@ -192,63 +192,63 @@ combined-requires c =
 
 pub returns-then-walk-eq0-2 : goal.returns-then-walk-eq0-2
 returns-then-walk-eq0-2 c =
-    let k = edge_both c.before in
+    let k = edge_both (goal.at-returns-then-walk-eq0-2 c).Then-walk-eq0-2 in
     let s = from_edge k in
-    slab (corner_edge k) (left_edge k (outer_end s)) (above_edge_both c.before (inner_end s))
-    (above_edge_both c.before (inner s)) c.combined.ensures
+    slab (corner_edge k) (left_edge k (outer_end s)) (above_edge_both (goal.at-returns-then-walk-eq0-2 c).Then-walk-eq0-2 (inner_end s))
+    (above_edge_both (goal.at-returns-then-walk-eq0-2 c).Then-walk-eq0-2 (inner s)) c.combined.ensures
 
 module _ (k : Else-walk-eq0-2) where
   abbrev from_outer : Start
-  from_outer = from_edge k.before.before
+  from_outer = from_edge (goal.at-Else-walk-eq0-2 k).Then-walk-eq0
 
   above_edge : At from_outer from_outer.args.walk.above (ends from_outer (outer from_outer) (inner_end from_outer))
   above_edge =
-      above from_outer (bin_corner k.before.before.before.before) (omega (arith, outer_is from_outer))
+      above from_outer (bin_corner (goal.at-Else-walk-eq0-2 k).After-wide_record-corner) (omega (arith, outer_is from_outer))
 
 pub overflow_add-walk-then-walk-eq0 : goal.overflow_add-walk-then-walk-eq0
-overflow_add-walk-then-walk-eq0 c = omega (arith, (above_edge c.before).low)
+overflow_add-walk-then-walk-eq0 c = omega (arith, (above_edge (goal.at-overflow_add-walk-then-walk-eq0 c).Else-walk-eq0-2).low)
 
 pub wide_record-requires : goal.wide_record-requires
-wide_record-requires c = (above_edge c.before).has
+wide_record-requires c = (above_edge (goal.at-wide_record-requires c).Else-walk-eq0-2).has
 
 pub combined-requires-then-walk-eq0 : goal.combined-requires-then-walk-eq0
 combined-requires-then-walk-eq0 c =
-    let k = c in
+    let k = (goal.at-combined-requires-then-walk-eq0 c).Then-walk-eq0 in
     let s = from_edge k in
-    combine (corner_edge k) (left_edge k (outer_end s)) ((above_edge c.before.before).exact c.wide_record.ensures)
+    combine (corner_edge k) (left_edge k (outer_end s)) ((above_edge (goal.at-combined-requires-then-walk-eq0 c).Else-walk-eq0-2).exact c.wide_record.ensures)
     (left_edge k (outer s))
 
 pub returns-then-walk-eq0 : goal.returns-then-walk-eq0
 returns-then-walk-eq0 c =
-    let k = c in
+    let k = (goal.at-returns-then-walk-eq0 c).Then-walk-eq0 in
     let s = from_edge k in
     slab (corner_edge k) (left_edge k (outer_end s))
-    ((above_edge c.before.before.before).exact c.wide_record.ensures) (left_edge k (outer s))
+    ((above_edge (goal.at-returns-then-walk-eq0 c).Else-walk-eq0-2).exact c.wide_record.ensures) (left_edge k (outer s))
     c.combined-then-walk-eq0.ensures
 
 -- ---- any other box
 module _ (k : Else-walk-eq0) where
   abbrev from_inner : Start
-  from_inner = from_corner k.before.before
+  from_inner = from_corner (goal.at-Else-walk-eq0 k).After-wide_record-corner
 
   some_inner : 0 < inner from_inner
   some_inner = omega (arith, inner_is from_inner)
 
   left_here : At from_inner from_inner.args.walk.left (ends from_inner (outer_end from_inner) (inner from_inner))
-  left_here = left from_inner (bin_corner k.before.before) some_inner
+  left_here = left from_inner (bin_corner (goal.at-Else-walk-eq0 k).After-wide_record-corner) some_inner
 
 pub overflow_add-walk-2 : goal.overflow_add-walk-2
-overflow_add-walk-2 c = omega (arith, (left_here c.before).low)
+overflow_add-walk-2 c = omega (arith, (left_here (goal.at-overflow_add-walk-2 c).Else-walk-eq0).low)
 
 pub wide_record-left-requires : goal.wide_record-left-requires
-wide_record-left-requires c = (left_here c.before).has
+wide_record-left-requires c = (left_here (goal.at-wide_record-left-requires c).Else-walk-eq0).has
 
 module _ (k : After-wide_record-left) where
   abbrev else2 : Else-walk-eq0
-  else2 = k.before.before
+  else2 = (goal.at-After-wide_record-left k).Else-walk-eq0
 
   abbrev corner_left : After-wide_record-corner
-  corner_left = else2.before.before
+  corner_left = (goal.at-Else-walk-eq0 else2).After-wide_record-corner
 
   abbrev from_left : Start
   from_left = from_corner corner_left
@@ -258,7 +258,7 @@ module _ (k : After-wide_record-left) where
 
 module _ (k : Then-walk-eq0-3) where
   abbrev left_only : After-wide_record-left
-  left_only = k.before.before
+  left_only = (goal.at-Then-walk-eq0-3 k).After-wide_record-left
 
   above_left : (i : ℕ)
       → Exact (none (corner_left left_only)) (ends (from_left left_only) (outer (from_left left_only)) i)
@@ -272,14 +272,14 @@ combined-requires-then-walk-eq0-3 c =
 
 pub returns-then-walk-eq0-3 : goal.returns-then-walk-eq0-3
 returns-then-walk-eq0-3 c =
-    let k = left_only c.before in
+    let k = left_only (goal.at-returns-then-walk-eq0-3 c).Then-walk-eq0-3 in
     let s = from_left k in
-    slab (corner_left k) (the_left k) (above_left c.before (inner_end s)) (above_left c.before (inner s))
+    slab (corner_left k) (the_left k) (above_left (goal.at-returns-then-walk-eq0-3 c).Then-walk-eq0-3 (inner_end s)) (above_left (goal.at-returns-then-walk-eq0-3 c).Then-walk-eq0-3 (inner s))
     c.combined-then-walk-eq0-3.ensures
 
 module _ (k : Else-walk-eq0-3) where
   abbrev after_left : After-wide_record-left
-  after_left = k.before.before
+  after_left = (goal.at-Else-walk-eq0-3 k).After-wide_record-left
 
   abbrev from_both : Start
   from_both = from_left after_left
@@ -297,27 +297,27 @@ module _ (k : Else-walk-eq0-3) where
   diagonal_here = diagonal from_both bin_both some_outer (some_inner (else2 after_left))
 
 pub overflow_add-walk-3 : goal.overflow_add-walk-3
-overflow_add-walk-3 c = omega (arith, (above_here c.before).low)
+overflow_add-walk-3 c = omega (arith, (above_here (goal.at-overflow_add-walk-3 c).Else-walk-eq0-3).low)
 
 pub wide_record-above-requires : goal.wide_record-above-requires
-wide_record-above-requires c = (above_here c.before).has
+wide_record-above-requires c = (above_here (goal.at-wide_record-above-requires c).Else-walk-eq0-3).has
 
 pub overflow_add-walk-4 : goal.overflow_add-walk-4
-overflow_add-walk-4 c = omega (arith, (diagonal_here c.before.before.before).low)
+overflow_add-walk-4 c = omega (arith, (diagonal_here (goal.at-overflow_add-walk-4 c).Else-walk-eq0-3).low)
 
 pub wide_record-diagonal-requires : goal.wide_record-diagonal-requires
-wide_record-diagonal-requires c = (diagonal_here c.before.before.before).has
+wide_record-diagonal-requires c = (diagonal_here (goal.at-wide_record-diagonal-requires c).Else-walk-eq0-3).has
 
 pub combined-requires-2 : goal.combined-requires-2
 combined-requires-2 c =
-    let e = c in
+    let e = (goal.at-combined-requires-2 c).Else-walk-eq0-3 in
     let k = after_left e in
     combine (corner_left k) (the_left k) ((above_here e).exact c.wide_record-above.ensures)
     ((diagonal_here e).exact c.wide_record-diagonal.ensures)
 
 pub returns : goal.returns
 returns c =
-    let e = c in
+    let e = (goal.at-returns c).Else-walk-eq0-3 in
     let k = after_left e in
     slab (corner_left k) (the_left k) ((above_here e).exact c.wide_record-above.ensures)
     ((diagonal_here e).exact c.wide_record-diagonal.ensures) c.combined-2.ensures

@@ -24,7 +24,7 @@ no_cut-requires c = search rules
 
 pub returns-in_default : goal.returns-in_default
 returns-in_default c =
-    let s = c in
+    let s = (goal.at-returns-in_default c).Start in
     c.no_cut.ensures ∙ cut_none s.args.g (view s) s.args.x c.in_default.is
 
 pub low_side-requires : goal.low_side-requires
@@ -32,7 +32,7 @@ low_side-requires c = search rules
 
 pub sum_of_bins-requires : goal.sum_of_bins-requires
 sum_of_bins-requires c =
-    let s = c in
+    let s = (goal.at-sum_of_bins-requires c).Start in
     side_adds s.requires.can_add.table s.requires.can_add.is_sound c.low_side.ensures
     (low_box (view s) s.requires.can_add.within (sym s.requires.position_value ∙ c.in-At.is))
 
@@ -41,13 +41,13 @@ high_side-requires c = search rules
 
 pub sum_of_bins-requires-2 : goal.sum_of_bins-requires-2
 sum_of_bins-requires-2 c =
-    let s = c in
+    let s = (goal.at-sum_of_bins-requires-2 c).Start in
     side_adds s.requires.can_add.table s.requires.can_add.is_sound c.high_side.ensures
     (high_box (view s) s.requires.can_add.within (sym s.requires.position_value ∙ c.in-At.is))
 
 pub returns : goal.returns
 returns c =
-    let s = c in
+    let s = (goal.at-returns c).Start in
     cut_is s.args.g (view s) s.args.x c.in-At.is
     (c.sum_of_bins.ensures
     ∙ ap (stats_of s.args.g (view s)) c.low_side.ensures)

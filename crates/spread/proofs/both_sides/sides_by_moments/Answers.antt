@@ -47,7 +47,7 @@ no_cut-requires c = search rules
 
 pub returns-in_default : goal.returns-in_default
 returns-in_default c =
-    let s = c in
+    let s = (goal.at-returns-in_default c).Start in
     c.no_cut.ensures ∙ cut_none s.args.g (view s) s.args.x c.in_default.is
 
 pub low_side-requires : goal.low_side-requires
@@ -56,7 +56,7 @@ low_side-requires c = search rules
 -- ---- a position
 module _ (k : After-low_side) where
   abbrev start : Start
-  start = k.before.before.before.before.before.before.before.before
+  start = (goal.at-After-low_side k).Start
 
   side : Within start.args.g k.low_side.result
   side =
@@ -68,14 +68,14 @@ box_sum-low-requires c = ((start c).requires.can_sum.0, side c)
 
 pub less-requires : goal.less-requires
 less-requires c =
-    let s = start c.before in
+    let s = start (goal.at-less-requires c).After-low_side in
     (rest s c.in-At.is
     (c.box_sum-low.ensures ∙ ap (stats_of s.args.g (view s)) c.low_side.ensures)).covers
 
 pub returns : goal.returns
 unfolding stats_of
 returns c =
-    let s = start c.before.before in
+    let s = start (goal.at-returns c).After-low_side in
     let q = c.in-At.is in
     let low = c.box_sum-low.ensures ∙ ap (stats_of s.args.g (view s)) c.low_side.ensures in
     cut_is s.args.g (view s) s.args.x q low ((rest s q low).exact c.less.ensures).is

@@ -26,11 +26,11 @@ pub first_bin-bin-requires : goal.first_bin-bin-requires
 first_bin-bin-requires c = search rules
 
 pub overflow_add-bin : goal.overflow_add-bin
-overflow_add-bin c = let s = c in omega (arith, c.first_bin-bin.ensures, some s, few s)
+overflow_add-bin c = let s = (goal.at-overflow_add-bin c).Start in omega (arith, c.first_bin-bin.ensures, some s, few s)
 
 pub loop-bin-init : goal.loop-bin-init
 loop-bin-init c =
-    let s = c in (
+    let s = (goal.at-loop-bin-init c).Start in (
       omega (arith, c.first_bin-bin.ensures),
       omega (arith, c.first_bin-bin.ensures, c.end_bin-end.ensures, some s),
       run_none s.args.g (laid_view s.args.layout s.args.small.now s.args.large.now) s.args.x s.args.dimension
@@ -59,7 +59,7 @@ overflow_add-bin-in-loop-bin c =
       arith,
       c.loop-bin-test.true,
       c.end_bin-end.ensures,
-      few c.before.before.before.before.before.before.before.before,
+      few (goal.at-overflow_add-bin-in-loop-bin c).Start,
     )
 
 pub loop-bin-smaller : goal.loop-bin-smaller

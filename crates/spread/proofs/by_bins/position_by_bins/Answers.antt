@@ -32,36 +32,36 @@ pub low_side-requires : goal.low_side-requires
 low_side-requires c = search rules
 
 pub sum_of_bins-low-requires : goal.sum_of_bins-low-requires
-sum_of_bins-low-requires c = let s = c in side_adds s.requires.0 s.requires.1.is_sound c.low_side.ensures (low_in s)
+sum_of_bins-low-requires c = let s = (goal.at-sum_of_bins-low-requires c).Start in side_adds s.requires.0 s.requires.1.is_sound c.low_side.ensures (low_in s)
 
 pub high_side-requires : goal.high_side-requires
 high_side-requires c = search rules
 
 pub sum_of_bins-high-requires : goal.sum_of_bins-high-requires
-sum_of_bins-high-requires c = let s = c in side_adds s.requires.0 s.requires.1.is_sound c.high_side.ensures (high_in s)
+sum_of_bins-high-requires c = let s = (goal.at-sum_of_bins-high-requires c).Start in side_adds s.requires.0 s.requires.1.is_sound c.high_side.ensures (high_in s)
 
 -- what was added up are the statistics of the two sides
-the_low : (k : After-sum_of_bins-low) → let s = k in
+the_low : (k : After-sum_of_bins-low) → let s = (goal.at-After-sum_of_bins-low k).Start in
     k.sum_of_bins-low.result ≡ stats_of s.args.g (view s) (low_side s.args.x s.args.dimension s.args.bin)
 the_low k =
-    let s = k in
+    let s = (goal.at-After-sum_of_bins-low k).Start in
     k.sum_of_bins-low.ensures ∙ ap (stats_of s.args.g (view s)) k.low_side.ensures
 
-the_high : (k : After-sum_of_bins-high) → let s = k in
+the_high : (k : After-sum_of_bins-high) → let s = (goal.at-After-sum_of_bins-high k).Start in
     k.sum_of_bins-high.result ≡ stats_of s.args.g (view s) (high_side s.args.x s.args.dimension s.args.bin)
 the_high k =
-    let s = k in
+    let s = (goal.at-After-sum_of_bins-high k).Start in
     k.sum_of_bins-high.ensures ∙ ap (stats_of s.args.g (view s)) k.high_side.ensures
 
 pub position_between-requires : goal.position_between-requires
 position_between-requires c =
-    let s = c in (
+    let s = (goal.at-position_between-requires c).Start in (
       plain_stats (is_sound s) (low_in s) (the_low (goal.at-position_between-requires c).After-sum_of_bins-low),
       plain_stats (is_sound s) (high_in s) (the_high c),
     )
 
 pub returns : goal.returns
 returns c =
-    let s = c in
+    let s = (goal.at-returns c).Start in
     position_is s.args.g (view s) s.args.x s.args.dimension s.args.bin
     (the_low (goal.at-returns c).After-sum_of_bins-low) (the_high (goal.at-returns c).After-sum_of_bins-high) c.position_between.ensures

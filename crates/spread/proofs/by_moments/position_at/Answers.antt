@@ -33,16 +33,16 @@ module _ (s : Start) where
       s.requires.of_all s.requires.of_low
 
 pub less-high-requires : goal.less-high-requires
-less-high-requires c = (less_high c.before.before).covers
+less-high-requires c = (less_high (goal.at-less-high-requires c).Start).covers
 
-the_high : (k : After-less-high) → let s = k in
+the_high : (k : After-less-high) → let s = (goal.at-After-less-high k).Start in
     k.less-high.result ≡ stats_of s.args.g (view s) (high_side s.args.x s.args.dimension s.args.bin)
 unfolding stats_of
-the_high k = ((less_high k.before.before.before).exact k.less-high.ensures).is
+the_high k = ((less_high (goal.at-After-less-high k).Start).exact k.less-high.ensures).is
 
 pub position_between-requires : goal.position_between-requires
 position_between-requires c =
-    let s = c in
+    let s = (goal.at-position_between-requires c).Start in
     let h = s.requires.cuts in (
       plain_stats (is_sound s) (low_within h.within s.args.dimension s.args.bin h.low h.high)
           s.requires.of_low,
@@ -51,7 +51,7 @@ position_between-requires c =
 
 pub returns : goal.returns
 returns c =
-    let s = c in
+    let s = (goal.at-returns c).Start in
     position_is s.args.g (view s) s.args.x s.args.dimension s.args.bin s.requires.of_low
     (the_high (goal.at-returns c).After-less-high)
     c.position_between.ensures

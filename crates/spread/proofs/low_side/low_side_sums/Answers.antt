@@ -16,15 +16,15 @@ module _ (s : Start) where
       box_sum s.args.g (laid_view s.args.layout s.args.small.now s.args.large.now)
       (low_side s.args.x s.args.dimension s.args.bin)
 
-  less_low : Less s.args s.args.base low_sums
+  less_low : Less s.args.before s.args.base low_sums
   less_low =
       let h = s.requires.cuts in
       low (record { holds = h.is_sound }) h.within s.args.dimension s.args.bin (le_of_lt h.low)
       (le_of_lt h.high) s.requires.of_bin s.requires.of_box
 
 pub less-requires : goal.less-requires
-less-requires c = (less_low c.before.before).covers
+less-requires c = (less_low (goal.at-less-requires c).Start).covers
 
 pub returns : goal.returns
 unfolding stats_of
-returns c = ((less_low c.before.before.before).exact c.less.ensures).is
+returns c = ((less_low (goal.at-returns c).Start).exact c.less.ensures).is

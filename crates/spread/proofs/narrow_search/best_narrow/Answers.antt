@@ -58,7 +58,7 @@ narrow_before-before-requires c =
 -- a bin past the first: the position there, and the best with it
 module _ (k : Else-bin-first) where
   abbrev s : Start
-  s = k.before.before.before.before.before.before.before.before.before.before.before
+  s = (goal.at-Else-bin-first k).Start
 
   abbrev bin : ℕ
   bin = k.loop-bin.bin
@@ -111,7 +111,7 @@ low_side_sums-low-requires c =
 
 pub position_at-later-requires : goal.position_at-later-requires
 position_at-later-requires c =
-    record { cuts = cuts c.before; of_all = (s c.before).requires.1.0; of_low = c.low_side_sums-low.ensures }
+    record { cuts = cuts (goal.at-position_at-later-requires c).Else-bin-first; of_all = (s (goal.at-position_at-later-requires c).Else-bin-first).requires.1.0; of_low = c.low_side_sums-low.ensures }
 
 pub later_wins-requires : goal.later_wins-requires
 later_wins-requires c = search rules

@@ -31,7 +31,7 @@ walk_of-w2-requires c = search rules
 -- what a search over moments is given, once the box was summed and its walks are known
 module _ (k : After-walk_of-w2) where
   abbrev s : Start
-  s = k.before.before.before.before.before.before.before.before.before.before
+  s = (goal.at-After-walk_of-w2 k).Start
 
   from_moments : CanSum s.args.layout limit Moments s.args.g (laid s.args.layout s.args.small.now s.args.large.now) (laid s.args.layout s.args.smallwork.now s.args.largework.now)
   from_moments =
@@ -46,17 +46,17 @@ best_by_moments-requires c = record { can_sum = (from_moments c, (s c).requires.
 
 pub best_by_moments-requires-in-Moments : goal.best_by_moments-requires-in-Moments
 best_by_moments-requires-in-Moments c =
-    let k = c in record { can_sum = (from_moments k, (s k).requires.1); all_value = of_box k; walk_value = k.walk_of-w1.ensures }
+    let k = (goal.at-best_by_moments-requires-in-Moments c).After-walk_of-w2 in record { can_sum = (from_moments k, (s k).requires.1); all_value = of_box k; walk_value = k.walk_of-w1.ensures }
 
 pub best_by_moments-requires-in-Moments-2 : goal.best_by_moments-requires-in-Moments-2
 best_by_moments-requires-in-Moments-2 c =
-    let k = c in record { can_sum = (from_moments k, (s k).requires.1); all_value = of_box k; walk_value = k.walk_of-w2.ensures }
+    let k = (goal.at-best_by_moments-requires-in-Moments-2 c).After-walk_of-w2 in record { can_sum = (from_moments k, (s k).requires.1); all_value = of_box k; walk_value = k.walk_of-w2.ensures }
 
 pub best_of-best-requires : goal.best_of-best-requires
 best_of-best-requires c = search rules
 
 -- the best of the three is that of the box
-found : (k : After-best_of-best) → let w = k in
+found : (k : After-best_of-best) → let w = (goal.at-After-best_of-best k).After-walk_of-w2 in
     k.best_of-best.result ≡ best_cut (s w).args.g (laid_view (s w).args.layout (s w).args.small.now (s w).args.large.now) (s w).args.x
 unfolding best_cut
 found k =
@@ -66,7 +66,7 @@ found k =
 
 pub sides_by_moments-requires : goal.sides_by_moments-requires
 sides_by_moments-requires c =
-    let k = c in record { can_sum = (from_moments k, (s k).requires.1); position_value = (found c, of_box k) }
+    let k = (goal.at-sides_by_moments-requires c).After-walk_of-w2 in record { can_sum = (from_moments k, (s k).requires.1); position_value = (found c, of_box k) }
 
 pub enum_told-in-Bins : goal.enum_told-in-Bins
 enum_told-in-Bins c = search rules
@@ -97,7 +97,7 @@ sides_by_bins-requires c =
 
 pub returns-in-Moments : goal.returns-in-Moments
 returns-in-Moments c =
-    let a = (s c.before.before.before.before.before).args in
+    let a = (s (goal.at-returns-in-Moments c).After-walk_of-w2).args in
     c.sides_by_moments.ensures
     ∙ ap (cut_at a.g (laid_view a.layout a.small.now a.large.now) a.x) (found (goal.at-returns-in-Moments c).After-best_of-best)
 

@@ -13,7 +13,7 @@ use Rattle.spread.proofs.walk.walk_of.Goals as goal
 
 module _ (k : After-end_bin-inner_end) where
   abbrev s : Start
-  s = k.before.before.before.before.before.before.before.before
+  s = (goal.at-After-end_bin-inner_end k).Start
 
   outer_first : k.first_bin-outer.result
       ≡ min_at s.args.x (outer_of s.args.dimension)
@@ -92,28 +92,28 @@ stride_of-requires c = c.requires.accepted
 
 pub start_of-requires : goal.start_of-requires
 start_of-requires c =
-    let k = c in
+    let k = (goal.at-start_of-requires c).After-end_bin-inner_end in
     ((s k).requires.accepted, outer_end_fits k, inner_end_fits k)
 
 pub start_of-requires-2 : goal.start_of-requires-2
 start_of-requires-2 c =
-    let k = c in
+    let k = (goal.at-start_of-requires-2 c).After-end_bin-inner_end in
     ((s k).requires.accepted, outer_first_fits k, inner_end_fits k)
 
 pub start_of-requires-3 : goal.start_of-requires-3
 start_of-requires-3 c =
-    let k = c in
+    let k = (goal.at-start_of-requires-3 c).After-end_bin-inner_end in
     ((s k).requires.accepted, outer_end_fits k, inner_first_fits k)
 
 pub start_of-requires-4 : goal.start_of-requires-4
 start_of-requires-4 c =
-    let k = c in
+    let k = (goal.at-start_of-requires-4 c).After-end_bin-inner_end in
     ((s k).requires.accepted, outer_first_fits k, inner_first_fits k)
 
 pub returns : goal.returns
 unfolding walk_of
 returns c =
-    let k = c in
+    let k = (goal.at-returns c).After-end_bin-inner_end in
     let g = (s k).args.g in
     let d = (s k).args.dimension in
     λ t.

@@ -46,36 +46,36 @@ pub overflow_mul-plane : goal.overflow_mul-plane
 overflow_mul-plane c = omega (arith, plane_high c.requires.ready.inside.accepted)
 
 pub overflow_sub-p : goal.overflow_sub-p
-overflow_sub-p c = omega (arith, above_place c.before.before.before.before.before.before)
+overflow_sub-p c = omega (arith, above_place (goal.at-overflow_sub-p c).Start)
 
 pub cell_in-above-requires : goal.cell_in-above-requires
 cell_in-above-requires c =
-    let s = c in
+    let s = (goal.at-cell_in-above-requires c).Start in
     near_cell s.requires.ready s.args.r (s.args.gr - 1) (omega arith) (omega arith) (is_above s)
 
 pub overflow_sub-p-2 : goal.overflow_sub-p-2
-overflow_sub-p-2 c = omega (arith, before_place c.before.before.before.before.before.before.before)
+overflow_sub-p-2 c = omega (arith, before_place (goal.at-overflow_sub-p-2 c).Start)
 
 pub cell_in-before-requires : goal.cell_in-before-requires
 cell_in-before-requires c =
-    let s = c in
+    let s = (goal.at-cell_in-before-requires c).Start in
     near_cell s.requires.ready (s.args.r - 1) s.args.gr (omega arith) (omega arith) (is_before s)
 
 pub overflow_sub-p-3 : goal.overflow_sub-p-3
-overflow_sub-p-3 c = omega (arith, before_place c.before.before.before.before.before.before.before.before)
+overflow_sub-p-3 c = omega (arith, before_place (goal.at-overflow_sub-p-3 c).Start)
 
 pub overflow_sub-p-4 : goal.overflow_sub-p-4
-overflow_sub-p-4 c = omega (arith, corner_place c.before.before.before.before.before.before.before.before.before)
+overflow_sub-p-4 c = omega (arith, corner_place (goal.at-overflow_sub-p-4 c).Start)
 
 pub cell_in-corner-requires : goal.cell_in-corner-requires
 cell_in-corner-requires c =
-    let s = c in
+    let s = (goal.at-cell_in-corner-requires c).Start in
     near_cell s.requires.ready (s.args.r - 1) (s.args.gr - 1) (omega arith) (omega arith) (is_corner s)
 
 -- ---- what was read
 module _ (k : After-cell_in-corner) where
   abbrev start : Start
-  start = k.before.before.before.before.before.before.before.before.before.before
+  start = (goal.at-After-cell_in-corner k).Start
 
   -- the sums of the bins below r and gr
   abbrev Below : Cell → ℕ → ℕ → Type 0
@@ -98,5 +98,5 @@ joined-requires c = can_join (start c).requires.ready (start c).requires.line_va
 
 pub returns : goal.returns
 returns c =
-    let k = c in
+    let k = (goal.at-returns c).After-cell_in-corner in
     joined_is (start k).requires.ready (start k).requires.line_value (above k) (before k) (corner k) c.joined.ensures

@@ -21,7 +21,7 @@ loop-b-init c =
     let s = c in (
       omega arith,
       line_start s.args.g (laid_view Wide s.args.small.now s.args.large.now) s.args.r s.args.gr,
-      before_same s.requires.ready (sym (add-zero _)),
+      before_same s.requires.ready.before (sym (add-zero _)),
       refl,
       refl,
     )

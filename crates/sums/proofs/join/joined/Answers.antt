@@ -26,7 +26,7 @@ plus-requires-2 c =
             ap (λ (x : Cell). number_of x j) c.plus.ensures,
             number_plus s.args.line s.args.above j h,
             ap (λ (x : Cell). number_of x j) c.minus.ensures,
-            number_minus s.args s.args.corner j h,
+            number_minus s.args.before s.args.corner j h,
           );
     }
 

@@ -19,7 +19,7 @@ pub loop-gr-init : goal.loop-gr-init
 loop-gr-init c =
     let s = c in (
       omega arith,
-      before_same s.requires.ready
+      before_same s.requires.ready.before
           (sym (ap (λ (n : ℕ). place_of s.args.g s.args.r 0 0 + n) (zero-mul s.args.g.size3) ∙ add-zero _)),
       s.requires.first_value,
       refl,
@@ -38,7 +38,7 @@ next_row-requires c =
 -- the row that was written stands in the grid
 module _ (c : After-struct_known-in-loop-gr-1) where
   abbrev entry : Start
-  entry = c.before.before.before.before.before.before.before.before.before.before.before.before.before.before.before
+  entry = (goal.at-After-struct_known-in-loop-gr-1 c).Start
 
   inside : Inside entry.args.g entry.args.r c.loop-gr.gr 0
   inside =
