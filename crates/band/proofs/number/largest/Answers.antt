@@ -8,6 +8,7 @@ use lib.ListN.{length}
 use Rattle.band.specs.Band.{all_below}
 use Rattle.band.proofs.Below.{Tops, tops_none, tops_next, tops_same}
 use Rattle.band.proofs.number.largest.Goals as goal
+use Rattle.band.proofs.number.largest.Goals.{then-top-map, else-top-map}
 
 pub loop-p-init : goal.loop-p-init
 loop-p-init c = (omega arith, tops_none c.args.map.now)
@@ -29,10 +30,10 @@ loop-p-preserved c =
     let m = c.args.map.now in
     let l = c.loop-p in (
       omega arith,
-      ⊎_elim {C = Tops m (l.p + 1) c.if-top-map.top}
-          (λ w. rw w.2 (tops_next m l.p l.top w.0.false l.invariant.1))
-          (λ w. rw w.1 (tops_same m l.p l.top w.0.left l.invariant.1))
-          c.if-top-map.branch,
+      elim c.if-top-map.branch [
+        then-top-map w ↦ rw w.top-is (tops_next m l.p l.top w.if-top-map.true l.invariant.1)
+      | else-top-map w ↦ rw w.top-is (tops_same m l.p l.top w.if-top-map.false l.invariant.1)
+      ],
     )
 
 pub returns : goal.returns

@@ -9,6 +9,7 @@ use Rattle.pixels.specs.Equal.{differs}
 use Rattle.basics.proofs.Range.{sum_last}
 use Rattle.pixels.proofs.EqualColours.{alike, unlike}
 use Rattle.pixels.proofs.equal.differences.Goals as goal
+use Rattle.pixels.proofs.equal.differences.Goals.{then-bytes-at, else-bytes-at}
 
 pub loop-k-init : goal.loop-k-init
 unfolding sum_from
@@ -45,9 +46,11 @@ loop-k-preserved c =
     let b = a.bytes.now in
     let last = sum_last a.at l.k (differs b) in (
       omega arith,
-      ⊎_elim (λ w. omega arith) (λ w. omega arith) c.if-bytes-at.branch,
-      ⊎_elim (λ w. omega (arith, last, unlike b (a.at + l.k) w.0.false))
-          (λ w. omega (arith, last, alike b (a.at + l.k) w.0.left)) c.if-bytes-at.branch,
+      elim c.if-bytes-at.branch [ then-bytes-at w ↦ omega arith | else-bytes-at w ↦ omega arith ],
+      elim c.if-bytes-at.branch [
+        then-bytes-at w ↦ omega (arith, last, unlike b (a.at + l.k) w.if-bytes-at.true)
+      | else-bytes-at w ↦ omega (arith, last, alike b (a.at + l.k) w.if-bytes-at.false)
+      ],
     )
 
 pub returns : goal.returns

@@ -99,9 +99,9 @@ pub returns-then-not-keeps_bounds : goal.returns-then-not-keeps_bounds
 returns-then-not-keeps_bounds c =
     let k = (goal.at-returns-then-not-keeps_bounds c).After-keeps_bounds in
     let p = of_bin (bin k) in
-    rw (← p.place.ensures)
+    rw (← p.place-start.ensures)
     (sym
-    (scan_worse (limit_of Narrow) (grid k) (view k) (limit_high Narrow) p.place.result (grid k).size3 (entry p).args.had
+    (scan_worse (limit_of Narrow) (grid k) (view k) (limit_high Narrow) p.place-start.result (grid k).size3 (entry p).args.had
     (here k) (omega arith) (omega (arith, (bin k).loop-b-test.true)) (tested k ∙ c.if-not-keeps_bounds.true)))
 
 pub overflow_add-total : goal.overflow_add-total

@@ -20,7 +20,7 @@ returns-then-n-le-NARROW_LIMIT c =
     ap (λ (k : ℕ). leb c.wrapping_sub_u64.result k) (width_part n span s.requires.0 light)
     ∙ far_between n span (wider (lit≤ tt) s.requires.0) s.requires.1 (omega arith)
     (ap (λ (k : ℕ). (c.wrapping_sub_u64.result + k) % 2 ^ 64) (sym (low_part n span s.requires.0 light))
-    ∙ c.wrapping_sub_u64.ensures)
+    ∙ c.wrapping_sub_u64.ensures.value)
 
 pub lies_far_between-requires : goal.lies_far_between-requires
 lies_far_between-requires c = let p = c.requires in (wider (lit≤ tt) p.0, p.1)

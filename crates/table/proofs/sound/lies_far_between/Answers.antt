@@ -18,4 +18,4 @@ overflow_mul-result c =
 pub returns : goal.returns
 returns c =
     let s = c in
-    far_between s.args.n s.args.span s.requires.0 s.requires.1 (omega arith) c.wrapping_sub_u64.ensures
+    far_between s.args.n s.args.span s.requires.0 s.requires.1 (omega arith) c.wrapping_sub_u64.ensures.value

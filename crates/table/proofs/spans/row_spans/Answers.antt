@@ -48,9 +48,9 @@ added : (k : After-pack-4)
     k.pack-3.result + k.pack-4.result
     ≡ packed_span (plus_span (squared_span s.span_of-s1.result) (squared_span s.span_of-s2.result))
 added k =
-    let s = k.before.before.before.before.before.before in
-    (λ i. (k.before.before.pack3.ensures ∙ ap packed_span k.before.before.before.squared.ensures) i
-    + (k.pack4.ensures ∙ ap packed_span k.before.squared2.ensures) i)
+    let s = (goal.at-After-pack-4 k).After-span_of-s2 in
+    (λ i. (k.pack-3.ensures ∙ ap packed_span k.squared.ensures) i
+    + (k.pack-4.ensures ∙ ap packed_span k.squared-2.ensures) i)
     ∙ pack_plus (squares_below (first_byte s)) (squares_below (second_byte s))
 
 pub overflow_add-result : goal.overflow_add-result

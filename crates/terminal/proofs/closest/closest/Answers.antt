@@ -8,6 +8,7 @@ use Rattle.terminal.specs.Nearest.{distance_of, least_from, nearest_of}
 use Rattle.terminal.proofs.Lowest.{lowest_is, key_of, key_next, key_same}
 use Rattle.terminal.proofs.closest.closest.Goals.{After-loop-k}
 use Rattle.terminal.proofs.closest.closest.Goals as goal
+use Rattle.terminal.proofs.closest.closest.Goals.{then-key-least, else-key-least}
 
 pub distance-requires : goal.distance-requires
 distance-requires c = (c.requires, omega arith)
@@ -52,14 +53,14 @@ loop-k-preserved c =
     let key : x ≡ key_of 16 f (16 + l.k) = λ i. 256 * d.ensures.0 i + (16 + l.k) in (
       omega arith,
       omega arith,
-      ⊎_elim {C = c.if-key-least.least ≡ key_of 16 f (least_from 16 (l.k + 1 - 1) f)}
-          (λ w. w.1
-          ∙ key_next 16 f (omega arith) l.k l.least x l.invariant.0 (omega arith) l.invariant.2 key
-          (omega (arith, w.0.false)))
-          (λ w. w.1
-          ∙ key_same 16 f (omega arith) l.k l.least x l.invariant.0 (omega arith) l.invariant.2 key
-          (omega (arith, w.0.left)))
-          c.if-key-least.branch,
+      elim c.if-key-least.branch [
+        then-key-least w ↦ w.least-is
+            ∙ key_next 16 f (omega arith) l.k l.least x l.invariant.0 (omega arith) l.invariant.2 key
+            (omega (arith, w.if-key-least.true))
+      | else-key-least w ↦ w.least-is
+            ∙ key_same 16 f (omega arith) l.k l.least x l.invariant.0 (omega arith) l.invariant.2 key
+            (omega (arith, w.if-key-least.false))
+      ],
     )
 
 -- what it has once all are passed
