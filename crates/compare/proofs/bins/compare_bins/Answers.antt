@@ -117,4 +117,7 @@ returns c =
     let all : l.p ≡ c.bins-n.result = omega arith in
     rw (← c.bins-n.ensures)
     (let f = all_found (rw all at l.invariant.2) in
-    ((λ i. record { number = 0; differ = f.0 i; first = f.1 i }), all_written v u (rw all at l.invariant.1)))
+    record {
+      «record» = λ i. record { number = 0; differ = f.0 i; first = f.1 i };
+      later = all_written v u (rw all at l.invariant.1);
+    })

@@ -38,5 +38,5 @@ returns c =
     let l = c.load in
     let all = all_left a.file.now a.f.pixels in let both = frame_loads a.b1 a.b2 a.b3 a.table.now a.file.now a.f
     c.if-file-from.false
-    (l.ensures.0 ∙ ap (λ (x : List ℕ). load_number a.b1 a.b2 a.b3 a.table.now x false []) all)
-    (l.ensures.1 ∙ ap (λ (x : List ℕ). load_later a.b1 a.b2 a.b3 a.table.now x false []) all) in record { number = both.0; later = both.1 }
+    (l.ensures.number ∙ ap (λ (x : List ℕ). load_number a.b1 a.b2 a.b3 a.table.now x false []) all)
+    (l.ensures.later ∙ ap (λ (x : List ℕ). load_later a.b1 a.b2 a.b3 a.table.now x false []) all) in record { number = both.0; later = both.1 }

@@ -70,7 +70,7 @@ shape_of-table c =
     c.loop-r.invariant.1.lent.numbers ∙ sym s.requires.table.lent.numbers
 
 pub shape_of-reasons : goal.shape_of-reasons
-shape_of-reasons c = c.loop-r.invariant.1.list ∙ sym (entry (goal.at-shape_of-reasons c).After-fill_spans).requires.1
+shape_of-reasons c = c.loop-r.invariant.1.list ∙ sym (entry (goal.at-shape_of-reasons c).After-fill_spans).requires.list
 
 pub returns : goal.returns
 returns c =

@@ -81,14 +81,14 @@ unfolding keeps_bounds
 keeps k =
     let t = of_bin k in
     row_bin (entry t).requires.row (view t) (bin t) t.loop-b-test.true t.place-start.ensures
-    k.before.before.Cell_at.ensures k.before.keeps_bounds.ensures
+    k.cell_at-c.ensures k.keeps_bounds-keeps.ensures
 
 due : (k : After-reason-why)
     → let t = of_bin k in
     k.reason-why.result
     ≡ reason_for limit (keeps_bounds limit (entry t).args.g (view t) (here t)) t.loop-b.total (view t (here t) 0)
 due k =
-    k.reason.ensures
+    k.reason-why.ensures
     ∙ (λ i. reason_for limit (sym (keeps k) i) (of_bin k).loop-b.total (weighs k i))
 
 pub bounds-reasons-p : goal.bounds-reasons-p
