@@ -26,7 +26,7 @@ use Rattle.adder.proofs.Scaled.{scaled_pairs, given_length}
 use Rattle.loader.proofs.Calls.{pairs, load_no_grid_in, load_not_threes, load_not_paired, load_length}
 use Rattle.loader.proofs.Calls.{load_unsound}
 use Rattle.loader.proofs.ByAdding.{number_says, later_says}
-use Rattle.loader.proofs.load.load_scaled_in.Goals.{After-add_batch_in, Else-not-lengths_fit, In-Accepted, In-Total, Joined-weighted, Start}
+use Rattle.loader.proofs.load.load_scaled_in.Goals.{After-add_batch_in, Else-not-lengths_fit, In-Accepted, In-Total, Joined-weighted, Start, then-weighted+else-weights-colours, else-weighted}
 use Rattle.loader.proofs.load.load_scaled_in.Goals as goal
 
 abbrev entry : In-Accepted → Start
@@ -58,10 +58,10 @@ OneEach k = let a = (entry (on k)).args in length a.weights.now ≡ length a.col
 
 one_each : (k : Joined-weighted) → (entry (on k)).args.weighted ≡ true → OneEach k
 one_each k given =
-    ⊎_elim {C = OneEach k}
-    (λ w. w.1.left)
-    (λ w. absurd (true≢false (sym given ∙ w.left)))
-    k.if-weighted.branch
+    elim k.if-weighted.branch [
+      then-weighted+else-weights-colours w ↦ w.if-weights-colours.false
+    | else-weighted w ↦ absurd (true≢false (sym given ∙ w.if-weighted.false))
+    ]
 
 whole : (k : Joined-weighted) → let a = (entry (on k)).args in Whole a.colours.now a.weighted a.weights.now
 whole k = record { threes = k.if-colours-ne0.false; paired = one_each k }
@@ -124,7 +124,7 @@ Ends k n =
     let b = on (with_weights (with_length (before_adding k))) in
     let a = (entry b).args in
     (n ≡ load_number_in a.layout a.b1 a.b2 a.b3 (lent (entry b)) a.colours.now true (scaled b))
-    × (laid a.layout k.add_batch_in.new.1.1.0 k.add_batch_in.new.1.1.1.0
+    × (laid a.layout k.add_batch_in.new.small k.add_batch_in.new.large
     ≡ load_later_in a.layout a.b1 a.b2 a.b3 (lent (entry b)) a.colours.now true (scaled b))
 
 ended : (k : After-add_batch_in) {r : Added} → k.add_batch_in.result ≡ r →
@@ -202,7 +202,7 @@ returns-in_default-total_in c =
     let l = (goal.at-returns-in_default-total_in c).Else-not-lengths_fit in
     let w = with_weights l in
     let a = (entry (on w)).args in let both = load_unsound a.layout a.b1 a.b2 a.b3 (lent (entry (on w))) a.colours.now true (scaled (on w))
-    (on_grid (on w)) w.if-colours-ne0.left (paired w) (the_table l).lent
+    (on_grid (on w)) w.if-colours-ne0.false (paired w) (the_table l).lent
     (unsound_says _ _ _ (sym c.total_in.ensures ∙ c.in_default-total_in.is)) in record { number = both.0; later = both.1 }
 
 pub fill_steps-requires : goal.fill_steps-requires

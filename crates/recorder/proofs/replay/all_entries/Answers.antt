@@ -95,6 +95,16 @@ offset_bounds-entries-e-in-loop-i-2 c = omega arith
 pub bounds-entries-e-in-loop-i-2 : goal.bounds-entries-e-in-loop-i-2
 bounds-entries-e-in-loop-i-2 c = omega arith
 
+pub slice_bounds-one_entry-end : goal.slice_bounds-one_entry-end
+unfolding count_at
+slice_bounds-one_entry-end c =
+    let l = (goal.at-slice_bounds-one_entry-end c).In-loop-i in omega (arith, inside l, bytes l)
+
+pub slice_bounds-one_entry-end-in-loop-i : goal.slice_bounds-one_entry-end-in-loop-i
+unfolding count_at
+slice_bounds-one_entry-end-in-loop-i c =
+    let l = (goal.at-slice_bounds-one_entry-end-in-loop-i c).In-loop-i in omega (arith, inside l)
+
 pub slice_bounds-one_entry-count : goal.slice_bounds-one_entry-count
 slice_bounds-one_entry-count c = omega arith
 
@@ -136,9 +146,9 @@ loop-i-preserved c =
     let a = (start l).args in
     let o = c.one_entry-a in
     let is = entry_is (entries l) a.colours.now a.weights.now l.loop-i.i r.place in
-    let here = stand l.loop-i.in_force_lem l.loop-i.table in
+    let here = stand l.loop-i.in_force l.loop-i.table in
     reached_next a.g (entries l) a.colours.now a.weights.now r l.loop-i-test.true (fits l).room
-    (o.ensures.0 ∙ ap (number_on a.g here) is) (o.ensures.1.0 ∙ ap (later_on a.g here) is) o.ensures.1.1
+    (o.ensures.number ∙ ap (number_on a.g here) is) (o.ensures.later ∙ ap (later_on a.g here) is) o.ensures.known
 
 pub shape_of-table : goal.shape_of-table
 shape_of-table c =

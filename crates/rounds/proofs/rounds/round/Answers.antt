@@ -88,7 +88,6 @@ returns c =
             (s.args.len - 1)
             (record {
               spread = sym (room_in_spread s.requires.two_arrays.0 0) i;
-              bounds = box_read
-                  c.before.before.before.before.before.before.before i;
+              bounds = box_read (goal.at-returns c).After-unpacked-x i;
             }))
             ∙ sym (room_stops s.args.g (view s) (before s) s.args.len off); arrays = c.put_box.ensures.arrays }

@@ -13,7 +13,7 @@ use Rattle.spread.specs.declared.position.Position.{Position}
 use Rattle.spread.specs.Cut.{position_at, better, best_run}
 use Rattle.spread.specs.Inner.{CutsAt}
 use Rattle.spread.proofs.Choose.{later_is_better, earlier_is_better, end_high, run_none, run_next, run_whole}
-use Rattle.spread.proofs.wide_search.best_wide.Goals.{Else-bin-first, Start}
+use Rattle.spread.proofs.wide_search.best_wide.Goals.{Else-bin-first, Start, then-bin-first, else-bin-first+then-later_wins, else-bin-first+else-later_wins}
 use Rattle.spread.proofs.wide_search.best_wide.Goals as goal
 
 pub end_bin-end-requires : goal.end_bin-end-requires
@@ -111,7 +111,7 @@ low_side_sums-low-requires c =
 
 pub position_at-later-requires : goal.position_at-later-requires
 position_at-later-requires c =
-    record { cuts = cuts (goal.at-position_at-later-requires c).Else-bin-first; of_all = (s (goal.at-position_at-later-requires c).Else-bin-first).requires.1.0; of_low = c.low_side_sums-low.ensures }
+    record { cuts = cuts (goal.at-position_at-later-requires c).Else-bin-first; of_all = (s (goal.at-position_at-later-requires c).Else-bin-first).requires.all_value; of_low = c.low_side_sums-low.ensures }
 
 pub later_wins-requires : goal.later_wins-requires
 later_wins-requires c = search rules
@@ -134,35 +134,36 @@ loop-bin-preserved c =
     let s = c in
     let l = c.loop-bin in
     let first = c.first_bin-first.ensures in
-    let from : ℕ = min_at s.args.x s.args.dimension in (
+    let from : ℕ = min_at s.args.x s.args.dimension in
+    let past : (l.bin ≡ c.first_bin-first.result → ⊥) → from < l.bin = λ d. omega (arith, l.invariant.0, first, d) in (
       omega (arith, l.invariant.0),
       omega (arith, c.loop-bin-test.true),
-      ⊎_elim
-          (λ w.
-          w.2
+      elim c.if-bin-first.branch [
+        then-bin-first w ↦
+          w.best-is
           ∙ l.invariant.2
           ∙ ap (best_run s.args.g (laid_view Wide s.args.small.now s.args.large.now) s.args.x s.args.dimension (from + 1))
-          (none from l.bin (w.0.false ∙ first)))
-          (⊎_elim
-          (λ w.
-          next (record { before = c.before; if1 = w.0 }) w.2.ensures
-          (w.6 ∙ later_is_better l.best w.2.result (sym w.3.ensures ∙ w.4.false)))
-          (λ w.
-          next (record { before = c.before; if1 = w.0 }) w.2.ensures
-          (w.6 ∙ earlier_is_better l.best w.2.result (sym w.3.ensures ∙ w.4.left))))
-          c.if-bin-first.branch,
+          (none from l.bin (w.if-bin-first.true ∙ first))
+      | else-bin-first+then-later_wins w ↦
+          run_next s.args.g (laid_view Wide s.args.small.now s.args.large.now) s.args.x s.args.dimension (from + 1) l.bin
+          (omega (arith, past w.if-bin-first.false)) l.invariant.2 w.position_at-later.ensures
+          (w.best-is ∙ later_is_better l.best w.position_at-later.result (sym w.later_wins.ensures ∙ w.if-later_wins.true))
+      | else-bin-first+else-later_wins w ↦
+          run_next s.args.g (laid_view Wide s.args.small.now s.args.large.now) s.args.x s.args.dimension (from + 1) l.bin
+          (omega (arith, past w.if-bin-first.false)) l.invariant.2 w.position_at-later.ensures
+          (w.best-is ∙ earlier_is_better l.best w.position_at-later.result (sym w.later_wins.ensures ∙ w.if-later_wins.false))
+      ],
       λ h.
-          ⊎_elim
-          (λ w.
-          w.1
-          ∙ c.wide_before-before.ensures
-          ∙ ap (λ (n : ℕ). stats_of s.args.g (laid_view Wide s.args.small.now s.args.large.now)
-          (slab_to s.args.x s.args.dimension n))
-          (w.0.false ∙ first))
-          (⊎_elim
-          (λ w. w.5 ∙ l.invariant.3 (past_first (record { before = c.before; if1 = w.0 })))
-          (λ w. w.5 ∙ l.invariant.3 (past_first (record { before = c.before; if1 = w.0 }))))
-          c.if-bin-first.branch,
+          elim c.if-bin-first.branch [
+            then-bin-first w ↦
+              w.base-is
+              ∙ c.wide_before-before.ensures
+              ∙ ap (λ (n : ℕ). stats_of s.args.g (laid_view Wide s.args.small.now s.args.large.now)
+              (slab_to s.args.x s.args.dimension n))
+              (w.if-bin-first.true ∙ first)
+          | else-bin-first+then-later_wins w ↦ w.base-is ∙ l.invariant.3 (past w.if-bin-first.false)
+          | else-bin-first+else-later_wins w ↦ w.base-is ∙ l.invariant.3 (past w.if-bin-first.false)
+          ],
     )
   where
     none : (from bin : ℕ) → bin ≡ from → bin - (from + 1) ≡ (bin + 1) - (from + 1)

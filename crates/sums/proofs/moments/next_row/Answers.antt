@@ -64,7 +64,7 @@ returns-in-Wide c =
     let w = c in
     let a = w.args in
     before_as w.in-Wide.is a.g a.small.now a.large.now _ _ _
-    w.Wide_Row.ensures
+    w.wide_row.ensures
 
 pub shape_of-smallwork-in-Narrow : goal.shape_of-smallwork-in-Narrow
 shape_of-smallwork-in-Narrow c = search rules
