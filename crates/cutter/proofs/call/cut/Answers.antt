@@ -28,4 +28,4 @@ pub shape_of-map : goal.shape_of-map
 shape_of-map c = c.map-1.given
 
 pub returns : goal.returns
-returns c = let both = c.cut_from.ensures in record { answer = both.0; later = both.1 }
+returns c = c.cut_from.ensures

@@ -122,13 +122,13 @@ loop-i-preserved c =
     )
 
 pub shape_of-palette : goal.shape_of-palette
-shape_of-palette c = let l = c.loop-i in ap length l.invariant.1 ∙ palette_long c.before.before.before.before.before.before.before.before.before.before l.i l.invariant.0
+shape_of-palette c = let l = c.loop-i in ap length l.invariant.1 ∙ palette_long (goal.at-shape_of-palette c).Start l.i l.invariant.0
 
 pub shape_of-counts : goal.shape_of-counts
-shape_of-counts c = let l = c.loop-i in ap length l.invariant.2 ∙ counts_long c.before.before.before.before.before.before.before.before.before.before l.i l.invariant.0
+shape_of-counts c = let l = c.loop-i in ap length l.invariant.2 ∙ counts_long (goal.at-shape_of-counts c).Start l.i l.invariant.0
 
 pub shape_of-remainders : goal.shape_of-remainders
-shape_of-remainders c = let l = c.loop-i in ap length l.invariant.3 ∙ remainders_long c.before.before.before.before.before.before.before.before.before.before l.i l.invariant.0
+shape_of-remainders c = let l = c.loop-i in ap length l.invariant.3 ∙ remainders_long (goal.at-shape_of-remainders c).Start l.i l.invariant.0
 
 pub returns : goal.returns
 returns c =

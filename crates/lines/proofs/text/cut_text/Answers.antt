@@ -37,7 +37,7 @@ shape_of-out-then-done-ne0 c = search rules
 pub returns-then-done-ne0 : goal.returns-then-done-ne0
 returns-then-done-ne0 c =
     let cut = c.cut-done in
-    rw (cut_refused _ (cut.ensures.0 ∙ ap (cut_record Moments 8 8 8 16 _) lent_zeros_lem)
+    rw (cut_refused _ (cut.ensures.answer ∙ ap (cut_record Moments 8 8 8 16 _) lent_zeros_lem)
     c.if-done-ne0.true)
     c.refused.ensures
 
@@ -50,7 +50,7 @@ slice_bounds-listing-end-2 c = search rules
 pub listing-requires : goal.listing-requires
 listing-requires c =
     let cut = c.cut-done in
-    let h = few Wide Moments 16 (omega arith) (omega arith) _ 8 8 8 _ cut.ensures.0 in
+    let h = few Wide Moments 16 (omega arith) (omega arith) _ 8 8 8 _ cut.ensures.answer in
     search rules
 
 pub shape_of-out : goal.shape_of-out
@@ -59,7 +59,7 @@ shape_of-out c = search rules
 pub returns : goal.returns
 returns c =
     let cut = c.cut-done in
-    rw (cut_listed _ (cut.ensures.0 ∙ ap (cut_record Moments 8 8 8 16 _) lent_zeros_lem)
-    (cut.ensures.1 ∙ ap (cut_later Moments 8 8 8 16 _) lent_zeros_lem)
+    rw (cut_listed _ (cut.ensures.answer ∙ ap (cut_record Moments 8 8 8 16 _) lent_zeros_lem)
+    (cut.ensures.later ∙ ap (cut_later Moments 8 8 8 16 _) lent_zeros_lem)
     c.if-done-ne0.false)
     c.listing.ensures

@@ -30,7 +30,7 @@ put_box-requires c =
       c.loop-i-test.true,
       s.requires,
       ap length l.invariant.1,
-      boxes_long s.args.t1 s.requires.0 s.requires.1 l.i l.invariant.0 s.args.boxes.now s.requires.2,
+      boxes_long s.args.r s.requires.0 s.requires.1 l.i l.invariant.0 s.args.boxes.now s.requires.2,
     )
 
 pub offset_bounds-spreads-i : goal.offset_bounds-spreads-i
@@ -50,7 +50,7 @@ bounds-spreads-i c =
       c.loop-i-test.true,
       s.requires,
       ap length l.invariant.2,
-      spreads_long s.args.t1 s.requires.0 s.requires.1 l.i l.invariant.0 s.args.spreads.now s.requires.3,
+      spreads_long s.args.r s.requires.0 s.requires.1 l.i l.invariant.0 s.args.spreads.now s.requires.3,
     )
 
 pub overflow_add-i : goal.overflow_add-i
@@ -68,25 +68,25 @@ pub loop-i-preserved : goal.loop-i-preserved
 loop-i-preserved c =
     let s = c in
     let l = c.loop-i in
-    let t : l.i < s.args.t1.boxes = c.loop-i-test.true in (
+    let t : l.i < s.args.r.boxes = c.loop-i-test.true in (
       omega (arith, t),
-      boxes_next s.args.t1 s.requires.0 s.requires.1 l.i t refl s.args.boxes.now s.requires.2 l.invariant.1
+      boxes_next s.args.r s.requires.0 s.requires.1 l.i t refl s.args.boxes.now s.requires.2 l.invariant.1
           c.put_box.ensures,
-      spreads_next s.args.t1 s.requires.0 s.requires.1 l.i t refl s.args.spreads.now s.requires.3
+      spreads_next s.args.r s.requires.0 s.requires.1 l.i t refl s.args.spreads.now s.requires.3
           l.invariant.2 refl,
     )
 
 pub shape_of-boxes : goal.shape_of-boxes
 shape_of-boxes c = let s = c in let l = c.loop-i in ap length l.invariant.1
-    ∙ boxes_long s.args.t1 s.requires.0 s.requires.1 l.i l.invariant.0 s.args.boxes.now s.requires.2
+    ∙ boxes_long s.args.r s.requires.0 s.requires.1 l.i l.invariant.0 s.args.boxes.now s.requires.2
 
 pub shape_of-spreads : goal.shape_of-spreads
 shape_of-spreads c = let s = c in let l = c.loop-i in ap length l.invariant.2
-    ∙ spreads_long s.args.t1 s.requires.0 s.requires.1 l.i l.invariant.0 s.args.spreads.now s.requires.3
+    ∙ spreads_long s.args.r s.requires.0 s.requires.1 l.i l.invariant.0 s.args.spreads.now s.requires.3
 
 pub returns : goal.returns
 returns c =
     let s = c in
     let l = c.loop-i in
     let all =
-    told_all s.args.t1 s.requires.0 s.requires.1 {i = l.i} (omega (arith, l.invariant.0, c.loop-i-test.false)) in record { boxes = l.invariant.1 ∙ ap (λ (xs : List BoxSpread). filled 6 its_bytes xs s.args.boxes.now) all; spreads = l.invariant.2 ∙ ap (λ (xs : List BoxSpread). filled 1 spread_of xs s.args.spreads.now) all }
+    told_all s.args.r s.requires.0 s.requires.1 {i = l.i} (omega (arith, l.invariant.0, c.loop-i-test.false)) in record { boxes = l.invariant.1 ∙ ap (λ (xs : List BoxSpread). filled 6 its_bytes xs s.args.boxes.now) all; spreads = l.invariant.2 ∙ ap (λ (xs : List BoxSpread). filled 1 spread_of xs s.args.spreads.now) all }

@@ -30,4 +30,4 @@ pub shape_of-spreads : goal.shape_of-spreads
 shape_of-spreads c = c.spreads-1.given
 
 pub returns : goal.returns
-returns c = let both = c.cut_and_write.ensures in record { answer = both.0; later = both.1 }
+returns c = c.cut_and_write.ensures

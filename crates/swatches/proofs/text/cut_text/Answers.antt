@@ -39,7 +39,7 @@ shape_of-out-then-done-ne0 c = search rules
 pub returns-then-done-ne0 : goal.returns-then-done-ne0
 returns-then-done-ne0 c =
     let cut = c.cut-done in
-    rw (cut_refused _ (cut.ensures.0 ∙ ap (cut_record Moments 8 8 8 16 _) lent_zeros_lem)
+    rw (cut_refused _ (cut.ensures.answer ∙ ap (cut_record Moments 8 8 8 16 _) lent_zeros_lem)
     c.if-done-ne0.true)
     c.refused.ensures
 
@@ -79,8 +79,8 @@ returns c =
     let nearest = listed in
     let cut = nearest.cut-done in
     rw (
-      cut_listed _ (cut.ensures.0 ∙ ap (cut_record Moments 8 8 8 16 _) lent_zeros_lem)
-          (cut.ensures.1 ∙ ap (cut_later Moments 8 8 8 16 _) lent_zeros_lem)
+      cut_listed _ (cut.ensures.answer ∙ ap (cut_record Moments 8 8 8 16 _) lent_zeros_lem)
+          (cut.ensures.later ∙ ap (cut_later Moments 8 8 8 16 _) lent_zeros_lem)
           nearest.if-done-ne0.false,
       ← nearest.nearest.ensures.later,
     )
