@@ -2,12 +2,14 @@
 // `--ppm`, a PPM. This file reads and writes; what is decided of the input is the crate `inputs`, what is loaded and
 // what is said of it `lines` and, for a terminal, `swatches`.
 #![tactic(auto)]
+
 ghost use Rattle.std.specs.Prelude.{◌≡◌, true, false, ◌+◌, ◌^◌, ◌≤◌, ◌<◌, length, take};
 ghost use Rattle.lines.specs.Reading.{progress, AllCame};
 ghost use Rattle.inputs.specs.Frames.{Read, Room, CameBehind};
 
-use libc::{STDERR_FILENO, STDIN_FILENO, STDOUT_FILENO};
 use ppm::header::{Header, read_header};
+use std::env::{Env, FillError};
+use std::io::Read;
 
 // ---- Arguments
 
@@ -29,115 +31,123 @@ fn is_word(argument: &[u8], filled: usize, word: &[u8]) -> bool
 }
 
 // Whether the program was started with this word among its arguments. A longer argument is none of the program's words.
-fn has_argument(word: &[u8]) -> bool {
-    let arguments = os::arg_count();
-    let mut i = 1;
-    while i < arguments {
+fn has_argument(rt: &HostRuntime, word: &[u8]) -> bool {
+    for i in 1..usize::MAX {
         let mut argument = [0; 16];
-        let filled = os::arg(i, &mut argument);
-        if is_word(&argument, filled, word) {
-            return true;
+        match rt.arg(i, &mut argument) {
+            Ok(filled) => {
+                if is_word(&argument, filled, word) {
+                    return true;
+                }
+            }
+            Err(FillError::TooLong) => (),
+            Err(FillError::NotPresent) => return false,
         }
-        i = i + 1;
     }
     false
 }
 
 // ---- Writing
 
-fn complain(message: &[u8]) {
-    io::write_all(STDERR_FILENO, b"listing: ");
-    io::write_all(STDERR_FILENO, message);
-    io::write_all(STDERR_FILENO, b"\n");
+// Writes to standard error. Where that fails there is no place left to say so.
+fn tell(rt: &HostRuntime, text: &[u8]) {
+    let _ = rt.stderr().write_all(text);
 }
 
-fn write(text: &[u8]) {
-    if !io::write_all(STDOUT_FILENO, text) {
-        complain(b"standard output could not be written");
+fn complain(rt: &HostRuntime, message: &[u8]) {
+    tell(rt, b"listing: ");
+    tell(rt, message);
+    tell(rt, b"\n");
+}
+
+fn write(rt: &HostRuntime, text: &[u8]) {
+    if rt.stdout().write_all(text).is_err() {
+        complain(rt, b"standard output could not be written");
     }
 }
 
 // Says which kind of file the input looks like, what becomes of it, and how its pixels are listed.
-fn name_kind(kind: &[u8], fate: &[u8]) {
-    io::write_all(STDERR_FILENO, b"listing: the input looks like ");
-    io::write_all(STDERR_FILENO, kind);
-    io::write_all(STDERR_FILENO, fate);
-    io::write_all(
-        STDERR_FILENO,
+fn name_kind(rt: &HostRuntime, kind: &[u8], fate: &[u8]) {
+    tell(rt, b"listing: the input looks like ");
+    tell(rt, kind);
+    tell(rt, fate);
+    tell(
+        rt,
         b"; to list its pixels: magick FILE -depth 8 ppm:- | ./listing --ppm\n",
     );
 }
 
 // Says where bytes begin as a file of another program does. It is a hint, since a file of triples may begin so too.
-fn hint_of_program(bytes: &[u8], fate: &[u8]) {
+fn hint_of_program(rt: &HostRuntime, bytes: &[u8], fate: &[u8]) {
     if inputs::looks::begins_with(bytes, b"\x89PNG\r\n\x1a\n") {
-        name_kind(b"a PNG", fate);
+        name_kind(rt, b"a PNG", fate);
     }
     if inputs::looks::begins_with(bytes, b"\xff\xd8\xff") {
-        name_kind(b"a JPEG", fate);
+        name_kind(rt, b"a JPEG", fate);
     }
     if inputs::looks::begins_with(bytes, b"GIF8") {
-        name_kind(b"a GIF", fate);
+        name_kind(rt, b"a GIF", fate);
     }
     if inputs::looks::begins_with(bytes, b"BM") {
-        name_kind(b"a BMP", fate);
+        name_kind(rt, b"a BMP", fate);
     }
     if inputs::looks::begins_with(bytes, b"II*\x00") {
-        name_kind(b"a TIFF", fate);
+        name_kind(rt, b"a TIFF", fate);
     }
     if inputs::looks::begins_with(bytes, b"MM\x00*") {
-        name_kind(b"a TIFF", fate);
+        name_kind(rt, b"a TIFF", fate);
     }
     if inputs::looks::begins_with(bytes, b"RIFF") {
-        name_kind(b"a WebP", fate);
+        name_kind(rt, b"a WebP", fate);
     }
     if inputs::looks::begins_with(bytes, b"qoif") {
-        name_kind(b"a QOI", fate);
+        name_kind(rt, b"a QOI", fate);
     }
 }
 
 // Likewise for the kinds of Netpbm that are no PPM of bytes: bitmaps, grey ones, text, and PAM.
-fn hint_of_netpbm(bytes: &[u8], fate: &[u8]) {
+fn hint_of_netpbm(rt: &HostRuntime, bytes: &[u8], fate: &[u8]) {
     if inputs::looks::begins_with(bytes, b"P1\n") {
-        name_kind(b"a PBM", fate);
+        name_kind(rt, b"a PBM", fate);
     }
     if inputs::looks::begins_with(bytes, b"P2\n") {
-        name_kind(b"a PGM", fate);
+        name_kind(rt, b"a PGM", fate);
     }
     if inputs::looks::begins_with(bytes, b"P3\n") {
-        name_kind(b"a PPM of text", fate);
+        name_kind(rt, b"a PPM of text", fate);
     }
     if inputs::looks::begins_with(bytes, b"P4\n") {
-        name_kind(b"a PBM", fate);
+        name_kind(rt, b"a PBM", fate);
     }
     if inputs::looks::begins_with(bytes, b"P5\n") {
-        name_kind(b"a PGM", fate);
+        name_kind(rt, b"a PGM", fate);
     }
     if inputs::looks::begins_with(bytes, b"P7\n") {
-        name_kind(b"a PAM", fate);
+        name_kind(rt, b"a PAM", fate);
     }
 }
 
 // What is said of bare triples, which are listed all the same.
-fn hint(space: &[u8], filled: usize)
+fn hint(rt: &HostRuntime, space: &[u8], filled: usize)
     requires { filled ≤ length space.now }
 {
     let bytes = &space[0..filled];
-    hint_of_program(bytes, b", and is listed as bare RGB triples");
-    hint_of_netpbm(bytes, b", and is listed as bare RGB triples");
+    hint_of_program(rt, bytes, b", and is listed as bare RGB triples");
+    hint_of_netpbm(rt, bytes, b", and is listed as bare RGB triples");
     match read_header(bytes) {
         Header::Malformed => return,
         Header::Maximum => (),
         Header::Image(f) => (),
     }
     complain(
+        rt,
         b"the input looks like a PPM, and is listed as bare RGB triples: --ppm lists it as a PPM",
     );
 }
 
 // What is said of an input that was to be a PPM and is none, before it is refused. A maximum other than 255 is a
 // PPM's, and has an answer of its own.
-fn hint_no_ppm(space: &[u8], filled: usize)
+fn hint_no_ppm(rt: &HostRuntime, space: &[u8], filled: usize)
     requires { filled ≤ length space.now }
 {
     let bytes = &space[0..filled];
@@ -146,10 +156,13 @@ fn hint_no_ppm(space: &[u8], filled: usize)
         Header::Maximum => return,
         Header::Image(f) => return,
     }
-    hint_of_program(bytes, b", and is no PPM");
-    hint_of_netpbm(bytes, b", and is no PPM");
+    hint_of_program(rt, bytes, b", and is no PPM");
+    hint_of_netpbm(rt, bytes, b", and is no PPM");
     if filled == space.len() {
-        complain(b"the header is no PPM's, or is longer than a batch, 49152 bytes");
+        complain(
+            rt,
+            b"the header is no PPM's, or is longer than a batch, 49152 bytes",
+        );
     }
 }
 
@@ -163,29 +176,33 @@ struct Batch {
 }
 
 // One read, behind the bytes that are there. A read that fails has no bytes.
-fn read_behind(space: &mut [u8], there: usize) -> Batch
+fn read_behind(rt: &HostRuntime, space: &mut [u8], there: usize) -> Batch
     requires { there ≤ length space.old }
     ensures fits { there + result.bytes ≤ length space.new }
     ensures kept { take there space.new ≡ take there space.old }
 {
-    let rest = &mut space[there..];
-    let got = libc::read(STDIN_FILENO, rest);
-    Batch {
-        bytes: io::count(got, rest),
-        failed: got < 0,
+    match rt.stdin().read(&mut space[there..]) {
+        Ok(bytes) => Batch {
+            bytes,
+            failed: false,
+        },
+        Err(_) => Batch {
+            bytes: 0,
+            failed: true,
+        },
     }
 }
 
 // Reads behind the bytes that are there until the batch is full or the input ends, so that only the last batch can
 // split a pixel.
-fn fill(space: &mut [u8], there: usize) -> Batch
+fn fill(rt: &HostRuntime, space: &mut [u8], there: usize) -> Batch
     requires { there ≤ length space.old }
     ensures fits { (there ≤ result.bytes) × (result.bytes ≤ length space.new) }
     ensures kept { take there space.new ≡ take there space.old }
 {
     let mut n = there;
     while n < space.len() {
-        let more = read_behind(space, n);
+        let more = read_behind(rt, space, n);
         if more.bytes == 0 {
             return Batch {
                 bytes: n,
@@ -212,7 +229,13 @@ struct Progress {
 
 // Loads the next batch, the bytes that are there in front of it. A batch that is not full is the last one, and so is one
 // whose reading failed.
-fn load_next(table: &mut [u64], space: &mut [u8], there: usize, had: Progress) -> Progress
+fn load_next(
+    rt: &HostRuntime,
+    table: &mut [u64],
+    space: &mut [u8],
+    there: usize,
+    had: Progress,
+) -> Progress
     requires there { there ≤ length space.old }
     requires room { Room space.old }
     requires few { had.bytes + 49152 < 2 ^ 64 }
@@ -221,7 +244,7 @@ fn load_next(table: &mut [u64], space: &mut [u8], there: usize, had: Progress) -
         (progress result.number table.new result.bytes) result.more }
     ensures few { result.bytes ≤ had.bytes + length space.old }
 {
-    let batch = fill(space, there);
+    let batch = fill(rt, space, there);
     let loaded = lines::batches::load_batch(table, space, batch.bytes, had.number);
     Progress {
         number: loaded.number,
@@ -233,7 +256,7 @@ fn load_next(table: &mut [u64], space: &mut [u8], there: usize, had: Progress) -
 
 // Loads what is left of the input, past a refusal too, since stray bytes at its end give a lower answer than a total
 // that is too large. A proved loop has to end, so it counts its turns down, from a number that no run uses up.
-fn load_rest(table: &mut [u64], space: &mut [u8], begun: Progress) -> Progress
+fn load_rest(rt: &HostRuntime, table: &mut [u64], space: &mut [u8], begun: Progress) -> Progress
     requires room { Room space.old }
     requires more { begun.more ≡ true }
     requires few { begun.bytes ≤ 49152 }
@@ -243,14 +266,14 @@ fn load_rest(table: &mut [u64], space: &mut [u8], begun: Progress) -> Progress
     let mut so_far = begun;
     let mut turns = 1099511627776u64;
     while turns > 0 && so_far.more {
-        so_far = load_next(table, space, 0, so_far);
+        so_far = load_next(rt, table, space, 0, so_far);
         turns = turns - 1;
     }
     so_far
 }
 
 // Loads bare triples: all of the input.
-fn load_triples(table: &mut [u64], space: &mut [u8]) -> Progress
+fn load_triples(rt: &HostRuntime, table: &mut [u64], space: &mut [u8]) -> Progress
     requires { Room space.old }
     ensures { AllCame (progress 0 table.old 0) (progress result.number table.new result.bytes)
         result.more }
@@ -261,13 +284,13 @@ fn load_triples(table: &mut [u64], space: &mut [u8]) -> Progress
         more: true,
         failed: false,
     };
-    let first = load_next(table, space, 0, none);
+    let first = load_next(rt, table, space, 0, none);
     let filled = first.bytes as usize;
-    hint(space, filled);
+    hint(rt, space, filled);
     if !first.more {
         return first;
     }
-    load_rest(table, space, first)
+    load_rest(rt, table, space, first)
 }
 
 // The header of a PPM, how many bytes of its pixels are at the front of a batch, and whether a read failed.
@@ -280,15 +303,15 @@ struct Begun {
 
 // Reads a header from the first batch, and moves the pixels behind it to the front, so that the batches after it split
 // no pixel.
-fn begin_frame(space: &mut [u8]) -> Begun
+fn begin_frame(rt: &HostRuntime, space: &mut [u8]) -> Begun
     ensures read { Read result.header }
     ensures there { result.there ≤ length space.new }
 {
-    let first = fill(space, 0);
+    let first = fill(rt, space, 0);
     let filled = first.bytes;
     let header = read_header(&space[0..filled]);
     let Header::Image(f) = header else {
-        hint_no_ppm(space, filled);
+        hint_no_ppm(rt, space, filled);
         return Begun {
             header,
             there: 0,
@@ -303,7 +326,7 @@ fn begin_frame(space: &mut [u8]) -> Begun
 }
 
 // Loads the pixels of a PPM, of which some bytes are at the front of a batch.
-fn load_pixels(table: &mut [u64], space: &mut [u8], there: usize) -> Progress
+fn load_pixels(rt: &HostRuntime, table: &mut [u64], space: &mut [u8], there: usize) -> Progress
     requires there { there ≤ length space.old }
     requires room { Room space.old }
 {
@@ -313,57 +336,58 @@ fn load_pixels(table: &mut [u64], space: &mut [u8], there: usize) -> Progress
         more: true,
         failed: false,
     };
-    let first = load_next(table, space, there, none);
+    let first = load_next(rt, table, space, there, none);
     if !first.more {
         return first;
     }
-    load_rest(table, space, first)
+    load_rest(rt, table, space, first)
 }
 
 // ---- Listing
 
 // Writes the text for a table that was loaded, or that a read failed.
-fn list(table: &[u64], number: u8, failed: bool) {
+fn list(rt: &HostRuntime, table: &[u64], number: u8, failed: bool) {
     if failed {
-        complain(b"standard input could not be read");
+        complain(rt, b"standard input could not be read");
         return;
     }
     let mut text = [0; 2752];
-    if has_argument(b"--terminal") {
+    if has_argument(rt, b"--terminal") {
         let n = swatches::text::swatch_text(table, number, &mut text);
-        write(&text[0..n]);
+        write(rt, &text[0..n]);
     } else {
         let n = lines::text::text(table, number, &mut text);
-        write(&text[0..n]);
+        write(rt, &text[0..n]);
     }
 }
 
 // Lists a PPM. Where the header tells no image there is nothing to load.
-fn list_frame(table: &mut [u64], space: &mut [u8])
+fn list_frame(rt: &HostRuntime, table: &mut [u64], space: &mut [u8])
     requires { Room space.old }
 {
-    let begun = begin_frame(space);
+    let begun = begin_frame(rt, space);
     let header = begun.header;
     let Header::Image(f) = header else {
         list(
+            rt,
             table,
             inputs::frames::frame_number(header, 0, 0),
             begun.failed,
         );
         return;
     };
-    let input = load_pixels(table, space, begun.there);
+    let input = load_pixels(rt, table, space, begun.there);
     let number = inputs::frames::frame_number(header, input.bytes, input.number);
-    list(table, number, input.failed);
+    list(rt, table, number, input.failed);
 }
 
-fn main() {
+fn main(rt: HostRuntime) {
     let mut table = lines::batches::empty_table();
     let mut space = [0; 49152];
-    if has_argument(b"--ppm") {
-        list_frame(&mut table, &mut space);
+    if has_argument(&rt, b"--ppm") {
+        list_frame(&rt, &mut table, &mut space);
         return;
     }
-    let input = load_triples(&mut table, &mut space);
-    list(&table, input.number, input.failed);
+    let input = load_triples(&rt, &mut table, &mut space);
+    list(&rt, &table, input.number, input.failed);
 }

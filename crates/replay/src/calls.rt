@@ -149,10 +149,15 @@ fn note(m: &mut [u64; 389158], count: usize, x: u64)
 }
 
 // Makes the call of a line, and holds its number.
-pub(crate) fn make(word: u64, line: &mut [u64; 163857], m: &mut [u64; 389158]) -> bool {
+pub(crate) fn make(
+    rt: &HostRuntime,
+    word: u64,
+    line: &mut [u64; 163857],
+    m: &mut [u64; 389158],
+) -> bool {
     let k = kind_of(word);
     let n = numbers_in(line);
     let x = call(word, n, line, m);
     note(m, k.0, x);
-    agree(line, k.1, m, 0, 1)
+    agree(rt, line, k.1, m, 0, 1)
 }

@@ -92,6 +92,7 @@ fn first_difference(
 
 // Holds so many numbers of the memory to the last of a line, of which the first is at a place.
 pub(crate) fn agree(
+    rt: &HostRuntime,
     line: &[u64; 163857],
     at: usize,
     m: &[u64; 389158],
@@ -103,21 +104,21 @@ pub(crate) fn agree(
     let end = (at + n) as u64;
     let due = line[0];
     if due != end {
-        tell::difference(0, end, due);
+        tell::difference(rt, 0, end, due);
         return false;
     }
     let p = first_difference(line, at, m, from, n);
     if p < n {
-        tell::difference(p + 1, m[from + p], line[at + p]);
+        tell::difference(rt, p + 1, m[from + p], line[at + p]);
     }
     p == n
 }
 
 // Holds a list to the one that the line has.
-pub(crate) fn hold(line: &[u64; 163857], m: &[u64; 389158]) -> bool {
+pub(crate) fn hold(rt: &HostRuntime, line: &[u64; 163857], m: &[u64; 389158]) -> bool {
     let a = area_of(line[2]);
     let n = length_at(m, a.0, a.1);
-    agree(line, 3, m, a.0, n + 1)
+    agree(rt, line, 3, m, a.0, n + 1)
 }
 
 // ---- Setting
@@ -134,10 +135,10 @@ fn copy(line: &[u64; 163857], m: &mut [u64; 389158], from: usize, n: usize)
 }
 
 // Sets a list to the one that the line has.
-pub(crate) fn set(line: &[u64; 163857], m: &mut [u64; 389158]) -> bool {
+pub(crate) fn set(rt: &HostRuntime, line: &[u64; 163857], m: &mut [u64; 389158]) -> bool {
     let a = area_of(line[2]);
     copy(line, m, a.0, least(line[3] as usize, a.1));
-    hold(line, m)
+    hold(rt, line, m)
 }
 
 // ---- Long lists
@@ -160,12 +161,12 @@ fn put_sums(m: &mut [u64; 389158], from: usize, n: usize)
 }
 
 // Holds the length of a list and the two sums to those of the line.
-pub(crate) fn hold_sums(line: &[u64; 163857], m: &mut [u64; 389158]) -> bool {
+pub(crate) fn hold_sums(rt: &HostRuntime, line: &[u64; 163857], m: &mut [u64; 389158]) -> bool {
     let a = area_of(line[2]);
     let from = a.0;
     let n = length_at(m, from, a.1);
     put_sums(m, from, n);
-    agree(line, 3, m, SUMS, 3)
+    agree(rt, line, 3, m, SUMS, 3)
 }
 
 // The places of a list, from the first to past the last.
