@@ -4,8 +4,7 @@ use mathlib.Core.Path.{◌≡◌, refl, sym, ap, ◌∙◌}
 use mathlib.Core.Bool.{cond}
 use mathlib.Core.List.{List, [], ◌∷◌, ◌++◌, Permᴰ, Perm}
 use mathlib.Core.HLevel.{hedberg}
-use mathlib.Core.List as L
-use Prim.Native.Nat.{ℕ, zero, suc, ◌+◌, ◌-◌, ◌*◌, ◌≤◌, ◌<◌}
+use Prim.Native.Nat.{ℕ, zero, suc, ◌+◌, ◌*◌, ◌≤◌, ◌<◌}
 use native.Mathlib.Nat.{zero-add, add_assoc, add_left_comm, mul-le-mul, mul-le-mul_left}
 use native.Mathlib.Decide.{ℕ_discrete}
 use native.Mathlib.Omega.{arith}
@@ -29,7 +28,6 @@ use Rattle.adder.specs.Batch.{Weighted, share, adds, sum_over, weight_of, loaded
 use Rattle.table.proofs.Soundness.{Keeps, keeps_zero, keeps_plus, squares_above, squares_below}
 use Rattle.table.proofs.Soundness.{Sound, sound_by, sound_keeps, sound_same, total_is}
 use Rattle.table.proofs.Soundness.{total_same, span_is}
-use mathlib.Core.List.Permᴰ
 use Rattle.table.proofs.Layouts.{HoldsIn}
 
 -- ---- sums over a list of colours

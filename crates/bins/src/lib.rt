@@ -1,3 +1,4 @@
 // What a box sums to, by adding up its bins one after the other.
 #![tactic(auto)]
+
 pub mod add_up;

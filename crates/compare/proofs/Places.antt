@@ -10,7 +10,7 @@ use borrow.Author.Tests.{eq-eqb, ne_eqb}
 use lib.Dec.{eqb}
 use mir.Val.{bool_byte}
 use Rattle.basics.specs.Range.{sum_from}
-use Rattle.basics.proofs.Range.{sum_same, sum_last, sum_bounded}
+use Rattle.basics.proofs.Range.{sum_last, sum_bounded}
 use Rattle.compare.specs.Compare.{first_from}
 
 -- 1 where the test holds

@@ -11,7 +11,7 @@ use lib.Dec.{eqb}
 use lib.IntN.{ℤ, pos, negsuc, neg_ℤ, nat_abs, ◌+ℤ◌, ◌-ℤ◌, neg_ℤ-+ℤ, neg_ℤ-neg_ℤ, +ℤ_comm, +ℤ_invr, -ℤ-+ℤ_cancel}
 use lib.IntN.{+ℤ_idr}
 use Rattle.grid.specs.declared.place.Grid.{Grid}
-use Rattle.basics.specs.Range.{sum_from, all_from}
+use Rattle.basics.specs.Range.{all_from}
 use Rattle.basics.proofs.Range.{sum_same, sum_zero, all_same, all_at, all_true, tests_same, never_true}
 use Rattle.basics.proofs.Range.{term_le}
 use Rattle.grid.specs.Grid.{Accepted, bins_of}

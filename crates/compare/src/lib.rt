@@ -1,4 +1,5 @@
 // The call that compares two tables.
 #![tactic(auto)]
+
 mod bins;
 pub mod call;

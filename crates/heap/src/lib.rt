@@ -1,3 +1,4 @@
 // The heap (Rules, Heap).
 #![tactic(auto)]
+
 pub mod arrays;

@@ -3,7 +3,6 @@
 use mathlib.Core.Path.{◌≡◌, refl, sym, ◌∙◌}
 use Prim.Native.Nat.{ℕ, ◌*◌, ◌^◌, ◌<◌}
 use borrow.Author.Tests.{eq-eqb, ne_eqb}
-use lib.Dec.{eqb}
 use Rattle.basics.specs.Answer.{refuse}
 use Rattle.ppm.specs.declared.header.Frame.{Frame}
 use Rattle.ppm.specs.declared.header.Header.{Header}

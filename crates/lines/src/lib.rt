@@ -1,6 +1,7 @@
 // What the listing program does between reading and writing: it loads its input batch by batch, and puts the text for
 // what was loaded into a lent buffer.
 #![tactic(auto)]
+
 pub mod batches;
 pub mod listing;
 pub mod parts;

@@ -1,5 +1,6 @@
 // Mapping a band of a frame.
 #![tactic(auto)]
+
 mod blocks;
 pub mod call;
 

@@ -1,5 +1,6 @@
 // Painting a band of a frame.
 #![tactic(auto)]
+
 mod blocks;
 pub mod call;
 mod palette;

@@ -1,4 +1,5 @@
 // Colours in a row of bytes, three a colour.
 #![tactic(auto)]
+
 pub mod colour;
 pub mod equal;

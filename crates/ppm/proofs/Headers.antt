@@ -12,12 +12,11 @@ use Rattle.basics.proofs.Range.{and_left, and_right, and_first, and_stop, and_fa
 use Rattle.ppm.specs.declared.fields.Digits.{Digits}
 use Rattle.ppm.specs.declared.fields.Found.{Found}
 use Rattle.ppm.specs.declared.fields.Found.TheVariants as found
-use Rattle.ppm.specs.declared.header.Frame.{Frame}
 use Rattle.ppm.specs.declared.header.Header.{Header}
 use Rattle.ppm.specs.declared.header.Header.TheVariants.{Image, Maximum, Malformed}
 use Rattle.ppm.specs.Header.{is_blank, is_digit, after_gap, has_blank, is_number, value_from, after_number, Field, None, Read, field_of, on_field}
 use Rattle.ppm.specs.Header.{is_magic, starts_blank, behind_blank, is_side, image_of, header_of}
-use Rattle.ppm.specs.Inner.{most, behind, StartsAt, read_as, InFile}
+use Rattle.ppm.specs.Inner.{most, behind, StartsAt, read_as}
 use Rattle.ppm.proofs.Tails.{Tail, tail_of, tail_drop, starts_behind, next_byte, no_byte}
 use Rattle.ppm.proofs.Gaps.{gap_tail}
 use Rattle.ppm.proofs.Numbers.{number_tail}

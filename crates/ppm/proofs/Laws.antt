@@ -1,14 +1,14 @@
 -- What stands above is told of loading a file: the answers 10, 11 and 12 by themselves, the image that is there where
 -- none of them is given, and that a refusal leaves the table.
 -- Assumes nothing.
-use mathlib.Core.Path.{◌≡◌, refl, sym, ap, ◌∙◌}
+use mathlib.Core.Path.{◌≡◌, refl, sym, ◌∙◌}
 use mathlib.Core.Bool.{Bool, true, false, not}
 use mathlib.Core.List.{List, []}
 use Prim.Native.Nat.{ℕ, zero, suc, ◌-◌, ◌*◌}
 use native.Mathlib.Omega.{arith}
 use borrow.Author.Tests.{eqb-true, eq-eqb, not-false}
 use lib.Dec.{eqb}
-use lib.ListN.{length, drop, length-drop}
+use lib.ListN.{length, length-drop}
 use Rattle.basics.specs.Answer.{refuse, when_done}
 use Rattle.basics.proofs.Ends.{passed}
 use Rattle.table.specs.Table.{Table}

@@ -1,5 +1,5 @@
 -- The header of a PPM (Rules, Frames), as what is left of a file's bytes after each part of it. Definitions only.
-use Rattle.std.specs.Prelude.{Bool, true, false, not, ◌&&◌, ◌||◌, cond, List, [], ◌∷◌, ℕ, ◌+◌, ◌-◌, ◌*◌, eqb, leb, length, drop}
+use Rattle.std.specs.Prelude.{Bool, false, not, ◌&&◌, ◌||◌, cond, List, [], ◌∷◌, ℕ, ◌+◌, ◌-◌, ◌*◌, eqb, leb, length, drop}
 use Rattle.basics.specs.Answer.{Answer}
 use Rattle.ppm.specs.declared.header.Header.{Header}
 use Rattle.ppm.specs.declared.header.Header.TheVariants.{Image, Maximum, Malformed}

@@ -1,5 +1,5 @@
 -- What the crate's own functions are told of a header. Definitions only.
-use Rattle.std.specs.Prelude.{◌≡◌, Bool, false, not, ◌&&◌, ◌||◌, List, [], ℕ, ◌-◌, ◌*◌, ◌≤◌, min, length, drop}
+use Rattle.std.specs.Prelude.{◌≡◌, Bool, false, not, ◌&&◌, ◌||◌, List, [], ℕ, ◌-◌, ◌≤◌, min, length, drop}
 use Rattle.basics.specs.Answer.{refuse, when_done}
 use Rattle.table.specs.Table.{Table}
 use Rattle.loader.specs.Load.{load_number, load_later}

@@ -2,25 +2,22 @@
 -- Assumes nothing.
 use mathlib.Core.Path.{◌≡◌, refl, sym, ap, ◌∙◌}
 use mathlib.Core.Bool.{Bool, not, cond}
-use mathlib.Core.List.{List, [], ◌∷◌, map}
-use Prim.Native.Nat.{ℕ, zero, suc, ◌+◌, ◌*◌, ◌/◌, ◌%◌, ◌^◌, ◌≤◌, ◌<◌}
-use native.Mathlib.Nat.{zero-add}
+use mathlib.Core.List.{List, ◌∷◌, map}
+use Prim.Native.Nat.{ℕ, zero, suc, ◌+◌, ◌*◌, ◌/◌, ◌%◌, ◌^◌, ◌<◌}
 use native.Mathlib.Omega.{arith}
 use lib.Dec.{eqb}
 use lib.IntN.{ℤ, pos, neg_ℤ, nat_abs, ◌+ℤ◌}
-use lib.ListN.{length, get_or}
-use Rattle.basics.specs.Range.{list_from, sum_from, all_from}
+use lib.ListN.{get_or}
+use Rattle.basics.specs.Range.{list_from, sum_from}
 use Rattle.basics.proofs.Range.{list_is, sum_same, all_same}
 use Rattle.basics.proofs.Lists.{map_list}
 use Rattle.grid.specs.declared.place.Chosen.TheVariants as chosen
 use Rattle.grid.specs.declared.place.Grid.{Grid}
 use Rattle.grid.specs.Grid.{grid_of, on_grid, bins_of}
 use Rattle.grid.proofs.Places.{chose}
-use Rattle.table.specs.Cell.{View}
 use Rattle.table.specs.Table.{Table, table_len, Sized, view_of}
 use Rattle.table.proofs.Tables.{view_at, wide_len}
-use Rattle.compare.specs.declared.call.Compared.{Compared}
-use Rattle.compare.specs.Compare.{difference, differs, differing, first_from, first_differing, differences_of}
+use Rattle.compare.specs.Compare.{difference, differs, differing, first_differing}
 use Rattle.compare.specs.Compare.{compare_number, compare_record, compare_later}
 use Rattle.compare.proofs.Differences.{differences_at, differences_are}
 use Rattle.compare.proofs.Views.{difference_other, difference_added, differs_by, alike, first_high, first_holds}

@@ -2,7 +2,7 @@
 -- Assumes nothing.
 use mathlib.Core.Path.{◌≡◌, refl, sym, ap, ◌∙◌}
 use mathlib.Core.Bool.{Bool, true, false, ◌&&◌, ◌||◌, cond}
-use mathlib.Core.List.{List, [], ◌∷◌, ◌++◌}
+use mathlib.Core.List.{[], ◌∷◌, ◌++◌}
 use Prim.Native.Nat.{ℕ, zero, suc, ◌+◌, ◌≤◌, ◌<◌}
 use native.Mathlib.Nat.{add-suc, suc-add}
 use native.Mathlib.Omega.{arith}
@@ -11,7 +11,7 @@ use lib.Dec.{eqb, leb}
 use Rattle.basics.specs.Answer.{refuse, when_done}
 use Rattle.basics.proofs.Range.{and_left, and_right}
 use Rattle.promises.specs.Numbers.{Tests, applies, chain, ascends, lowest_from, lowest_of, earliest_of}
-use Rattle.promises.proofs.Numbers.{none_below, lowest_from_lem, lowest}
+use Rattle.promises.proofs.Numbers.{none_below, lowest_from_lem}
 
 -- answers past the last one do not apply
 none_above : (last : ℕ) (xs : Tests) (n m : ℕ) → ascends last n xs ≡ true → last < m → applies xs m ≡ false

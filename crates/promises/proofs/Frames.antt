@@ -4,8 +4,8 @@
 use mathlib.Core.Path.{◌≡◌, refl, sym, ap, ◌∙◌}
 use mathlib.Core.Logic.{◌↔◌}
 use mathlib.Core.Bool.{Bool, true, false, true≢false, not, ◌&&◌, ◌||◌}
-use mathlib.Core.List.{List, [], ◌∷◌, ◌++◌}
-use Prim.Native.Nat.{ℕ, zero, suc, ◌+◌, ◌*◌, ◌/◌, ◌%◌, ◌≤◌}
+use mathlib.Core.List.{List, [], ◌∷◌}
+use Prim.Native.Nat.{ℕ, zero, suc, ◌+◌, ◌*◌, ◌/◌, ◌%◌}
 use native.Mathlib.Omega.{arith}
 use borrow.Author.Tests.{eq-eqb}
 use lib.Dec.{eqb, ltb}
@@ -23,8 +23,8 @@ use Rattle.loader.proofs.Calls.{load_no_grid}
 use Rattle.loader.proofs.Laws.{load_tests_lem, load_says, load_accepts}
 use Rattle.ppm.specs.declared.header.Frame.{Frame}
 use Rattle.ppm.specs.declared.header.Header.TheVariants.{Image}
-use Rattle.ppm.specs.Header.{header_of, header_answer}
-use Rattle.ppm.specs.Load.{on_image, pixels_fit, pixels_of, as_image, ppm_number, ppm_later}
+use Rattle.ppm.specs.Header.{header_of}
+use Rattle.ppm.specs.Load.{pixels_of, as_image, ppm_number, ppm_later}
 use Rattle.ppm.proofs.Laws.{Whole, file_then, file_whole, image_pixels, whole_passes, ppm_loads, ppm_refused, ppm_whole}
 use Rattle.promises.specs.Numbers.{Tests, applies, chain, ascends, earliest_of, no_grid, on_bins, OnGrid}
 use Rattle.promises.specs.Frames.{file_tests, pixel_tests, ppm_tests, ppm_applies, CanLoadPpm}

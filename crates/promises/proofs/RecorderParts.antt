@@ -7,7 +7,6 @@ use Prim.Native.Nat.{ℕ, ◌+◌}
 use native.Mathlib.Omega.{arith}
 use lib.ListN.{drop, drop_of_length-le}
 use lib.Seq.{drop-append-add}
-use Rattle.grid.specs.declared.place.Chosen.TheVariants as chosen
 use Rattle.grid.specs.Grid.{bins_of}
 use Rattle.table.specs.Table.{Table, Sized, view_of}
 use Rattle.table.proofs.Tables.{list_holds}

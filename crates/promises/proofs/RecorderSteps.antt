@@ -10,7 +10,6 @@ use borrow.Author.Tests.{eq-eqb, ne_eqb}
 use lib.ListN.{get_or, take}
 use lib.Seq.{take_all}
 use Rattle.basics.specs.Range.{list_from, sum_from}
-use Rattle.grid.specs.declared.place.Chosen.TheVariants as chosen
 use Rattle.table.specs.Table.{Table}
 use Rattle.recorder.specs.Replay.{kind_at, interval_at, count_at, colours_before, entries_in, Entry, entry_at, entries_of}
 use Rattle.recorder.specs.Replay.{Standing, standing, entry_number, entry_later, stands_after, answers_to, Recorded}

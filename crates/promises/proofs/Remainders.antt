@@ -1,7 +1,7 @@
 -- Colours, counts and remainders of a cut that is done give the sums of each box back, and over all boxes those of the
 -- table (Rules, Results).
 -- Assumes nothing.
-use mathlib.Core.Path.{◌≡◌, sym, ap, ◌∙◌}
+use mathlib.Core.Path.{◌≡◌, ap, ◌∙◌}
 use mathlib.Core.List.{List}
 use Prim.Native.Nat.{ℕ, suc, ◌+◌, ◌*◌, ◌<◌}
 use native.Mathlib.Omega.{arith}
@@ -20,7 +20,6 @@ use Rattle.boxes.specs.Box.{no_box}
 use Rattle.bins.specs.Sum.{box_sum}
 use Rattle.rounds.specs.Loop.{boxes_of}
 use Rattle.sums.specs.declared.source.Source.{Source}
-use Rattle.cutter.specs.Palette.{its_colour, its_remainders, count_of}
 use Rattle.cutter.specs.Cut.{Buffers, CanCut, cut_number, done_record, cut_record, list_of, box_list, results_on, later_on}
 use Rattle.cutter.specs.Cut.{cut_later}
 use Rattle.cutter.proofs.Colours.{palette_byte, counts_at, remainders_at, component_whole, component_left}

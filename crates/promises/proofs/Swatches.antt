@@ -2,7 +2,7 @@
 -- Assumes nothing.
 use mathlib.Core.Path.{◌≡◌, refl, sym, ap, ◌∙◌}
 use mathlib.Core.List.{List}
-use Prim.Native.Nat.{ℕ, suc, ◌*◌, ◌/◌, ◌%◌, ◌≤◌, ◌<◌}
+use Prim.Native.Nat.{ℕ, suc, ◌<◌}
 use native.Mathlib.Omega.{arith}
 use lib.Dec.{lit≤}
 use lib.ListN.{length, get_or, replicate}
@@ -21,7 +21,7 @@ use Rattle.cutter.proofs.Listed.{list_length}
 use Rattle.cutter.proofs.RecordBoxes.{all_found}
 use Rattle.cutter.proofs.RecordSize.{few}
 use Rattle.cutter.proofs.Laws.{cut_says}
-use Rattle.terminal.specs.Nearest.{nearest_number, CanNearest}
+use Rattle.terminal.specs.Nearest.{nearest_number}
 use Rattle.terminal.proofs.Calls.{number_accepted}
 use Rattle.lines.specs.Text.{refused_of}
 use Rattle.lines.specs.Listing.{lent_zeros}

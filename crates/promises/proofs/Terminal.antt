@@ -2,7 +2,6 @@
 -- Assumes nothing.
 use mathlib.Core.Path.{◌≡◌, refl, sym, ap, ◌∙◌}
 use mathlib.Core.Logic.{◌↔◌}
-use mathlib.Core.Bool.{Bool, cond}
 use mathlib.Core.List.{List}
 use Prim.Native.Nat.{ℕ, suc, ◌+◌, ◌*◌, ◌/◌, ◌%◌, ◌-◌, ◌≤◌, ◌<◌}
 use native.Mathlib.Nat.{mul-le-mul, lt_of_not-le, add-zero}
@@ -15,7 +14,7 @@ use Rattle.basics.specs.Dimension.{choose}
 use Rattle.pixels.specs.declared.colour.Rgb.{Rgb}
 use Rattle.pixels.specs.Colour.{colour_at}
 use Rattle.terminal.specs.Colours.{level_of, cube_level, grey_level, level_at, fixed_colour, fixed_table}
-use Rattle.terminal.specs.Nearest.{difference_of, square_of, apart, distance_of, least_from, nearest_of, entries_in, nearest_at}
+use Rattle.terminal.specs.Nearest.{difference_of, square_of, apart, distance_of, nearest_of, entries_in, nearest_at}
 use Rattle.terminal.specs.Nearest.{nearest_number, nearest_later, CanNearest}
 use Rattle.terminal.proofs.Laws.{table_at}
 use Rattle.terminal.proofs.Lowest.{Lowest, lowest_is, lowest_one}

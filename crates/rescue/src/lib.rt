@@ -1,4 +1,5 @@
 // The call that rescues a damaged table.
 #![tactic(auto)]
+
 mod bins;
 pub mod call;

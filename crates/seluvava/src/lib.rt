@@ -1,5 +1,6 @@
 // The calls for C and Rust; include/seluvava.h says the same to their callers.
 #![tactic(auto)]
+
 mod arrays;
 pub mod cut;
 pub mod files;

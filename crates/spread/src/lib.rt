@@ -1,5 +1,6 @@
 // Spread and score of boxes in f64, and the best position to cut a box.
 #![tactic(auto)]
+
 mod before;
 pub mod both_sides;
 mod by_bins;

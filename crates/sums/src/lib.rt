@@ -1,5 +1,6 @@
 // Moments of a table, and the sums of boxes, from them or from the bins.
 #![tactic(auto)]
+
 pub mod box_sums;
 mod edge_rows;
 mod inner_rows;

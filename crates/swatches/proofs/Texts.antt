@@ -2,9 +2,7 @@
 -- Assumes nothing.
 use mathlib.Core.Path.{◌≡◌}
 use mathlib.Core.List.{List}
-use Prim.Native.Nat.{ℕ, zero, suc}
-use native.Mathlib.Omega.{arith}
-use Rattle.basics.specs.Answer.{when_done}
+use Prim.Native.Nat.{ℕ}
 use Rattle.cutter.specs.declared.call.CutRecord.{CutRecord}
 use Rattle.sums.specs.declared.source.Source.TheVariants.{Moments}
 use Rattle.cutter.specs.Cut.{Buffers, cut_record, cut_later}

@@ -1,5 +1,6 @@
 // Tables: five numbers per bin, where a lent table has them in either layout, and soundness.
 #![tactic(auto)]
+
 pub mod cell;
 pub mod layout;
 mod narrow;

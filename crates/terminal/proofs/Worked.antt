@@ -1,9 +1,8 @@
 -- Worked answers, computed on the definitions.
 -- Assumes nothing.
 use mathlib.Core.Path.{◌≡◌, refl}
-use mathlib.Core.List.{List, [], ◌∷◌, ◌++◌}
+use mathlib.Core.List.{List, [], ◌∷◌}
 use Prim.Native.Nat.{ℕ}
-use lib.ListN.{drop}
 use Rattle.basics.specs.Answer.{refuse, when_done}
 use Rattle.basics.specs.Range.{list_from}
 use Rattle.basics.specs.Dimension.{choose}

@@ -1,3 +1,4 @@
 // The call that widens a table.
 #![tactic(auto)]
+
 pub mod call;

@@ -82,8 +82,11 @@ pub returns-in_default : goal.returns-in_default
 returns-in_default c =
     let k = (goal.at-returns-in_default c).After-batch_total in
     let a = (entry k).args in
-    let told = sym (tested k) ∙ c.in_default.is in record { answer = sym told; later = sym (later_passes (most k) a.had (batch k) a.layout a.g (table k)
-          (passed_means (most k) a.had (batch k) told)) }
+    let told = sym (tested k) ∙ c.in_default.is in record {
+      answer = sym told;
+      later = sym (later_passes (most k) a.had (batch k) a.layout a.g (table k)
+          (passed_means (most k) a.had (batch k) told));
+    }
 
 pub add_blocks-requires : goal.add_blocks-requires
 add_blocks-requires c =
@@ -91,7 +94,8 @@ add_blocks-requires c =
     let s = entry b in
     let a = s.args in
     let known = s.requires.known in
-    let fits = (total_means (most b) a.had (batch b) (told (goal.at-add_blocks-requires c).In-Total)).0 in record { fits = record {
+    let fits = (total_means (most b) a.had (batch b) (told (goal.at-add_blocks-requires c).In-Total)).0 in record {
+      fits = record {
         scaled = s.requires.scale;
         table = known.table;
         is_sound = known.is_sound;
@@ -99,7 +103,9 @@ add_blocks-requires c =
         one_each = s.requires.whole.paired;
         under =
             rw (part_scaled a.scale a.colours.now a.weighted a.weights.now, ← known.total_is) fits;
-      }; steps = s.requires.steps }
+      };
+      steps = s.requires.steps;
+    }
 
 pub shape_of-small : goal.shape_of-small
 shape_of-small c = search rules
@@ -113,9 +119,12 @@ returns c =
     let k = (goal.at-returns c).In-Total in
     let b = (goal.at-In-Total k).After-batch_total in
     let a = (entry b).args in
-    let fits = (total_means (most b) a.had (batch b) (told k)).0 in record { answer = sym (told k); later = c.add_blocks.ensures
+    let fits = (total_means (most b) a.had (batch b) (told k)).0 in record {
+      answer = sym (told k);
+      later = c.add_blocks.ensures
           ∙ ap
           (λ (cs : List Weighted). written_in a.layout (bins_of a.g)
           (loaded a.g cs (view_in a.layout (table b))))
           (part_scaled a.scale a.colours.now a.weighted a.weights.now)
-          ∙ sym (later_fits (most b) a.had (batch b) a.layout a.g (table b) fits) }
+          ∙ sym (later_fits (most b) a.had (batch b) a.layout a.g (table b) fits);
+    }

@@ -10,8 +10,12 @@ enum_told-1 c = search rules
 pub wide_block-requires : goal.wide_block-requires
 wide_block-requires c =
     let s = c in
-    let a = s.args in record { fits = part_fits_as c.in-Wide.is a.small.now a.large.now a.g a.scale
-          a.colours.now a.weighted a.weights.now a.at 64 s.requires.fits; whole = s.requires.whole; steps = s.requires.steps }
+    let a = s.args in record {
+      fits = part_fits_as c.in-Wide.is a.small.now a.large.now a.g a.scale
+          a.colours.now a.weighted a.weights.now a.at 64 s.requires.fits;
+      whole = s.requires.whole;
+      steps = s.requires.steps;
+    }
 
 pub enum_told-in-Narrow : goal.enum_told-in-Narrow
 enum_told-in-Narrow c = search rules
@@ -19,8 +23,12 @@ enum_told-in-Narrow c = search rules
 pub narrow_block-requires : goal.narrow_block-requires
 narrow_block-requires c =
     let s = c in
-    let a = s.args in record { fits = part_fits_as c.in-Narrow.is a.small.now a.large.now a.g a.scale
-          a.colours.now a.weighted a.weights.now a.at 64 s.requires.fits; whole = s.requires.whole; steps = s.requires.steps }
+    let a = s.args in record {
+      fits = part_fits_as c.in-Narrow.is a.small.now a.large.now a.g a.scale
+          a.colours.now a.weighted a.weights.now a.at 64 s.requires.fits;
+      whole = s.requires.whole;
+      steps = s.requires.steps;
+    }
 
 pub shape_of-large-in-Wide : goal.shape_of-large-in-Wide
 shape_of-large-in-Wide c = search rules

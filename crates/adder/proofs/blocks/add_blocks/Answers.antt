@@ -2,15 +2,13 @@
 -- loaded.
 -- Assumes nothing.
 use mathlib.Core.Path.{◌≡◌, refl}
-use Prim.Native.Nat.{ℕ, ◌≤◌, ◌-◌, ◌<◌, ◌+◌}
+use Prim.Native.Nat.{ℕ, ◌-◌, ◌<◌, ◌+◌}
 use native.Mathlib.Omega.{arith}
 use borrow.Author.Rules.{rules}
-use lib.ListN.{length, get_or}
-use Rattle.grid.specs.Grid.{bins_of}
-use Rattle.table.specs.Layout.{laid, laid_view}
-use Rattle.table.proofs.Layouts.{HoldsIn, holds_list_in}
-use Rattle.adder.specs.Batch.{loaded}
-use Rattle.adder.specs.Inner.{part_of, with_part}
+use lib.ListN.{get_or}
+use Rattle.table.specs.Layout.{laid}
+use Rattle.table.proofs.Layouts.{holds_list_in}
+use Rattle.adder.specs.Inner.{with_part}
 use Rattle.adder.proofs.Parts.{held_none, fits_later, held_later, part_held}
 use Rattle.adder.proofs.blocks.add_blocks.Goals.{At-loop-i}
 use Rattle.adder.proofs.blocks.add_blocks.Goals as goal
@@ -37,8 +35,12 @@ overflow_sub-n c = omega arith
 pub add_block-requires : goal.add_block-requires
 add_block-requires c =
     let l = c.loop-i in
-    let s = c in record { fits = fits_later s.requires.fits (bytes (goal.at-add_block-requires c).At-loop-i) l.i l.invariant.3 l.i 64 (omega arith)
-          (omega arith); whole = omega (arith, s.requires.fits.there); steps = s.requires.steps }
+    let s = c in record {
+      fits = fits_later s.requires.fits (bytes (goal.at-add_block-requires c).At-loop-i) l.i l.invariant.3 l.i 64 (omega arith)
+          (omega arith);
+      whole = omega (arith, s.requires.fits.there);
+      steps = s.requires.steps;
+    }
 
 pub overflow_add-i : goal.overflow_add-i
 overflow_add-i c = omega arith
@@ -66,9 +68,13 @@ overflow_sub-n-2 c = omega arith
 pub add_last-requires : goal.add_last-requires
 add_last-requires c =
     let l = c.loop-i in
-    let s = c in record { fits = fits_later s.requires.fits (bytes (goal.at-add_last-requires c).At-loop-i) l.i l.invariant.3 l.i (s.args.n - l.i)
+    let s = c in record {
+      fits = fits_later s.requires.fits (bytes (goal.at-add_last-requires c).At-loop-i) l.i l.invariant.3 l.i (s.args.n - l.i)
           (omega arith)
-          (omega arith); few = omega arith; steps = s.requires.steps }
+          (omega arith);
+      few = omega arith;
+      steps = s.requires.steps;
+    }
 
 pub shape_of-small : goal.shape_of-small
 shape_of-small c = (search rules)

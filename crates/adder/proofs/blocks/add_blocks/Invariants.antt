@@ -1,17 +1,14 @@
 -- `adder::blocks::add_blocks` meets its contract: after i colours the table holds what it held with the first i
 -- loaded.
 -- Assumes nothing.
-use mathlib.Core.Path.{◌≡◌, refl}
-use Prim.Native.Nat.{ℕ, ◌≤◌, ◌-◌, ◌<◌, ◌+◌}
-use native.Mathlib.Omega.{arith}
-use borrow.Author.Rules.{rules}
-use lib.ListN.{length, get_or}
+use mathlib.Core.Path.{◌≡◌}
+use Prim.Native.Nat.{◌≤◌, ◌-◌}
+use lib.ListN.{length}
 use Rattle.grid.specs.Grid.{bins_of}
 use Rattle.table.specs.Layout.{laid, laid_view}
-use Rattle.table.proofs.Layouts.{HoldsIn, holds_list_in}
+use Rattle.table.proofs.Layouts.{HoldsIn}
 use Rattle.adder.specs.Batch.{loaded}
-use Rattle.adder.specs.Inner.{part_of, with_part}
-use Rattle.adder.proofs.Parts.{held_none, fits_later, held_later, part_held}
+use Rattle.adder.specs.Inner.{part_of}
 use Rattle.adder.proofs.blocks.add_blocks.Given as goal
 
 abbrev pub invariant-loop-i : goal.invariant-loop-i

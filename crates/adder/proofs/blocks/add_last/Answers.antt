@@ -48,13 +48,17 @@ block_weight-w-requires c =
 pub add_colour-requires : goal.add_colour-requires
 add_colour-requires c =
     let f = (goal.at-add_colour-requires c).Then-last_equal in
-    let s = start f in record { steps = s.requires.steps; weight = omega (
-          arith,
-          light s.requires.fits (bytes f) (same f) c.colour-x.ensures
-              c.block_weight-w.ensures,
-          limit_high s.args.layout,
-        ); fits = has_room_lem s.requires.fits (bytes f) (same f) c.colour-x.ensures
-            c.block_weight-w.ensures }
+    let s = start f in record {
+      steps = s.requires.steps;
+      weight = omega (
+        arith,
+        light s.requires.fits (bytes f) (same f) c.colour-x.ensures
+            c.block_weight-w.ensures,
+        limit_high s.args.layout,
+      );
+      fits = has_room_lem s.requires.fits (bytes f) (same f) c.colour-x.ensures
+          c.block_weight-w.ensures;
+    }
 
 pub shape_of-small-then-last_equal : goal.shape_of-small-then-last_equal
 shape_of-small-then-last_equal c = search rules

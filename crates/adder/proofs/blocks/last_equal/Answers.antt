@@ -1,6 +1,6 @@
 -- `adder::blocks::last_equal` meets its contract: none are not equal, and fewer than 65 have no 65 to be among.
 -- Assumes nothing.
-use mathlib.Core.Path.{◌≡◌, refl, sym, ◌∙◌}
+use mathlib.Core.Path.{refl, sym, ◌∙◌}
 use Prim.Native.Nat.{◌+◌}
 use native.Mathlib.Omega.{arith}
 use borrow.Author.Rules.{rules}

@@ -10,8 +10,11 @@ enum_told-1 c = search rules
 pub each_wide-requires : goal.each_wide-requires
 each_wide-requires c =
     let s = c in
-    let a = s.args in record { fits = part_fits_as c.in-Wide.is a.small.now a.large.now a.g a.scale
-          a.colours.now a.weighted a.weights.now a.at a.n s.requires.fits; steps = s.requires.steps }
+    let a = s.args in record {
+      fits = part_fits_as c.in-Wide.is a.small.now a.large.now a.g a.scale
+          a.colours.now a.weighted a.weights.now a.at a.n s.requires.fits;
+      steps = s.requires.steps;
+    }
 
 pub enum_told-in-Narrow : goal.enum_told-in-Narrow
 enum_told-in-Narrow c = search rules
@@ -19,8 +22,11 @@ enum_told-in-Narrow c = search rules
 pub each_narrow-requires : goal.each_narrow-requires
 each_narrow-requires c =
     let s = c in
-    let a = s.args in record { fits = part_fits_as c.in-Narrow.is a.small.now a.large.now a.g a.scale
-          a.colours.now a.weighted a.weights.now a.at a.n s.requires.fits; steps = s.requires.steps }
+    let a = s.args in record {
+      fits = part_fits_as c.in-Narrow.is a.small.now a.large.now a.g a.scale
+          a.colours.now a.weighted a.weights.now a.at a.n s.requires.fits;
+      steps = s.requires.steps;
+    }
 
 pub shape_of-large-in-Wide : goal.shape_of-large-in-Wide
 shape_of-large-in-Wide c = search rules

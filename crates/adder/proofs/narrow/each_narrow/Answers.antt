@@ -2,17 +2,15 @@
 -- loaded.
 -- Assumes nothing.
 use mathlib.Core.Path.{◌≡◌, refl, ◌∙◌}
-use Prim.Native.Nat.{ℕ, ◌≤◌, ◌-◌, ◌<◌, ◌+◌}
+use Prim.Native.Nat.{ℕ, ◌<◌, ◌+◌}
 use native.Mathlib.Omega.{arith}
 use borrow.Author.Rules.{rules}
-use lib.ListN.{length, get_or}
-use Rattle.grid.specs.Grid.{bins_of}
+use lib.ListN.{get_or}
 use Rattle.table.specs.declared.layout.Layout.TheVariants.{Narrow}
-use Rattle.table.specs.Layout.{laid, laid_view}
-use Rattle.table.proofs.Layouts.{HoldsIn, holds_list_in}
+use Rattle.table.specs.Layout.{laid}
+use Rattle.table.proofs.Layouts.{holds_list_in}
 use Rattle.table.proofs.Soundness.{limit_high}
-use Rattle.adder.specs.Batch.{loaded}
-use Rattle.adder.specs.Inner.{part_of, with_part, PartFits}
+use Rattle.adder.specs.Inner.{with_part, PartFits}
 use Rattle.adder.proofs.Parts.{held_none, fits_later, held_later, light, has_room_lem, at_once, alone, own_weight}
 use Rattle.adder.proofs.narrow.each_narrow.Goals.{In-loop-k, Start}
 use Rattle.adder.proofs.narrow.each_narrow.Goals as goal
@@ -61,11 +59,15 @@ add_narrow_colour-requires c =
     let a = (start l).args in
     let same = alone a.colours.now (a.at + l.loop-k.k) in
     let own = own_weight a.scale a.weighted a.weights.now (a.at + l.loop-k.k) in
-    let w = c.weight_at-w.ensures ∙ own in record { steps = (start l).requires.steps; weight = omega (
-          arith,
-          light (next l) (bytes l) same c.colour-x.ensures w,
-          limit_high Narrow,
-        ); fits = has_room_lem (next l) (bytes l) same c.colour-x.ensures w }
+    let w = c.weight_at-w.ensures ∙ own in record {
+      steps = (start l).requires.steps;
+      weight = omega (
+        arith,
+        light (next l) (bytes l) same c.colour-x.ensures w,
+        limit_high Narrow,
+      );
+      fits = has_room_lem (next l) (bytes l) same c.colour-x.ensures w;
+    }
 
 pub overflow_add-k : goal.overflow_add-k
 overflow_add-k c = omega arith

@@ -1,19 +1,15 @@
 -- `adder::narrow::each_narrow` meets its contract: after k colours the table holds what it held with the first k
 -- loaded.
 -- Assumes nothing.
-use mathlib.Core.Path.{◌≡◌, refl, ◌∙◌}
-use Prim.Native.Nat.{ℕ, ◌≤◌, ◌-◌, ◌<◌, ◌+◌}
-use native.Mathlib.Omega.{arith}
-use borrow.Author.Rules.{rules}
-use lib.ListN.{length, get_or}
+use mathlib.Core.Path.{◌≡◌}
+use Prim.Native.Nat.{◌≤◌, ◌-◌}
+use lib.ListN.{length}
 use Rattle.grid.specs.Grid.{bins_of}
 use Rattle.table.specs.declared.layout.Layout.TheVariants.{Narrow}
 use Rattle.table.specs.Layout.{laid, laid_view}
-use Rattle.table.proofs.Layouts.{HoldsIn, holds_list_in}
-use Rattle.table.proofs.Soundness.{limit_high}
+use Rattle.table.proofs.Layouts.{HoldsIn}
 use Rattle.adder.specs.Batch.{loaded}
-use Rattle.adder.specs.Inner.{part_of, with_part, PartFits}
-use Rattle.adder.proofs.Parts.{held_none, fits_later, held_later, light, has_room_lem, at_once, alone, own_weight}
+use Rattle.adder.specs.Inner.{part_of}
 use Rattle.adder.proofs.narrow.each_narrow.Given as goal
 
 abbrev pub invariant-loop-k : goal.invariant-loop-k

@@ -42,13 +42,17 @@ pub add_narrow_colour-requires : goal.add_narrow_colour-requires
 add_narrow_colour-requires c =
     let f = (goal.at-add_narrow_colour-requires c).Then-equal_colours in
     let s = f in
-    let pre = s.requires in record { steps = pre.steps; weight = omega (
-          arith,
-          light pre.fits (bytes f) (same f) c.colour-x.ensures
-              c.block_weight-w.ensures,
-          limit_high Narrow,
-        ); fits = has_room_lem pre.fits (bytes f) (same f) c.colour-x.ensures
-            c.block_weight-w.ensures }
+    let pre = s.requires in record {
+      steps = pre.steps;
+      weight = omega (
+        arith,
+        light pre.fits (bytes f) (same f) c.colour-x.ensures
+            c.block_weight-w.ensures,
+        limit_high Narrow,
+      );
+      fits = has_room_lem pre.fits (bytes f) (same f) c.colour-x.ensures
+          c.block_weight-w.ensures;
+    }
 
 pub shape_of-small-then-equal_colours : goal.shape_of-small-then-equal_colours
 shape_of-small-then-equal_colours c = search rules

@@ -13,8 +13,12 @@ enum_told-1 c = search rules
 pub add_wide_colour-requires : goal.add_wide_colour-requires
 add_wide_colour-requires c =
     let s = c in
-    let a = s.args in record { steps = s.requires.steps; weight = s.requires.weight; fits = fits_as c.in-Wide.is a.small.now a.large.now (colour_place a.g a.x)
-            (cell_of (share (record { colour = a.x; weight = a.w }))) s.requires.fits }
+    let a = s.args in record {
+      steps = s.requires.steps;
+      weight = s.requires.weight;
+      fits = fits_as c.in-Wide.is a.small.now a.large.now (colour_place a.g a.x)
+          (cell_of (share (record { colour = a.x; weight = a.w }))) s.requires.fits;
+    }
 
 pub enum_told-in-Narrow : goal.enum_told-in-Narrow
 enum_told-in-Narrow c = search rules
@@ -22,8 +26,12 @@ enum_told-in-Narrow c = search rules
 pub add_narrow_colour-requires : goal.add_narrow_colour-requires
 add_narrow_colour-requires c =
     let s = c in
-    let a = s.args in record { steps = s.requires.steps; weight = s.requires.weight; fits = fits_as c.in-Narrow.is a.small.now a.large.now (colour_place a.g a.x)
-            (cell_of (share (record { colour = a.x; weight = a.w }))) s.requires.fits }
+    let a = s.args in record {
+      steps = s.requires.steps;
+      weight = s.requires.weight;
+      fits = fits_as c.in-Narrow.is a.small.now a.large.now (colour_place a.g a.x)
+          (cell_of (share (record { colour = a.x; weight = a.w }))) s.requires.fits;
+    }
 
 pub shape_of-large-in-Wide : goal.shape_of-large-in-Wide
 shape_of-large-in-Wide c = search rules

@@ -1,11 +1,11 @@
 -- `adder::steps::fill_part` meets its contract: the loop fills the part from its front, one value after the other.
 -- Assumes nothing.
 use mathlib.Core.Path.{◌≡◌}
-use Prim.Native.Nat.{◌≤◌, ◌-◌}
+use Prim.Native.Nat.{◌≤◌}
 use native.Mathlib.Omega.{arith}
 use lib.ListN.{get_or}
 use Rattle.adder.proofs.Loading.{square_byte}
-use Rattle.adder.proofs.StepTable.{step_high, Part, part_none, part_more, part_all}
+use Rattle.adder.proofs.StepTable.{step_high, part_none, part_more, part_all}
 use Rattle.adder.proofs.steps.fill_part.Goals as goal
 
 pub steps-s-requires : goal.steps-s-requires
@@ -18,7 +18,6 @@ pub loop-c-init : goal.loop-c-init
 loop-c-init c = (
   omega arith,
   part_none c.steps-s.result c.args.dimension c.args.table.now c.requires.1,
-
 )
 
 pub offset_bounds-s-c : goal.offset_bounds-s-c

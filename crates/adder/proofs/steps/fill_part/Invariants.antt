@@ -1,11 +1,7 @@
 -- `adder::steps::fill_part` meets its contract: the loop fills the part from its front, one value after the other.
 -- Assumes nothing.
-use mathlib.Core.Path.{◌≡◌}
 use Prim.Native.Nat.{◌≤◌, ◌-◌}
-use native.Mathlib.Omega.{arith}
-use lib.ListN.{get_or}
-use Rattle.adder.proofs.Loading.{square_byte}
-use Rattle.adder.proofs.StepTable.{step_high, Part, part_none, part_more, part_all}
+use Rattle.adder.proofs.StepTable.{Part}
 use Rattle.adder.proofs.steps.fill_part.Given as goal
 
 abbrev pub invariant-loop-c : goal.invariant-loop-c

@@ -2,7 +2,6 @@
 -- Assumes nothing.
 use mathlib.Core.Path.{◌∙◌, ap}
 use native.Mathlib.Omega.{arith}
-use borrow.Author.Rules.{rules}
 use Rattle.adder.specs.Inner.{with_dimension}
 use Rattle.adder.proofs.StepTable.{with_long, three_parts}
 use Rattle.adder.proofs.steps.fill_steps.Goals as goal

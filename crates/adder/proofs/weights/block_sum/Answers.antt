@@ -1,7 +1,7 @@
 -- `adder::weights::block_sum` meets its contract: the sum so far is that of the weights passed, each below 2^32.
 -- Assumes nothing.
 use mathlib.Core.Path.{◌≡◌, sym, ap, ◌∙◌}
-use Prim.Native.Nat.{◌≤◌, ◌-◌, ◌*◌, ℕ, ◌+◌}
+use Prim.Native.Nat.{◌-◌, ℕ, ◌+◌}
 use native.Mathlib.Omega.{arith}
 use lib.ListN.{get_or}
 use Rattle.basics.specs.Range.{sum_from}

@@ -1,11 +1,9 @@
 -- `adder::weights::block_sum` meets its contract: the sum so far is that of the weights passed, each below 2^32.
 -- Assumes nothing.
-use mathlib.Core.Path.{◌≡◌, sym, ap, ◌∙◌}
-use Prim.Native.Nat.{◌≤◌, ◌-◌, ◌*◌, ℕ, ◌+◌}
-use native.Mathlib.Omega.{arith}
+use mathlib.Core.Path.{◌≡◌}
+use Prim.Native.Nat.{◌≤◌, ◌-◌, ◌*◌}
 use lib.ListN.{get_or}
 use Rattle.basics.specs.Range.{sum_from}
-use Rattle.basics.proofs.Range.{run_none, run_more}
 use Rattle.adder.proofs.weights.block_sum.Given as goal
 
 abbrev pub invariant-loop-i : goal.invariant-loop-i

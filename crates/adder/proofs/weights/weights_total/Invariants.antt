@@ -1,14 +1,10 @@
 -- `adder::weights::weights_total` meets its contract: the total so far is within the limit, so a block more still fits
 -- a u64.
 -- Assumes nothing.
-use mathlib.Core.Path.{◌≡◌, sym, ap, ◌∙◌}
-use Prim.Native.Nat.{ℕ, ◌+◌, ◌≤◌, ◌-◌, ◌*◌}
-use native.Mathlib.Nat.{mul-zero}
-use native.Mathlib.Omega.{arith}
+use mathlib.Core.Path.{◌≡◌}
+use Prim.Native.Nat.{◌+◌, ◌≤◌, ◌-◌, ◌*◌}
 use lib.ListN.{length, get_or}
 use Rattle.basics.specs.Range.{sum_from}
-use Rattle.adder.specs.declared.add.Added.TheVariants.{Total}
-use Rattle.adder.proofs.Totals.{held_within, held_past, block_high, more_weights, passes_early}
 use Rattle.adder.proofs.weights.weights_total.Given as goal
 
 abbrev pub invariant-loop-i : goal.invariant-loop-i

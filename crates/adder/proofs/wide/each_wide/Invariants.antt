@@ -1,17 +1,12 @@
 -- `adder::wide::each_wide` meets its contract: after k colours the table holds what it held with the first k loaded.
 -- Assumes nothing.
-use mathlib.Core.Path.{◌≡◌, refl, ◌∙◌}
-use Prim.Native.Nat.{ℕ, ◌≤◌, ◌-◌, ◌<◌, ◌+◌}
-use native.Mathlib.Omega.{arith}
-use lib.ListN.{get_or}
+use Prim.Native.Nat.{◌≤◌, ◌-◌}
 use Rattle.grid.specs.Grid.{bins_of}
 use Rattle.table.specs.declared.layout.Layout.TheVariants.{Wide}
 use Rattle.table.specs.Table.{view_of}
-use Rattle.table.proofs.Tables.{same_size}
-use Rattle.table.proofs.Layouts.{HoldsIn, holds_list_in}
+use Rattle.table.proofs.Layouts.{HoldsIn}
 use Rattle.adder.specs.Batch.{loaded}
-use Rattle.adder.specs.Inner.{part_of, with_part, PartFits}
-use Rattle.adder.proofs.Parts.{held_none, fits_later, held_later, light, has_room_lem, at_once, alone, own_weight}
+use Rattle.adder.specs.Inner.{part_of}
 use Rattle.adder.proofs.wide.each_wide.Given as goal
 
 abbrev pub invariant-loop-k : goal.invariant-loop-k

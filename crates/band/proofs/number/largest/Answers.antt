@@ -1,12 +1,10 @@
 -- `band::number::largest` meets its contract: after p entries it has the largest of them.
 -- Assumes nothing.
 use mathlib.Core.Path.{◌≡◌}
-use mathlib.Core.Logic.{⊎_elim}
-use Prim.Native.Nat.{◌≤◌, ◌-◌, ◌+◌}
 use native.Mathlib.Omega.{arith}
 use lib.ListN.{length}
 use Rattle.band.specs.Band.{all_below}
-use Rattle.band.proofs.Below.{Tops, tops_none, tops_next, tops_same}
+use Rattle.band.proofs.Below.{tops_none, tops_next, tops_same}
 use Rattle.band.proofs.number.largest.Goals as goal
 use Rattle.band.proofs.number.largest.Goals.{then-top-map, else-top-map}
 
@@ -31,8 +29,8 @@ loop-p-preserved c =
     let l = c.loop-p in (
       omega arith,
       elim c.if-top-map.branch [
-        then-top-map w ↦ rw w.top-is (tops_next m l.p l.top w.if-top-map.true l.invariant.1)
-      | else-top-map w ↦ rw w.top-is (tops_same m l.p l.top w.if-top-map.false l.invariant.1)
+        | then-top-map w ↦ rw w.top-is (tops_next m l.p l.top w.if-top-map.true l.invariant.1)
+        | else-top-map w ↦ rw w.top-is (tops_same m l.p l.top w.if-top-map.false l.invariant.1)
       ],
     )
 

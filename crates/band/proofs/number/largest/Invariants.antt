@@ -1,12 +1,8 @@
 -- `band::number::largest` meets its contract: after p entries it has the largest of them.
 -- Assumes nothing.
-use mathlib.Core.Path.{◌≡◌}
-use mathlib.Core.Logic.{⊎_elim}
-use Prim.Native.Nat.{◌≤◌, ◌-◌, ◌+◌}
-use native.Mathlib.Omega.{arith}
+use Prim.Native.Nat.{◌≤◌, ◌-◌}
 use lib.ListN.{length}
-use Rattle.band.specs.Band.{all_below}
-use Rattle.band.proofs.Below.{Tops, tops_none, tops_next, tops_same}
+use Rattle.band.proofs.Below.{Tops}
 use Rattle.band.proofs.number.largest.Given as goal
 
 abbrev pub invariant-loop-p : goal.invariant-loop-p

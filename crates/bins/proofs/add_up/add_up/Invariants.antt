@@ -1,18 +1,10 @@
 -- `bins::add_up::add_up` meets its contract: after each plane the sum is that of the planes so far.
 -- Assumes nothing.
-use mathlib.Core.Path.{◌≡◌, refl, ap, ◌∙◌}
-use Prim.Native.Nat.{ℕ, ◌+◌, ◌-◌, ◌≤◌}
-use native.Mathlib.Nat.{le_of_lt}
-use native.Mathlib.Omega.{arith}
-use borrow.Author.Rules.{rules}
-use Rattle.grid.proofs.Places.{one}
-use Rattle.grid.proofs.Size.{size_high}
+use mathlib.Core.Path.{◌≡◌}
+use Prim.Native.Nat.{◌-◌, ◌≤◌}
 use Rattle.table.specs.Cell.{cell_of}
 use Rattle.table.specs.Layout.{laid_view}
-use Rattle.boxes.proofs.Within.{sides}
-use Rattle.bins.specs.Sum.{sum3, bin_sum, box_sum, box_cell}
-use Rattle.bins.specs.Inner.{row_sum, plane_sum, planes_sum}
-use Rattle.bins.proofs.Rows.{none_added, next_fits, next_added, planes_small}
+use Rattle.bins.specs.Inner.{planes_sum}
 use Rattle.bins.proofs.add_up.add_up.Given as goal
 
 abbrev pub invariant-loop-r : goal.invariant-loop-r

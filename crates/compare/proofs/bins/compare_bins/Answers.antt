@@ -2,7 +2,7 @@
 -- those of them that differ are counted.
 -- Assumes nothing.
 use mathlib.Core.Path.{◌≡◌, sym, ap, ◌∙◌}
-use Prim.Native.Nat.{◌+◌, ◌-◌, ◌^◌, ◌≤◌, ◌<◌}
+use Prim.Native.Nat.{◌+◌, ◌^◌, ◌<◌}
 use native.Mathlib.Omega.{arith}
 use borrow.Author.Rules.{rules}
 use Rattle.grid.proofs.Places.{bins_high}
@@ -10,8 +10,8 @@ use Rattle.grid.specs.Grid.{bins_of}
 use Rattle.table.specs.Table.{table_len, view_of}
 use Rattle.table.proofs.Tables.{has_cell}
 use Rattle.compare.specs.Compare.{differs, differing, first_differing}
-use Rattle.compare.proofs.Places.{Found, none_found, one_more, all_found, one, one_at_most, byte_is, count_high}
-use Rattle.compare.proofs.Differences.{Written, none_written, one_written, has_place, cells_tell, all_written}
+use Rattle.compare.proofs.Places.{none_found, one_more, all_found, one, one_at_most, byte_is, count_high}
+use Rattle.compare.proofs.Differences.{none_written, one_written, has_place, cells_tell, all_written}
 use Rattle.compare.proofs.Differences.{cell_small}
 use Rattle.compare.proofs.bins.compare_bins.Goals as goal
 
@@ -23,7 +23,6 @@ loop-p-init c = (
   omega arith,
   none_written _ _ _ _ (rw c.bins-n.ensures c.requires.list),
   none_found _ _,
-
 )
 
 pub cell_at-a-requires : goal.cell_at-a-requires

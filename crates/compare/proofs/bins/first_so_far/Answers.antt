@@ -1,6 +1,5 @@
 -- `compare::bins::first_so_far` meets its contract: the place is another only where none was found before.
 -- Assumes nothing.
-use mathlib.Core.Path.{refl}
 use borrow.Author.Tests.{eq-eqb, ne_eqb}
 use Rattle.compare.proofs.bins.first_so_far.Goals as goal
 

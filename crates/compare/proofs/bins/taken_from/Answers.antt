@@ -7,7 +7,7 @@ use Prim.Native.Nat.{ℕ, ◌^◌, ◌<◌}
 use native.Mathlib.Nat.{lt_trans}
 use borrow.Author.Rules.{rules}
 use lib.Dec.{lit<}
-use lib.IntN.{ℤ, pos, ◌-ℤ◌}
+use lib.IntN.{pos, ◌-ℤ◌}
 use mir.Syntax.{w64}
 use mir.Val.{SFits, to_z}
 use mir.ValLaws.{to_z-of_z}

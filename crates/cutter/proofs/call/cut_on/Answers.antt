@@ -79,11 +79,14 @@ cut_boxes-b-requires c =
 pub put_results-requires : goal.put_results-requires
 put_results-requires c =
     let s = (goal.at-put_results-requires c).Start in
-    let e = c.cut_boxes-b.ensures in record { can_sum = (can_sum s _ c.ready.ensures, the_boxes s e); boxes_in_bounds = (
+    let e = c.cut_boxes-b.ensures in record {
+      can_sum = (can_sum s _ c.ready.ensures, the_boxes s e);
+      boxes_in_bounds = (
         omega (arith, few s e, s.requires.lengths_fit.palette),
         le_trans (few s e) s.requires.lengths_fit.counts,
         omega (arith, few s e, s.requires.lengths_fit.remainders),
-      ) }
+      );
+    }
 
 pub fill_boxes-requires : goal.fill_boxes-requires
 fill_boxes-requires c =

@@ -40,5 +40,8 @@ returns c =
     s.args.map.now in
     let later : Buffers = cut_later Bins s.args.b1 s.args.b2 s.args.b3 s.args.k s.args.table.now
     lent in
-    let left = bins_leave_work Wide s.args.b1 s.args.b2 s.args.b3 s.args.k s.args.table.now lent in record { answer = e.answer; later = ap (λ (b : Buffers). record { work = no_work; results = b.results }) e.later
-          ∙ (λ i. record { work = sym left i; results = later.results }) }
+    let left = bins_leave_work Wide s.args.b1 s.args.b2 s.args.b3 s.args.k s.args.table.now lent in record {
+      answer = e.answer;
+      later = ap (λ (b : Buffers). record { work = no_work; results = b.results }) e.later
+          ∙ (λ i. record { work = sym left i; results = later.results });
+    }

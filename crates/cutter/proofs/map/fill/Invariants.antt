@@ -1,13 +1,9 @@
 -- `cutter::map::fill` meets its contract: after each place the run up to it is filled.
 -- Assumes nothing.
-use mathlib.Core.Path.{◌≡◌, ap, ◌∙◌}
-use Prim.Native.Nat.{ℕ, ◌≤◌, ◌-◌}
-use mathlib.Core.List.{List}
-use native.Mathlib.Omega.{arith}
-use lib.ListN.{length, set}
+use mathlib.Core.Path.{◌≡◌}
+use Prim.Native.Nat.{◌≤◌, ◌-◌}
 use Rattle.boxes.specs.Holds.{lies}
 use Rattle.cutter.specs.Inner.{fill_where}
-use Rattle.cutter.proofs.Filled.{length_fill, run_start, run_next}
 use Rattle.cutter.proofs.map.fill.Given as goal
 
 abbrev pub invariant-loop-p : goal.invariant-loop-p

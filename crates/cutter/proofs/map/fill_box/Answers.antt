@@ -1,14 +1,12 @@
 -- `cutter::map::fill_box` meets its contract: after each plane the planes so far are filled.
 -- Assumes nothing.
 use mathlib.Core.Path.{◌≡◌, ap, ◌∙◌}
-use Prim.Native.Nat.{◌≤◌, ◌-◌}
 use native.Mathlib.Omega.{arith}
 use lib.ListN.{length}
 use Rattle.basics.specs.Dimension.{choose}
-use Rattle.boxes.specs.Box.{low_side, min_at, max_at}
+use Rattle.boxes.specs.Box.{min_at, max_at}
 use Rattle.boxes.proofs.Within.{sides}
-use Rattle.boxes.specs.Holds.{holds_at}
-use Rattle.cutter.specs.Inner.{fill_where, fill_of}
+use Rattle.cutter.specs.Inner.{fill_of}
 use Rattle.cutter.proofs.Filled.{length_fill, slices_none, slices_more, slices_all}
 use Rattle.cutter.proofs.map.fill_box.Goals as goal
 

@@ -2,18 +2,14 @@
 -- Assumes nothing.
 -- the rows from g0 to g1 of a plane
 use mathlib.Core.Path.{◌≡◌, ap, ◌∙◌}
-use Prim.Native.Nat.{ℕ, ◌+◌, ◌≤◌, ◌-◌}
 use native.Mathlib.Omega.{arith}
 use lib.ListN.{length}
 use Rattle.basics.specs.Dimension.{choose}
-use Rattle.boxes.specs.declared.sides.Bounds.{Bounds}
 use Rattle.boxes.specs.Box.{low_side, high_side, min_at, max_at}
 use Rattle.boxes.proofs.Within.{sides}
-use Rattle.boxes.specs.Holds.{holds_at, slice}
-use Rattle.cutter.specs.Inner.{fill_where}
+use Rattle.boxes.specs.Holds.{slice}
 use Rattle.cutter.proofs.Filled.{length_fill, slices_none, slices_all, row_inside, row_fits, row_small}
 use Rattle.cutter.proofs.Filled.{row_filled}
-use Rattle.cutter.proofs.map.fill_plane.Invariants.{rows}
 use Rattle.cutter.proofs.map.fill_plane.Goals as goal
 
 pub overflow_cast-b0 : goal.overflow_cast-b0

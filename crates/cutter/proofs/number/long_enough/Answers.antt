@@ -4,7 +4,6 @@ use mathlib.Core.Path.{◌≡◌, sym, ap, ◌∙◌}
 use mathlib.Core.Bool.{true}
 use Prim.Native.Nat.{ℕ}
 use borrow.Author.Rules.{rules}
-use borrow.Author.Tests.{not-true, not-false}
 use lib.Dec.{eqb}
 use Rattle.cutter.specs.Cut.{Lengths, work_fits}
 use Rattle.cutter.proofs.Refusals.{table_wrong, work_wrong, palette_short, counts_short, remainders_short}

@@ -5,7 +5,6 @@ use mathlib.Core.Bool.{Bool, true}
 use Prim.Native.Nat.{ℕ}
 use native.Mathlib.Omega.{arith}
 use borrow.Author.Rules.{rules}
-use borrow.Author.Tests.{not-true, not-false}
 use Rattle.grid.specs.Grid.{bins_of}
 use Rattle.table.specs.Cell.{View}
 use Rattle.table.specs.Layout.{laid, laid_view, is_sized_in}

@@ -44,7 +44,11 @@ pub returns : goal.returns
 returns c =
     let s = c in
     let v = laid_view s.args.layout s.args.small.now s.args.large.now in
-    let sums = c.box_sum-s.ensures in record { palette = c.put_colour.ensures
-          ∙ ap (with_colour_at s.args.palette.now s.args.i) (stats_colour_lem s.args.g v s.args.x sums); counts = c.put_count.ensures
-            ∙ ap (set s.args.counts.now s.args.i) (stats_count s.args.g v s.args.x sums); remainders = c.put_remainders.ensures
-            ∙ ap (with_three_at s.args.remainders.now s.args.i) (stats_remainders_lem s.args.g v s.args.x sums) }
+    let sums = c.box_sum-s.ensures in record {
+      palette = c.put_colour.ensures
+          ∙ ap (with_colour_at s.args.palette.now s.args.i) (stats_colour_lem s.args.g v s.args.x sums);
+      counts = c.put_count.ensures
+          ∙ ap (set s.args.counts.now s.args.i) (stats_count s.args.g v s.args.x sums);
+      remainders = c.put_remainders.ensures
+          ∙ ap (with_three_at s.args.remainders.now s.args.i) (stats_remainders_lem s.args.g v s.args.x sums);
+    }

@@ -1,17 +1,10 @@
 -- `cutter::results::fill_boxes` meets its contract: after each box, the map is filled by the boxes so far.
 -- Assumes nothing.
-use mathlib.Core.Path.{◌≡◌, refl, sym, ap, subst, ◌∙◌}
-use mathlib.Core.List.{List}
-use Prim.Native.Nat.{◌-◌, ◌≤◌, ◌<◌}
-use native.Mathlib.Omega.{arith}
-use lib.ListN.{length, take}
-use Rattle.boxes.specs.declared.sides.Bounds.{Bounds}
-use Rattle.boxes.specs.Box.{Within}
-use Rattle.boxes.specs.Box.{no_box}
-use Rattle.cutter.specs.Inner.{fill_of, fill_from}
+use mathlib.Core.Path.{◌≡◌}
+use Prim.Native.Nat.{◌-◌, ◌≤◌}
+use lib.ListN.{take}
+use Rattle.cutter.specs.Inner.{fill_from}
 use Rattle.cutter.specs.Cut.{list_of}
-use Rattle.cutter.proofs.Maps.{length_filled, filled_none, filled_next}
-use Rattle.cutter.proofs.Listed.{list_length, list_item, take_listed}
 use Rattle.cutter.proofs.results.fill_boxes.Given as goal
 
 abbrev pub invariant-loop-at : goal.invariant-loop-at

@@ -3,7 +3,7 @@
 -- Assumes nothing.
 use mathlib.Core.Path.{◌≡◌, refl, sym, ap, subst, ◌∙◌}
 use mathlib.Core.List.{List}
-use Prim.Native.Nat.{ℕ, ◌-◌, ◌*◌, ◌≤◌, ◌<◌}
+use Prim.Native.Nat.{ℕ, ◌*◌, ◌≤◌, ◌<◌}
 use native.Mathlib.Nat.{le_of_lt}
 use native.Mathlib.Omega.{arith}
 use lib.ListN.{length, take}
@@ -68,7 +68,6 @@ loop-i-init c = (
   sym (filled_none 3 _ (three _ _) _),
   sym (filled_none 1 _ (one _ _) _),
   sym (filled_none 3 _ (three_left _ _) _),
-
 )
 
 pub offset_bounds-places-i : goal.offset_bounds-places-i
@@ -82,15 +81,18 @@ put_result-requires c =
     let s = (goal.at-put_result-requires c).Start in
     let l = c.loop-i in
     let f = s.requires.can_sum.1 in
-    let t : l.i < s.args.b.boxes = omega (arith, c.loop-i-test.true) in record { can_sum = (
+    let t : l.i < s.args.b.boxes = omega (arith, c.loop-i-test.true) in record {
+      can_sum = (
         s.requires.can_sum.0,
         subst (Occupied s.args.g (view s)) (sym (list_item f.placed l.i t refl))
             (record { within = f.placed.within l.i t; some = f.some l.i t }),
-      ); i_in_bounds = (
+      );
+      i_in_bounds = (
         omega (arith, ap length l.invariant.1, palette_long s l.i (le_of_lt t), s.requires.boxes_in_bounds.0),
         omega (arith, ap length l.invariant.2, counts_long s l.i (le_of_lt t), s.requires.boxes_in_bounds.1),
         omega (arith, ap length l.invariant.3, remainders_long s l.i (le_of_lt t), s.requires.boxes_in_bounds.2),
-      ) }
+      );
+    }
 
 pub overflow_add-i : goal.overflow_add-i
 overflow_add-i c = omega (arith, c.loop-i-test.true, c.requires.can_sum.1.placed.few)

@@ -1,13 +1,13 @@
 -- `grid::steps::strides` meets its contract: the loop fills the table from the front, one value after the other.
 -- Assumes nothing.
-use mathlib.Core.Path.{◌≡◌, refl, ap}
-use Prim.Native.Nat.{◌≤◌, ◌-◌, ◌*◌, ℕ}
+use mathlib.Core.Path.{refl, ap}
+use Prim.Native.Nat.{◌≤◌, ◌*◌, ℕ}
 use native.Mathlib.Nat.{mul-le-mul}
 use native.Mathlib.Omega.{arith}
 use lib.Pow.{shr_le}
-use lib.ListN.{length, length-set}
+use lib.ListN.{length-set}
 use Rattle.grid.specs.Size.{bin_of}
-use Rattle.basics.proofs.Range.{Filled, filled_more, list_is}
+use Rattle.basics.proofs.Range.{filled_more, list_is}
 use Rattle.grid.proofs.steps.strides.Goals as goal
 
 pub loop-c-init : goal.loop-c-init

@@ -1,13 +1,10 @@
 -- `grid::steps::strides` meets its contract: the loop fills the table from the front, one value after the other.
 -- Assumes nothing.
-use mathlib.Core.Path.{◌≡◌, refl, ap}
-use Prim.Native.Nat.{◌≤◌, ◌-◌, ◌*◌, ℕ}
-use native.Mathlib.Nat.{mul-le-mul}
-use native.Mathlib.Omega.{arith}
-use lib.Pow.{shr_le}
-use lib.ListN.{length, length-set}
+use mathlib.Core.Path.{◌≡◌}
+use Prim.Native.Nat.{◌≤◌, ◌-◌, ◌*◌}
+use lib.ListN.{length}
 use Rattle.grid.specs.Size.{bin_of}
-use Rattle.basics.proofs.Range.{Filled, filled_more, list_is}
+use Rattle.basics.proofs.Range.{Filled}
 use Rattle.grid.proofs.steps.strides.Given as goal
 
 abbrev pub invariant-loop-c : goal.invariant-loop-c

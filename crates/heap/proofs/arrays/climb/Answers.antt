@@ -1,12 +1,11 @@
 -- `heap::arrays::climb` meets its contract: what is to enter at the hole is the same wherever the hole stands.
 -- Assumes nothing.
-use mathlib.Core.Path.{◌≡◌, refl, sym, ap, ◌∙◌}
+use mathlib.Core.Path.{refl, sym, ap, ◌∙◌}
 use mathlib.Core.List.{List}
-use Prim.Native.Nat.{◌<◌}
 use native.Mathlib.Omega.{arith}
 use lib.Ieee.{lt}
 use Rattle.heap.specs.Heap.{parent, enter}
-use Rattle.heap.specs.TwoArrays.{TwoArrays, PackedBox, by_spread, no_item, items_of}
+use Rattle.heap.specs.TwoArrays.{PackedBox, by_spread, no_item}
 use Rattle.heap.proofs.Steps.{enter_on, enter_stays, enter_ends}
 use Rattle.heap.proofs.TwoArrays.{items_long, spread_at_lem, lent_set, written, copied, arrays_are}
 use Rattle.heap.proofs.arrays.climb.Goals as goal

@@ -1,14 +1,9 @@
 -- `heap::arrays::climb` meets its contract: what is to enter at the hole is the same wherever the hole stands.
 -- Assumes nothing.
-use mathlib.Core.Path.{◌≡◌, refl, sym, ap, ◌∙◌}
-use mathlib.Core.List.{List}
+use mathlib.Core.Path.{◌≡◌}
 use Prim.Native.Nat.{◌<◌}
-use native.Mathlib.Omega.{arith}
-use lib.Ieee.{lt}
-use Rattle.heap.specs.Heap.{parent, enter}
-use Rattle.heap.specs.TwoArrays.{TwoArrays, PackedBox, by_spread, no_item, items_of}
-use Rattle.heap.proofs.Steps.{enter_on, enter_stays, enter_ends}
-use Rattle.heap.proofs.TwoArrays.{items_long, spread_at_lem, lent_set, written, copied, arrays_are}
+use Rattle.heap.specs.Heap.{enter}
+use Rattle.heap.specs.TwoArrays.{TwoArrays, by_spread, no_item, items_of}
 use Rattle.heap.proofs.arrays.climb.Given as goal
 
 abbrev pub invariant-loop-p : goal.invariant-loop-p

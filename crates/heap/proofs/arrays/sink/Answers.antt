@@ -3,11 +3,11 @@
 -- Assumes nothing.
 use mathlib.Core.Path.{◌≡◌, refl, sym, ap, subst, ◌∙◌}
 use mathlib.Core.List.{List}
-use Prim.Native.Nat.{ℕ, ◌+◌, ◌-◌, ◌*◌, ◌≤◌, ◌<◌}
+use Prim.Native.Nat.{ℕ, ◌+◌, ◌*◌, ◌≤◌, ◌<◌}
 use native.Mathlib.Omega.{arith}
 use lib.ListN.{set}
 use Rattle.heap.specs.Heap.{Holed, item, child, sink}
-use Rattle.heap.specs.TwoArrays.{TwoArrays, PackedBox, by_spread, no_item, items_of}
+use Rattle.heap.specs.TwoArrays.{PackedBox, by_spread, no_item, items_of}
 use Rattle.heap.proofs.Steps.{child_is, sink_on, sink_left, sink_ends}
 use Rattle.heap.proofs.TwoArrays.{lent_set, copied, arrays_are, child_at}
 use Rattle.heap.proofs.arrays.sink.Goals.{After-child-up}
@@ -81,10 +81,10 @@ returns-then-left-len c =
     let lent = l.invariant.1 in
     let e = c.copy_to-then-left-len.ensures in
     let ends = l.invariant.2 ∙ sink_left by_spread no_item _ _ l.hole (omega arith) (omega arith) in let rest = arrays_are (lent_set lent l.hole _ _ e.spreads e.boxes)
-          (copied lent _ l.hole e.spreads e.boxes ∙ sym (ap (λ (s : Holed PackedBox). s.room) ends)) in record { hole = sym (ap (λ (s : Holed PackedBox). s.hole) ends); spreads = rest.0; boxes = rest.1 }
+    (copied lent _ l.hole e.spreads e.boxes ∙ sym (ap (λ (s : Holed PackedBox). s.room) ends)) in record { hole = sym (ap (λ (s : Holed PackedBox). s.hole) ends); spreads = rest.0; boxes = rest.1 }
 
 pub returns : goal.returns
 returns c =
     let l = c.loop-hole in
     let ends = l.invariant.2 ∙ sink_ends by_spread no_item _ _ l.hole (omega arith) in let rest = arrays_are l.invariant.1
-          (sym (ap (λ (s : Holed PackedBox). s.room) ends)) in record { hole = sym (ap (λ (s : Holed PackedBox). s.hole) ends); spreads = rest.0; boxes = rest.1 }
+    (sym (ap (λ (s : Holed PackedBox). s.room) ends)) in record { hole = sym (ap (λ (s : Holed PackedBox). s.hole) ends); spreads = rest.0; boxes = rest.1 }

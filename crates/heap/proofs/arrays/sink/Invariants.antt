@@ -1,15 +1,10 @@
 -- `heap::arrays::sink` meets its contract: where the hole ends, and the room then, are the same wherever the hole
 -- stands on its way.
 -- Assumes nothing.
-use mathlib.Core.Path.{◌≡◌, refl, sym, ap, subst, ◌∙◌}
-use mathlib.Core.List.{List}
-use Prim.Native.Nat.{ℕ, ◌+◌, ◌-◌, ◌*◌, ◌≤◌, ◌<◌}
-use native.Mathlib.Omega.{arith}
-use lib.ListN.{set}
-use Rattle.heap.specs.Heap.{Holed, item, child, sink}
-use Rattle.heap.specs.TwoArrays.{TwoArrays, PackedBox, by_spread, no_item, items_of}
-use Rattle.heap.proofs.Steps.{child_is, sink_on, sink_left, sink_ends}
-use Rattle.heap.proofs.TwoArrays.{lent_set, copied, arrays_are, child_at}
+use mathlib.Core.Path.{◌≡◌}
+use Prim.Native.Nat.{◌-◌, ◌<◌}
+use Rattle.heap.specs.Heap.{sink}
+use Rattle.heap.specs.TwoArrays.{TwoArrays, by_spread, no_item, items_of}
 use Rattle.heap.proofs.arrays.sink.Given as goal
 
 abbrev pub invariant-loop-hole : goal.invariant-loop-hole

@@ -38,12 +38,15 @@ climb-requires c =
     let e = c.sink-hole.ensures in
     let others : 0 < s.args.len - 1 = omega arith in
     let long = items_long s.requires.two_arrays in
-    let fits : s.args.len - 1 ≤ length (items_of s.args.spreads.now s.args.boxes.now) = omega arith in record { two_arrays = lent_of _ e.spreads e.boxes (sink_long by_spread no_item _ _ others fits ∙ long); at_bound = omega (
+    let fits : s.args.len - 1 ≤ length (items_of s.args.spreads.now s.args.boxes.now) = omega arith in record {
+      two_arrays = lent_of _ e.spreads e.boxes (sink_long by_spread no_item _ _ others fits ∙ long);
+      at_bound = omega (
         arith,
         e.hole,
         sink_within by_spread no_item (s.args.len - 1)
             (items_of s.args.spreads.now s.args.boxes.now) others fits,
-      ) }
+      );
+    }
 
 pub returns : goal.returns
 returns c =

@@ -1,11 +1,9 @@
 -- `inputs::frames::to_front` meets its contract: a byte is read before its place is written.
 -- Assumes nothing.
-use mathlib.Core.Path.{◌≡◌, refl, sym, ap, ◌∙◌}
-use Prim.Native.Nat.{◌-◌, ◌≤◌}
+use mathlib.Core.Path.{refl, ◌∙◌}
 use native.Mathlib.Omega.{arith}
-use borrow.Author.Rules.{rules}
-use lib.ListN.{length, length-set}
-use Rattle.inputs.proofs.Moving.{moved, none_moved, one_moved, all_moved}
+use lib.ListN.{length-set}
+use Rattle.inputs.proofs.Moving.{none_moved, one_moved, all_moved}
 use Rattle.inputs.proofs.frames.to_front.Goals as goal
 
 pub overflow_sub-n : goal.overflow_sub-n

@@ -1,11 +1,9 @@
 -- `inputs::frames::to_front` meets its contract: a byte is read before its place is written.
 -- Assumes nothing.
-use mathlib.Core.Path.{◌≡◌, refl, sym, ap, ◌∙◌}
+use mathlib.Core.Path.{◌≡◌}
 use Prim.Native.Nat.{◌-◌, ◌≤◌}
-use native.Mathlib.Omega.{arith}
-use borrow.Author.Rules.{rules}
-use lib.ListN.{length, length-set}
-use Rattle.inputs.proofs.Moving.{moved, none_moved, one_moved, all_moved}
+use lib.ListN.{length}
+use Rattle.inputs.proofs.Moving.{moved}
 use Rattle.inputs.proofs.frames.to_front.Given as goal
 
 abbrev pub invariant-loop-i : goal.invariant-loop-i

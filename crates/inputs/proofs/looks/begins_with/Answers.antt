@@ -1,10 +1,7 @@
 -- `inputs::looks::begins_with` meets its contract, byte by byte.
 -- Assumes nothing.
-use mathlib.Core.Path.{◌≡◌, refl, sym, ◌∙◌}
-use Prim.Native.Nat.{◌-◌, ◌≤◌}
+use mathlib.Core.Path.{refl, sym, ◌∙◌}
 use native.Mathlib.Omega.{arith}
-use lib.ListN.{length, drop}
-use Rattle.inputs.specs.Frames.{begins_with}
 use Rattle.inputs.proofs.Words.{too_short, same_byte, other_byte, word_ends}
 use Rattle.inputs.proofs.looks.begins_with.Goals as goal
 

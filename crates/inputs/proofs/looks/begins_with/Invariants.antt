@@ -1,11 +1,9 @@
 -- `inputs::looks::begins_with` meets its contract, byte by byte.
 -- Assumes nothing.
-use mathlib.Core.Path.{◌≡◌, refl, sym, ◌∙◌}
+use mathlib.Core.Path.{◌≡◌}
 use Prim.Native.Nat.{◌-◌, ◌≤◌}
-use native.Mathlib.Omega.{arith}
 use lib.ListN.{length, drop}
 use Rattle.inputs.specs.Frames.{begins_with}
-use Rattle.inputs.proofs.Words.{too_short, same_byte, other_byte, word_ends}
 use Rattle.inputs.proofs.looks.begins_with.Given as goal
 
 abbrev pub invariant-loop-i : goal.invariant-loop-i

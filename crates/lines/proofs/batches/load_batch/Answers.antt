@@ -30,5 +30,8 @@ returns c =
     let front : ℕ → List ℕ = λ n. take n a.batch.now in
     let number = c.lower.ensures
     ∙ ap (lower_of a.lowest)
-    (load.number ∙ ap (λ (n : ℕ). part_number a.table.now (front n)) (sub-zero a.filled)) in record { answer = λ i. record { number = number i; more = eqb a.filled (length a.batch.now) }; later = load.later
-          ∙ ap (λ (n : ℕ). part_later a.table.now (front n)) (sub-zero a.filled) }
+    (load.number ∙ ap (λ (n : ℕ). part_number a.table.now (front n)) (sub-zero a.filled)) in record {
+      answer = λ i. record { number = number i; more = eqb a.filled (length a.batch.now) };
+      later = load.later
+          ∙ ap (λ (n : ℕ). part_later a.table.now (front n)) (sub-zero a.filled);
+    }

@@ -27,12 +27,15 @@ returns c =
     let end = c in
     let rounds = end in
     let total = rounds in
-    let boxes = total in record { put = put_more
+    let boxes = total in record {
+      put = put_more
           (put_more (put_more boxes.named-first.ensures.put total.named-second.ensures.put) rounds.named-last.ensures.put)
-          end.byte.ensures; fits = omega (
+          end.byte.ensures;
+      fits = omega (
         arith,
         end.byte.ensures.ends,
         rounds.named-last.ensures.fits,
         total.named-second.ensures.fits,
         boxes.named-first.ensures.fits,
-      ) }
+      );
+    }

@@ -35,7 +35,8 @@ returns c =
     let blue = count in
     let green = blue in
     let red = green in
-    let index = red in record { put = put_more
+    let index = red in record {
+      put = put_more
           (put_more
           (put_more
           (put_more
@@ -43,7 +44,8 @@ returns c =
           green.field-third.ensures.put)
           blue.field-fourth.ensures.put)
           count.field-last.ensures.put)
-          end.byte.ensures; fits = omega (
+          end.byte.ensures;
+      fits = omega (
         arith,
         end.byte.ensures.ends,
         count.field-last.ensures.fits,
@@ -51,4 +53,5 @@ returns c =
         green.field-third.ensures.fits,
         red.field-second.ensures.fits,
         index.number-first.ensures.fits,
-      ) }
+      );
+    }

@@ -1,12 +1,7 @@
 -- `lines::listing::listing` meets its contract: after each turn the first line and the lines so far are put.
 -- Assumes nothing.
-use mathlib.Core.Path.{◌≡◌, ◌∙◌}
 use Prim.Native.Nat.{◌+◌, ◌-◌, ◌*◌, ◌≤◌}
-use native.Mathlib.Omega.{arith}
-use native.Mathlib.Numerals.{add-one}
-use borrow.Author.Rules.{rules}
-use Rattle.lines.specs.Text.{lines_of, listing_of, Put}
-use Rattle.lines.proofs.Putting.{put_none, put_more, put_length, put_whole}
+use Rattle.lines.specs.Text.{lines_of, Put}
 use Rattle.lines.proofs.listing.listing.Given as goal
 
 abbrev pub invariant-loop-i : goal.invariant-loop-i

@@ -1,13 +1,7 @@
 -- `lines::listing::total` meets its contract: the sum so far is that of the counts passed, each below 2^32.
 -- Assumes nothing.
-use mathlib.Core.Path.{◌≡◌, refl, sym, ap, ◌∙◌}
-use Prim.Native.Nat.{ℕ, ◌+◌, ◌-◌, ◌*◌, ◌≤◌}
-use mathlib.Core.List.{List}
-use native.Mathlib.Nat.{zero-add}
-use native.Mathlib.Omega.{arith}
-use lib.ListN.{get_or}
-use Rattle.basics.specs.Range.{sum_from}
-use Rattle.basics.proofs.Range.{sum_last}
+use mathlib.Core.Path.{◌≡◌}
+use Prim.Native.Nat.{◌-◌, ◌*◌, ◌≤◌}
 use Rattle.lines.specs.Text.{total_of}
 use Rattle.lines.proofs.listing.total.Given as goal
 

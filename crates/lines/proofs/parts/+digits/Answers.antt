@@ -1,6 +1,6 @@
 -- The proof of the cycle of calls {digits}. The measure is the number, and its tenth is below it.
 -- Assumes nothing.
-use Rattle.std.proofs.Common.{length, length-append, ap, arith, rules}
+use Rattle.std.proofs.Common.{length, length-append, ap, arith}
 use Rattle.lines.proofs.Decimal.{decimal_one, decimal_more, tenth}
 use Rattle.lines.proofs.Putting.{put_more, put_length}
 use Rattle.lines.proofs.parts.+digits.Goals as goal

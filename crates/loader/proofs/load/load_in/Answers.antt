@@ -19,6 +19,9 @@ pub returns : goal.returns
 returns c =
     let l = c.load_scaled_in in
     let a = c.args in
-    let t : TableIn a.layout = laid a.layout a.small.now a.large.now in record { number = l.ensures.number
-          ∙ once_number a.colours.now a.weighted a.weights.now a.layout a.b1 a.b2 a.b3 t; later = l.ensures.later
-          ∙ once_later a.colours.now a.weighted a.weights.now a.layout a.b1 a.b2 a.b3 t }
+    let t : TableIn a.layout = laid a.layout a.small.now a.large.now in record {
+      number = l.ensures.number
+          ∙ once_number a.colours.now a.weighted a.weights.now a.layout a.b1 a.b2 a.b3 t;
+      later = l.ensures.later
+          ∙ once_later a.colours.now a.weighted a.weights.now a.layout a.b1 a.b2 a.b3 t;
+    }

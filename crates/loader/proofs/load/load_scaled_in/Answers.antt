@@ -2,12 +2,10 @@
 -- Assumes nothing.
 -- where the call stood: on entry, once the grid is accepted, once the weights pair, and once the length is right
 use mathlib.Core.List.{List}
-use mathlib.Core.Logic.{⊎_elim}
 use mathlib.Core.Bool.{true, false, true≢false, not, ◌&&◌}
 use mathlib.Core.Path.{◌≡◌, refl, sym, ap, ◌∙◌}
 use Prim.Native.Nat.{ℕ, ◌/◌}
 use borrow.Author.Rules.{rules}
-use borrow.Author.Tests.{not-true, not-false}
 use lib.ListN.{length}
 use lib.Dec.{eqb}
 use Rattle.grid.specs.declared.place.Chosen.TheVariants as chosen
@@ -59,8 +57,8 @@ OneEach k = let a = (entry (on k)).args in length a.weights.now ≡ length a.col
 one_each : (k : Joined-weighted) → (entry (on k)).args.weighted ≡ true → OneEach k
 one_each k given =
     elim k.if-weighted.branch [
-      then-weighted+else-weights-colours w ↦ w.if-weights-colours.false
-    | else-weighted w ↦ absurd (true≢false (sym given ∙ w.if-weighted.false))
+      | then-weighted+else-weights-colours w ↦ w.if-weights-colours.false
+      | else-weighted w ↦ absurd (true≢false (sym given ∙ w.if-weighted.false))
     ]
 
 whole : (k : Joined-weighted) → let a = (entry (on k)).args in Whole a.colours.now a.weighted a.weights.now

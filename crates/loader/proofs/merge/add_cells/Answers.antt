@@ -2,15 +2,13 @@
 -- second added.
 -- Assumes nothing.
 use mathlib.Core.Path.{◌≡◌, refl}
-use Prim.Native.Nat.{◌≤◌, ◌-◌}
 use native.Mathlib.Omega.{arith}
 use borrow.Author.Rules.{rules}
-use lib.ListN.{length}
 use Rattle.grid.proofs.Places.{bins_high}
 use Rattle.table.specs.Cell.{View}
-use Rattle.table.specs.Layout.{laid, laid_view}
-use Rattle.table.proofs.Layouts.{cell_in, HoldsIn}
-use Rattle.loader.proofs.Merging.{partly, none_added, one_added, can_add, all_added, merge_sound}
+use Rattle.table.specs.Layout.{laid_view}
+use Rattle.table.proofs.Layouts.{cell_in}
+use Rattle.loader.proofs.Merging.{none_added, one_added, can_add, all_added, merge_sound}
 use Rattle.loader.proofs.merge.add_cells.Goals.{After-slice_known-in-loop-p-2-1, Start}
 use Rattle.loader.proofs.merge.add_cells.Goals as goal
 
@@ -30,7 +28,6 @@ loop-p-init c = (
   refl,
   refl,
   none_added _ _ _ _ (rw c.bins-n.ensures c.requires.first.lent),
-
 )
 
 pub cell_in-c-requires : goal.cell_in-c-requires

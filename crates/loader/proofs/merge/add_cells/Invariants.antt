@@ -1,16 +1,12 @@
 -- `loader::merge::add_cells` meets its contract: after p places the table holds its first p cells with those of the
 -- second added.
 -- Assumes nothing.
-use mathlib.Core.Path.{◌≡◌, refl}
+use mathlib.Core.Path.{◌≡◌}
 use Prim.Native.Nat.{◌≤◌, ◌-◌}
-use native.Mathlib.Omega.{arith}
-use borrow.Author.Rules.{rules}
 use lib.ListN.{length}
-use Rattle.grid.proofs.Places.{bins_high}
-use Rattle.table.specs.Cell.{View}
 use Rattle.table.specs.Layout.{laid, laid_view}
-use Rattle.table.proofs.Layouts.{cell_in, HoldsIn}
-use Rattle.loader.proofs.Merging.{partly, none_added, one_added, can_add, all_added, merge_sound}
+use Rattle.table.proofs.Layouts.{HoldsIn}
+use Rattle.loader.proofs.Merging.{partly}
 use Rattle.loader.proofs.merge.add_cells.Given as goal
 
 abbrev pub invariant-loop-p : goal.invariant-loop-p

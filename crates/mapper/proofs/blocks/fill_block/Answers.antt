@@ -1,7 +1,7 @@
 -- `mapper::blocks::fill_block` meets its contract: after k turns the band of k places is written.
 -- Assumes nothing.
 use mathlib.Core.Path.{◌≡◌, refl, ap, ◌∙◌}
-use Prim.Native.Nat.{ℕ, ◌+◌, ◌-◌, ◌≤◌}
+use Prim.Native.Nat.{ℕ}
 use native.Mathlib.Omega.{arith}
 use lib.ListN.{length}
 use Rattle.band.specs.Band.{write_band}

@@ -1,11 +1,8 @@
 -- `mapper::blocks::fill_block` meets its contract: after k turns the band of k places is written.
 -- Assumes nothing.
-use mathlib.Core.Path.{◌≡◌, refl, ap, ◌∙◌}
-use Prim.Native.Nat.{ℕ, ◌+◌, ◌-◌, ◌≤◌}
-use native.Mathlib.Omega.{arith}
-use lib.ListN.{length}
+use mathlib.Core.Path.{◌≡◌}
+use Prim.Native.Nat.{◌-◌, ◌≤◌}
 use Rattle.band.specs.Band.{write_band}
-use Rattle.band.proofs.Band.{band_length, band_empty, band_next}
 use Rattle.mapper.proofs.blocks.fill_block.Given as goal
 
 abbrev pub invariant-loop-k : goal.invariant-loop-k

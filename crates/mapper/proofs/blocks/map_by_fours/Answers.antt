@@ -1,7 +1,7 @@
 -- `mapper::blocks::map_by_fours` meets its contract: after k turns the band of 4 * k places is written.
 -- Assumes nothing.
 use mathlib.Core.Path.{◌≡◌, ap, ◌∙◌}
-use Prim.Native.Nat.{ℕ, ◌+◌, ◌-◌, ◌*◌, ◌≤◌}
+use Prim.Native.Nat.{ℕ, ◌+◌, ◌*◌}
 use lib.ListN.{length}
 use native.Mathlib.Omega.{arith}
 use Rattle.band.specs.Band.{index_at, write_band}

@@ -1,11 +1,8 @@
 -- `mapper::blocks::map_part` meets its contract: after i pixels the first i places hold their indices.
 -- Assumes nothing.
-use mathlib.Core.Path.{◌≡◌, ap, ◌∙◌}
+use mathlib.Core.Path.{◌≡◌}
 use Prim.Native.Nat.{◌-◌, ◌≤◌}
-use native.Mathlib.Omega.{arith}
-use lib.ListN.{length}
 use Rattle.band.specs.Band.{index_at, write_band}
-use Rattle.band.proofs.Band.{band_length, band_empty, front_more, front_rest}
 use Rattle.mapper.proofs.blocks.map_part.Given as goal
 
 abbrev pub invariant-loop-i : goal.invariant-loop-i

@@ -1,7 +1,7 @@
 -- `mapper::blocks::map_some` meets its contract: after k pixels the band of k places is written.
 -- Assumes nothing.
 use mathlib.Core.Path.{◌≡◌, ap, ◌∙◌}
-use Prim.Native.Nat.{ℕ, ◌+◌, ◌-◌, ◌≤◌}
+use Prim.Native.Nat.{ℕ}
 use lib.ListN.{length}
 use native.Mathlib.Omega.{arith}
 use Rattle.band.specs.Band.{index_at, write_band}

@@ -1,11 +1,8 @@
 -- `mapper::blocks::map_some` meets its contract: after k pixels the band of k places is written.
 -- Assumes nothing.
-use mathlib.Core.Path.{◌≡◌, ap, ◌∙◌}
-use Prim.Native.Nat.{ℕ, ◌+◌, ◌-◌, ◌≤◌}
-use lib.ListN.{length}
-use native.Mathlib.Omega.{arith}
+use mathlib.Core.Path.{◌≡◌}
+use Prim.Native.Nat.{◌-◌, ◌≤◌}
 use Rattle.band.specs.Band.{index_at, write_band}
-use Rattle.band.proofs.Band.{band_length, band_empty, band_next}
 use Rattle.mapper.proofs.blocks.map_some.Given as goal
 
 abbrev pub invariant-loop-k : goal.invariant-loop-k

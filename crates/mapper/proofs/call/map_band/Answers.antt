@@ -33,15 +33,18 @@ slice_bounds-map_part-count-2 c = search rules
 pub map_part-requires : goal.map_part-requires
 map_part-requires c =
     let s = c in
-    let a = s.args in record { look_up = record {
+    let a = s.args in record {
+      look_up = record {
         of_grid = s.requires.of_grid;
         one = c.steps-t1.ensures;
         two = c.steps-t2.ensures;
-      }; one_each = omega (
+      };
+      one_each = omega (
         arith,
         part_length a.first a.pixels a.indices.now s.requires.inside.1,
         mid_len (3 * a.first) (3 * (a.first + a.pixels)) a.frame.now (omega arith),
-      ) }
+      );
+    }
 
 pub shape_of-indices : goal.shape_of-indices
 shape_of-indices c = search rules

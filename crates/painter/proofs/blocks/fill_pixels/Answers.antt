@@ -1,7 +1,7 @@
 -- `painter::blocks::fill_pixels` meets its contract: after 48 + k bytes they have the colour.
 -- Assumes nothing.
 use mathlib.Core.Path.{◌≡◌, ap, ◌∙◌}
-use Prim.Native.Nat.{◌+◌, ◌-◌, ◌*◌, ◌≤◌}
+use Prim.Native.Nat.{◌+◌, ◌*◌}
 use native.Mathlib.Omega.{arith}
 use lib.ListN.{length}
 use Rattle.band.specs.Band.{write_band}

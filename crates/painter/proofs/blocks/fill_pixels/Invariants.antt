@@ -1,13 +1,9 @@
 -- `painter::blocks::fill_pixels` meets its contract: after 48 + k bytes they have the colour.
 -- Assumes nothing.
-use mathlib.Core.Path.{◌≡◌, ap, ◌∙◌}
-use Prim.Native.Nat.{◌+◌, ◌-◌, ◌*◌, ◌≤◌}
-use native.Mathlib.Omega.{arith}
-use lib.ListN.{length}
+use mathlib.Core.Path.{◌≡◌}
+use Prim.Native.Nat.{◌+◌, ◌-◌, ◌≤◌}
 use Rattle.band.specs.Band.{write_band}
 use Rattle.painter.specs.Inner.{fill_at}
-use Rattle.band.proofs.Band.{band_empty, band_length, band_join}
-use Rattle.painter.proofs.Runs.{run_copied}
 use Rattle.painter.proofs.blocks.fill_pixels.Given as goal
 
 abbrev pub invariant-loop-k : goal.invariant-loop-k

@@ -1,14 +1,9 @@
 -- `painter::blocks::fill_some` meets its contract: after k pixels the first k have the colour.
 -- Assumes nothing.
-use mathlib.Core.Path.{◌≡◌, ap, ◌∙◌}
-use mathlib.Core.List.{List}
-use Prim.Native.Nat.{ℕ, ◌≤◌, ◌+◌, ◌-◌, ◌*◌}
-use native.Mathlib.Omega.{arith}
-use lib.ListN.{length}
+use mathlib.Core.Path.{◌≡◌}
+use Prim.Native.Nat.{◌≤◌, ◌-◌, ◌*◌}
 use Rattle.band.specs.Band.{write_band}
 use Rattle.painter.specs.Inner.{fill_at}
-use Rattle.band.proofs.Band.{band_empty, band_length}
-use Rattle.painter.proofs.Runs.{run_join}
 use Rattle.painter.proofs.blocks.fill_some.Given as goal
 
 abbrev pub invariant-loop-k : goal.invariant-loop-k

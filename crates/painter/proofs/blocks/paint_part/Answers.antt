@@ -2,11 +2,9 @@
 -- were.
 -- Assumes nothing.
 use mathlib.Core.Path.{◌≡◌, ap, ◌∙◌}
-use Prim.Native.Nat.{◌≤◌, ◌-◌}
 use native.Mathlib.Omega.{arith}
 use lib.ListN.{length}
 use Rattle.band.proofs.Band.{band_empty, band_length}
-use Rattle.painter.specs.Inner.{painted_for}
 use Rattle.painter.proofs.Runs.{painted_on, painted_rest}
 use Rattle.painter.proofs.blocks.paint_part.Goals.{At-loop-i}
 use Rattle.painter.proofs.blocks.paint_part.Goals as goal

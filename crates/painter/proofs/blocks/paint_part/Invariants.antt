@@ -1,13 +1,9 @@
 -- `painter::blocks::paint_part` meets its contract: after i pixels the first i are painted and the others are as they
 -- were.
 -- Assumes nothing.
-use mathlib.Core.Path.{◌≡◌, ap, ◌∙◌}
+use mathlib.Core.Path.{◌≡◌}
 use Prim.Native.Nat.{◌≤◌, ◌-◌}
-use native.Mathlib.Omega.{arith}
-use lib.ListN.{length}
-use Rattle.band.proofs.Band.{band_empty, band_length}
 use Rattle.painter.specs.Inner.{painted_for}
-use Rattle.painter.proofs.Runs.{painted_on, painted_rest}
 use Rattle.painter.proofs.blocks.paint_part.Given as goal
 
 abbrev pub invariant-loop-i : goal.invariant-loop-i

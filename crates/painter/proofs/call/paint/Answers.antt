@@ -61,12 +61,15 @@ returns-then-number-ne0 c =
 
 pub paint_band-requires : goal.paint_band-requires
 paint_band-requires c =
-    let p = can (goal.at-paint_band-requires c).Else-number-ne0 in record { fits = record {
+    let p = can (goal.at-paint_band-requires c).Else-number-ne0 in record {
+      fits = record {
         of_grid = record { accepted = accepted (goal.at-paint_band-requires c).In-Accepted; lent = p.lent };
         some = p.some;
         few = p.few;
         below = p.below;
-      }; inside = omega (arith, p.inside, p.threes) }
+      };
+      inside = omega (arith, p.inside, p.threes);
+    }
 
 pub shape_of-frame : goal.shape_of-frame
 shape_of-frame c = search rules

@@ -1,13 +1,12 @@
 -- `painter::palette::packed_palette` meets its contract: after i colours the first i are packed.
 -- Assumes nothing.
-use mathlib.Core.Path.{◌≡◌, refl, ap, ◌∙◌}
-use Prim.Native.Nat.{◌≤◌, ◌-◌}
+use mathlib.Core.Path.{refl, ap, ◌∙◌}
 use native.Mathlib.Omega.{arith}
 use borrow.Author.Rules.{rules}
-use lib.ListN.{length, length-set}
+use lib.ListN.{length-set}
 use Rattle.pixels.specs.declared.colour.Rgb.{Rgb}
 use Rattle.pixels.specs.Colour.{component_at}
-use Rattle.painter.proofs.Packing.{PackedTo, packed_more}
+use Rattle.painter.proofs.Packing.{packed_more}
 use Rattle.painter.proofs.palette.packed_palette.Goals as goal
 
 pub loop-i-init : goal.loop-i-init

@@ -1,13 +1,9 @@
 -- `painter::palette::packed_palette` meets its contract: after i colours the first i are packed.
 -- Assumes nothing.
-use mathlib.Core.Path.{◌≡◌, refl, ap, ◌∙◌}
+use mathlib.Core.Path.{◌≡◌}
 use Prim.Native.Nat.{◌≤◌, ◌-◌}
-use native.Mathlib.Omega.{arith}
-use borrow.Author.Rules.{rules}
-use lib.ListN.{length, length-set}
-use Rattle.pixels.specs.declared.colour.Rgb.{Rgb}
-use Rattle.pixels.specs.Colour.{component_at}
-use Rattle.painter.proofs.Packing.{PackedTo, packed_more}
+use lib.ListN.{length}
+use Rattle.painter.proofs.Packing.{PackedTo}
 use Rattle.painter.proofs.palette.packed_palette.Given as goal
 
 abbrev pub invariant-loop-i : goal.invariant-loop-i

@@ -1,8 +1,7 @@
 -- `pixels::equal::differences` meets its contract: the loop counts from the front, and 192 fits a u8.
 -- Assumes nothing.
 use mathlib.Core.Path.{◌≡◌, refl, ap, ◌∙◌}
-use mathlib.Core.Logic.{⊎_elim}
-use Prim.Native.Nat.{ℕ, ◌+◌, ◌-◌, ◌≤◌}
+use Prim.Native.Nat.{ℕ, ◌+◌}
 use native.Mathlib.Omega.{arith}
 use Rattle.basics.specs.Range.{sum_from}
 use Rattle.pixels.specs.Equal.{differs}
@@ -48,8 +47,8 @@ loop-k-preserved c =
       omega arith,
       elim c.if-bytes-at.branch [ then-bytes-at w ↦ omega arith | else-bytes-at w ↦ omega arith ],
       elim c.if-bytes-at.branch [
-        then-bytes-at w ↦ omega (arith, last, unlike b (a.at + l.k) w.if-bytes-at.true)
-      | else-bytes-at w ↦ omega (arith, last, alike b (a.at + l.k) w.if-bytes-at.false)
+        | then-bytes-at w ↦ omega (arith, last, unlike b (a.at + l.k) w.if-bytes-at.true)
+        | else-bytes-at w ↦ omega (arith, last, alike b (a.at + l.k) w.if-bytes-at.false)
       ],
     )
 

@@ -1,13 +1,9 @@
 -- `pixels::equal::differences` meets its contract: the loop counts from the front, and 192 fits a u8.
 -- Assumes nothing.
-use mathlib.Core.Path.{◌≡◌, refl, ap, ◌∙◌}
-use mathlib.Core.Logic.{⊎_elim}
-use Prim.Native.Nat.{ℕ, ◌+◌, ◌-◌, ◌≤◌}
-use native.Mathlib.Omega.{arith}
+use mathlib.Core.Path.{◌≡◌}
+use Prim.Native.Nat.{◌-◌, ◌≤◌}
 use Rattle.basics.specs.Range.{sum_from}
 use Rattle.pixels.specs.Equal.{differs}
-use Rattle.basics.proofs.Range.{sum_last}
-use Rattle.pixels.proofs.EqualColours.{alike, unlike}
 use Rattle.pixels.proofs.equal.differences.Given as goal
 
 abbrev pub invariant-loop-k : goal.invariant-loop-k

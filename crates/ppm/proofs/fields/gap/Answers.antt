@@ -2,11 +2,8 @@
 -- Assumes nothing.
 use borrow.Author.Rules.{rules}
 use mathlib.Core.Path.{sym, ◌∙◌}
-use Prim.Native.Nat.{◌-◌}
 use native.Mathlib.Omega.{arith}
-use borrow.Author.Tests.{not-true, not-false}
-use lib.ListN.{length}
-use Rattle.ppm.proofs.Gaps.{GapTo, gap_starts, gap_goes, gap_ends, gap_cut}
+use Rattle.ppm.proofs.Gaps.{gap_starts, gap_goes, gap_ends, gap_cut}
 use Rattle.ppm.proofs.fields.gap.Goals as goal
 
 pub loop-p-init : goal.loop-p-init

@@ -1,12 +1,8 @@
 -- `ppm::fields::gap` meets its contract, byte by byte.
 -- Assumes nothing.
-use borrow.Author.Rules.{rules}
-use mathlib.Core.Path.{sym, ◌∙◌}
 use Prim.Native.Nat.{◌-◌}
-use native.Mathlib.Omega.{arith}
-use borrow.Author.Tests.{not-true, not-false}
 use lib.ListN.{length}
-use Rattle.ppm.proofs.Gaps.{GapTo, gap_starts, gap_goes, gap_ends, gap_cut}
+use Rattle.ppm.proofs.Gaps.{GapTo}
 use Rattle.ppm.proofs.fields.gap.Given as goal
 
 abbrev pub invariant-loop-p : goal.invariant-loop-p

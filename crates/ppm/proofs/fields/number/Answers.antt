@@ -2,11 +2,8 @@
 -- Assumes nothing.
 use borrow.Author.Rules.{rules}
 use mathlib.Core.Path.{sym, ◌∙◌}
-use Prim.Native.Nat.{◌-◌}
 use native.Mathlib.Omega.{arith}
-use borrow.Author.Tests.{not-true, not-false}
-use lib.ListN.{length}
-use Rattle.ppm.proofs.Numbers.{digit_says, NumberTo, number_starts, number_goes, number_ends, number_cut}
+use Rattle.ppm.proofs.Numbers.{digit_says, number_starts, number_goes, number_ends, number_cut}
 use Rattle.ppm.proofs.fields.number.Goals as goal
 
 pub loop-p-init : goal.loop-p-init

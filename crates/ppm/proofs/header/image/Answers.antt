@@ -5,7 +5,6 @@ use mathlib.Core.Path.{◌≡◌, sym, ◌∙◌}
 use mathlib.Core.Bool.{true}
 use native.Mathlib.Omega.{arith}
 use borrow.Author.Rules.{rules}
-use borrow.Author.Tests.{not-true, not-false}
 use lib.ListN.{get_or}
 use Rattle.ppm.specs.Header.{is_blank, is_side}
 use Rattle.ppm.proofs.Headers.{image_cut, image_no_blank, image_no_width, image_no_height, image_maximum, image_is}

@@ -2,16 +2,14 @@
 -- passed are together all weights.
 -- Assumes nothing.
 use mathlib.Core.Path.{◌≡◌, sym, ap, ◌∙◌}
-use mathlib.Core.Bool.{true, true≢false}
-use Prim.Native.Nat.{ℕ, ◌+◌, ◌-◌, ◌*◌, ◌/◌, ◌≤◌, ◌<◌}
+use mathlib.Core.Bool.{true≢false}
+use Prim.Native.Nat.{◌+◌, ◌*◌}
 use native.Mathlib.Decide.{ℕ_discrete}
 use native.Mathlib.Omega.{arith}
-use borrow.Author.Tests.{eq-eqb, ne_eqb, not-true, not-false}
-use lib.Dec.{eqb}
-use lib.ListN.{length}
+use borrow.Author.Tests.{eq-eqb, ne_eqb}
 use Rattle.basics.proofs.Range.{never_true}
-use Rattle.recorder.specs.Replay.{count_at, entries_in, colours_before, is_entry, entries_fit}
-use Rattle.recorder.proofs.Fitting.{Fits, fits_test, test_fits, none_before, more_before, before_grows}
+use Rattle.recorder.specs.Replay.{count_at, entries_in, colours_before}
+use Rattle.recorder.proofs.Fitting.{fits_test, test_fits, none_before, more_before, before_grows}
 use Rattle.recorder.proofs.entries.entries_fit.Goals as goal
 
 pub returns-then-entries-ne0 : goal.returns-then-entries-ne0

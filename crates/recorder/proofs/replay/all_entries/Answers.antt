@@ -1,16 +1,16 @@
 -- `recorder::replay::all_entries` meets its contract: before each entry the replay stands where the entries passed led
 -- it.
 -- Assumes nothing.
-use mathlib.Core.Path.{◌≡◌, sym, ap, ◌∙◌}
+use mathlib.Core.Path.{◌≡◌, ap, ◌∙◌}
 use mathlib.Core.List.{List}
-use Prim.Native.Nat.{ℕ, ◌+◌, ◌-◌, ◌*◌, ◌/◌, ◌≤◌, ◌<◌}
+use Prim.Native.Nat.{ℕ, ◌+◌, ◌*◌, ◌≤◌, ◌<◌}
 use native.Mathlib.Omega.{arith}
 use lib.ListN.{length}
 use Rattle.table.proofs.Tables.{same_size}
-use Rattle.recorder.specs.Replay.{kind_at, interval_at, count_at, entries_in, colours_before, Entry}
+use Rattle.recorder.specs.Replay.{kind_at, interval_at, count_at, entries_in}
 use Rattle.recorder.specs.Inner.{stand, number_on, later_on}
 use Rattle.recorder.proofs.Fitting.{Fits, test_fits, more_before, before_grows}
-use Rattle.recorder.proofs.Rest.{entry_is, entry_whole, Reached, reached_first, reached_next, reached_last}
+use Rattle.recorder.proofs.Rest.{entry_is, entry_whole, reached_first, reached_next, reached_last}
 use Rattle.recorder.proofs.replay.all_entries.Goals.{In-loop-i, Start}
 use Rattle.recorder.proofs.replay.all_entries.Goals as goal
 
@@ -120,8 +120,12 @@ unfolding count_at
 one_entry-a-requires c =
     let l = (goal.at-one_entry-a-requires c).In-loop-i in
     let a = (start l).args in
-    let r = l.loop-i.invariant in record { known = r.known; steps = (start l).requires.steps; whole = entry_whole (entries l) a.colours.now a.weights.now l.loop-i.i r.place
-            (omega (arith, inside l, bytes l)) (inside l) }
+    let r = l.loop-i.invariant in record {
+      known = r.known;
+      steps = (start l).requires.steps;
+      whole = entry_whole (entries l) a.colours.now a.weights.now l.loop-i.i r.place
+          (omega (arith, inside l, bytes l)) (inside l);
+    }
 
 pub bounds-answers-i : goal.bounds-answers-i
 bounds-answers-i c =

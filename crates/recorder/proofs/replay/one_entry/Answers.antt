@@ -1,12 +1,9 @@
 -- `recorder::replay::one_entry` meets its contract: a reload, a batch that its interval refuses, one that passes the
 -- limit and one that is added.
 -- Assumes nothing.
-use mathlib.Core.Path.{◌≡◌, sym, ap, ◌∙◌}
-use Prim.Native.Nat.{ℕ, ◌<◌}
+use mathlib.Core.Path.{◌≡◌, sym, ◌∙◌}
 use native.Mathlib.Omega.{arith}
 use borrow.Author.Rules.{rules}
-use lib.ListN.{get_or}
-use Rattle.table.specs.Sound.{limit}
 use Rattle.adder.specs.Add.{IsScale}
 use Rattle.recorder.specs.Batch.{in_force}
 use Rattle.recorder.proofs.Sessions.{interval_says, force_passed}

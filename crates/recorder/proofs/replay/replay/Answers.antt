@@ -4,7 +4,6 @@
 use mathlib.Core.Path.{◌≡◌, refl, sym, ◌∙◌}
 use mathlib.Core.Bool.{true}
 use borrow.Author.Rules.{rules}
-use borrow.Author.Tests.{not-true, not-false}
 use Rattle.grid.specs.declared.place.Grid.{Grid}
 use Rattle.grid.specs.declared.place.Chosen.TheVariants as chosen
 use Rattle.grid.specs.Grid.{grid_of, Accepted}
@@ -170,10 +169,14 @@ fill_steps-requires c = (accepted (chosen_at (sized (tested (goal.at-fill_steps-
 pub all_entries-session-requires : goal.all_entries-session-requires
 unfolding lent_fits
 all_entries-session-requires c =
-    let t = (goal.at-all_entries-session-requires c).In-Total in record { known = known t; steps = record {
-          accepted = accepted (chosen_at (sized (tested t)));
-          filled = c.fill_steps.ensures;
-        }; fit = fitted (tested t) }
+    let t = (goal.at-all_entries-session-requires c).In-Total in record {
+      known = known t;
+      steps = record {
+        accepted = accepted (chosen_at (sized (tested t)));
+        filled = c.fill_steps.ensures;
+      };
+      fit = fitted (tested t);
+    }
 
 pub shape_of-table : goal.shape_of-table
 shape_of-table c = search rules

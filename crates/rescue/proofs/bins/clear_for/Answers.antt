@@ -1,7 +1,6 @@
 -- `rescue::bins::clear_for` meets its contract: five zeros where there is a reason, else nothing.
 -- Assumes nothing.
-use mathlib.Core.Path.{◌≡◌, refl, sym, ap, subst, ◌∙◌}
-use Prim.Native.Nat.{ℕ}
+use mathlib.Core.Path.{refl, sym, ap, subst, ◌∙◌}
 use lib.Dec.{lit<}
 use borrow.Author.Rules.{rules}
 use borrow.Author.Tests.{eq-eqb, ne_eqb}

@@ -3,7 +3,6 @@
 use mathlib.Core.Path.{sym}
 use native.Mathlib.Omega.{arith}
 use borrow.Author.Rules.{rules}
-use borrow.Author.Tests.{not-true, not-false}
 use Rattle.table.specs.Sound.{limit}
 use Rattle.rescue.proofs.Walks.{out_of_bounds, no_room, kept}
 use Rattle.rescue.proofs.bins.reason.Goals as goal

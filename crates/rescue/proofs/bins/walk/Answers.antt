@@ -1,14 +1,13 @@
 -- `rescue::bins::walk` meets its contract: after r planes the walk stands where the next plane begins.
 -- Assumes nothing.
 use mathlib.Core.Path.{◌≡◌, refl, sym, ap, ◌∙◌}
-use Prim.Native.Nat.{ℕ, ◌-◌, ◌≤◌}
+use Prim.Native.Nat.{ℕ}
 use native.Mathlib.Omega.{arith}
 use Rattle.grid.specs.Grid.{place_of}
 use Rattle.grid.proofs.Places.{one, two, three}
 use Rattle.grid.proofs.Size.{size_low, size_high}
 use Rattle.table.specs.Sound.{limit}
 use Rattle.table.proofs.Packed.{filled_table}
-use Rattle.rescue.specs.Inner.{Onward}
 use Rattle.rescue.proofs.Walks.{onward_none, onward_join, onward_at, plane_end, first_place, last_place}
 use Rattle.rescue.proofs.Walks.{all_rescued, all_reasons}
 use Rattle.rescue.proofs.bins.walk.Goals.{After-fill_spans, In-loop-r, Start}
@@ -36,7 +35,8 @@ pub walk_plane-total-requires : goal.walk_plane-total-requires
 walk_plane-total-requires c =
     let t = (goal.at-walk_plane-total-requires c).In-loop-r in
     let l = t.loop-r in
-    let a = (entry (filled t)).requires.table.accepted in record { row = record {
+    let a = (entry (filled t)).requires.table.accepted in record {
+      row = record {
         table = record { accepted = a; lent = l.invariant.1.lent };
         inside =
             record {
@@ -46,7 +46,10 @@ walk_plane-total-requires c =
               three = omega (arith, size_low (three a));
             };
         under = l.invariant.1.under;
-      }; list = l.invariant.1.list; spans = rw (filled t).fill_spans.ensures (filled_table a _) }
+      };
+      list = l.invariant.1.list;
+      spans = rw (filled t).fill_spans.ensures (filled_table a _);
+    }
 
 pub overflow_add-r : goal.overflow_add-r
 overflow_add-r c =

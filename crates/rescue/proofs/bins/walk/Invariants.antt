@@ -1,16 +1,9 @@
 -- `rescue::bins::walk` meets its contract: after r planes the walk stands where the next plane begins.
 -- Assumes nothing.
-use mathlib.Core.Path.{◌≡◌, refl, sym, ap, ◌∙◌}
-use Prim.Native.Nat.{ℕ, ◌-◌, ◌≤◌}
-use native.Mathlib.Omega.{arith}
+use Prim.Native.Nat.{◌-◌, ◌≤◌}
 use Rattle.grid.specs.Grid.{place_of}
-use Rattle.grid.proofs.Places.{one, two, three}
-use Rattle.grid.proofs.Size.{size_low, size_high}
 use Rattle.table.specs.Sound.{limit}
-use Rattle.table.proofs.Packed.{filled_table}
 use Rattle.rescue.specs.Inner.{Onward}
-use Rattle.rescue.proofs.Walks.{onward_none, onward_join, onward_at, plane_end, first_place, last_place}
-use Rattle.rescue.proofs.Walks.{all_rescued, all_reasons}
 use Rattle.rescue.proofs.bins.walk.Given as goal
 
 abbrev pub invariant-loop-r : goal.invariant-loop-r

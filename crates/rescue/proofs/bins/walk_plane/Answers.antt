@@ -1,13 +1,11 @@
 -- `rescue::bins::walk_plane` meets its contract: after gr rows the walk stands where the next row begins.
 -- Assumes nothing.
 use mathlib.Core.Path.{◌≡◌, refl, sym, ap, ◌∙◌}
-use Prim.Native.Nat.{ℕ, ◌-◌, ◌≤◌}
+use Prim.Native.Nat.{ℕ}
 use native.Mathlib.Omega.{arith}
 use Rattle.grid.specs.Grid.{place_of}
 use Rattle.grid.proofs.Places.{two}
 use Rattle.grid.proofs.Size.{size_high}
-use Rattle.table.specs.Sound.{limit}
-use Rattle.rescue.specs.Inner.{Onward}
 use Rattle.rescue.proofs.Walks.{onward_none, onward_join, onward_at, row_end}
 use Rattle.rescue.proofs.bins.walk_plane.Goals as goal
 
@@ -22,7 +20,8 @@ pub walk_row-total-requires : goal.walk_row-total-requires
 walk_row-total-requires c =
     let s = c in
     let l = c.loop-gr in
-    let a = s.requires.row.table.accepted in record { row = record {
+    let a = s.requires.row.table.accepted in record {
+      row = record {
         table = record { accepted = a; lent = l.invariant.1.lent };
         inside =
             record {
@@ -32,7 +31,10 @@ walk_row-total-requires c =
               three = s.requires.row.inside.three;
             };
         under = l.invariant.1.under;
-      }; list = l.invariant.1.list; spans = s.requires.spans }
+      };
+      list = l.invariant.1.list;
+      spans = s.requires.spans;
+    }
 
 pub overflow_add-gr : goal.overflow_add-gr
 overflow_add-gr c =

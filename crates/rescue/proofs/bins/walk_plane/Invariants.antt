@@ -1,14 +1,9 @@
 -- `rescue::bins::walk_plane` meets its contract: after gr rows the walk stands where the next row begins.
 -- Assumes nothing.
-use mathlib.Core.Path.{◌≡◌, refl, sym, ap, ◌∙◌}
-use Prim.Native.Nat.{ℕ, ◌-◌, ◌≤◌}
-use native.Mathlib.Omega.{arith}
+use Prim.Native.Nat.{◌-◌, ◌≤◌}
 use Rattle.grid.specs.Grid.{place_of}
-use Rattle.grid.proofs.Places.{two}
-use Rattle.grid.proofs.Size.{size_high}
 use Rattle.table.specs.Sound.{limit}
 use Rattle.rescue.specs.Inner.{Onward}
-use Rattle.rescue.proofs.Walks.{onward_none, onward_join, onward_at, row_end}
 use Rattle.rescue.proofs.bins.walk_plane.Given as goal
 
 abbrev pub invariant-loop-gr : goal.invariant-loop-gr

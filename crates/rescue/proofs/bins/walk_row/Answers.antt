@@ -1,7 +1,7 @@
 -- `rescue::bins::walk_row` meets its contract: after b bins the walk stands b places further.
 -- Assumes nothing.
 use mathlib.Core.Path.{◌≡◌, sym, ◌∙◌}
-use Prim.Native.Nat.{ℕ, ◌+◌, ◌-◌, ◌≤◌, ◌<◌}
+use Prim.Native.Nat.{ℕ, ◌+◌, ◌<◌}
 use native.Mathlib.Nat.{add-zero, add_assoc}
 use native.Mathlib.Omega.{arith}
 use Rattle.grid.specs.Grid.{bins_of}
@@ -14,7 +14,6 @@ use Rattle.table.proofs.Cells.{cell_fields}
 use Rattle.table.proofs.Scans.{inside as in_row, row_place, row_bin}
 use Rattle.table.proofs.Tables.{has_cell}
 use Rattle.rescue.specs.Rescue.{keeps_bounds, reason_for}
-use Rattle.rescue.specs.Inner.{Onward}
 use Rattle.rescue.proofs.Walks.{reason_room, onward_none, onward_next, onward_at}
 use Rattle.rescue.proofs.bins.walk_row.Goals.{After-reason-why, In-loop-b, Start}
 use Rattle.rescue.proofs.bins.walk_row.Goals as goal

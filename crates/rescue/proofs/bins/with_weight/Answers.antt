@@ -1,6 +1,6 @@
 -- `rescue::bins::with_weight` meets its contract: a weight counts where its bin is kept.
 -- Assumes nothing.
-use mathlib.Core.Path.{◌≡◌, refl}
+use mathlib.Core.Path.{refl}
 use native.Mathlib.Omega.{arith}
 use borrow.Author.Tests.{eq-eqb, ne_eqb}
 use Rattle.rescue.specs.Inner.{with_weight}

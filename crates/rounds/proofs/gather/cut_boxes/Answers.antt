@@ -29,12 +29,15 @@ bounds-boxes-0 c = search rules
 pub all_rounds-end-requires : goal.all_rounds-end-requires
 unfolding of_bits div
 all_rounds-end-requires c =
-    let s = c in record { can_sum = s.requires; two_arrays = (
+    let s = c in record {
+      can_sum = s.requires;
+      two_arrays = (
         record { spreads_long = refl; boxes_long = refl },
         room_start s.args.g refl
             (c.packed.ensures ∙ ap pack_of c.whole.ensures)
             (within_bytes (whole_within s.requires.0.table.accepted)),
-      ) }
+      );
+    }
 
 pub gathered-places-requires : goal.gathered-places-requires
 gathered-places-requires c =

@@ -3,7 +3,7 @@
 -- what is read is the box at its place
 use mathlib.Core.Path.{◌≡◌, refl, sym, ap, ◌∙◌}
 use mathlib.Core.List.{List}
-use Prim.Native.Nat.{ℕ, ◌-◌, ◌≤◌}
+use Prim.Native.Nat.{ℕ}
 use native.Mathlib.Omega.{arith}
 use borrow.Author.Rules.{rules}
 use lib.ListN.{get_or}
@@ -16,7 +16,7 @@ use Rattle.rounds.specs.declared.gather.BoxSpread.{BoxSpread}
 use Rattle.rounds.specs.Loop.{no_item, with_zero, places_of}
 use Rattle.rounds.specs.Inner.{room_in}
 use Rattle.rounds.proofs.Packing.{room_in_item}
-use Rattle.rounds.proofs.Gathering.{Gathered, gathered_none, gathered_more, gathered_is}
+use Rattle.rounds.proofs.Gathering.{gathered_none, gathered_more, gathered_is}
 use Rattle.rounds.proofs.gather.gathered.Goals as goal
 
 item_read : {spreads : List Float} {boxes : List ℕ} → TwoArrays spreads boxes → (p : ℕ) {x : Bounds}

@@ -16,7 +16,10 @@ put_box-requires c = search rules
 
 pub returns : goal.returns
 returns c =
-    let s = c in record { room = c.put_box.ensures.room
+    let s = c in record {
+      room = c.put_box.ensures.room
           ∙ ap (λ (v : Float). put_in by_spread no_item (room_in s.args.spreads.now s.args.boxes.now)
           s.args.len (record { spread = v; bounds = s.args.x }))
-          c.spread.ensures; arrays = c.put_box.ensures.arrays }
+          c.spread.ensures;
+      arrays = c.put_box.ensures.arrays;
+    }

@@ -5,18 +5,16 @@ use mathlib.Core.Path.{◌≡◌, ap, ◌∙◌}
 use mathlib.Core.Bool.{true}
 use native.Mathlib.Omega.{arith}
 use borrow.Author.Rules.{rules}
-use borrow.Author.Tests.{not-true, not-false}
 use lib.Ieee.{of_bits, lt}
 use Rattle.table.specs.Layout.{laid_view}
 use Rattle.spread.specs.Spread.{zero_of}
 use Rattle.heap.specs.Heap.{item}
-use Rattle.heap.specs.TwoArrays.{TwoArrays}
 use Rattle.rounds.specs.Loop.{no_item}
 use Rattle.rounds.specs.Inner.{room_in}
 use Rattle.rounds.proofs.Packing.{room_in_spread}
 use Rattle.boxes.proofs.Whole.{whole_within}
-use Rattle.rounds.proofs.Filled.{Each, OfGrid, of_grid_kept, each_round, start_each}
-use Rattle.rounds.proofs.Fuel.{need, need_less, ToCome, come_start, come_full, come_few, come_stop}
+use Rattle.rounds.proofs.Filled.{of_grid_kept, each_round, start_each}
+use Rattle.rounds.proofs.Fuel.{need_less, come_start, come_full, come_few, come_stop}
 use Rattle.rounds.proofs.Fuel.{come_round}
 use Rattle.rounds.proofs.rounds.all_rounds.Goals as goal
 
@@ -34,14 +32,17 @@ bounds-spreads-0 c = search rules
 pub round-len-requires : goal.round-len-requires
 round-len-requires c =
     let s = c in
-    let l = c.loop-len in record { can_sum = s.requires.can_sum.0; two_arrays = (
+    let l = c.loop-len in record {
+      can_sum = s.requires.can_sum.0;
+      two_arrays = (
         l.invariant.0,
         l.invariant.1.in_use.some,
         omega
             (arith, c.loop-len-test.true, s.requires.can_sum.1),
         l.invariant.1.each 0
             l.invariant.1.in_use.some,
-      ) }
+      );
+    }
 
 pub overflow_add-rounds : goal.overflow_add-rounds
 overflow_add-rounds c =

@@ -127,10 +127,14 @@ pub returns : goal.returns
 returns c =
     let k = (goal.at-returns c).After-best_cut-best in
     let s = start k in
-    let q = c.in-At.is in record { number = sym (boxes_cut s.args.g (view s) (before s) s.args.left s.args.x (best k q)); room = c.put_with_spread-2.ensures.room
-            ∙ (λ t. put_in by_spread no_item
-            ((c.put_with_spread.ensures.room
-            ∙ ap (put_in by_spread no_item (before s) s.args.left)
-            (spread_is s.args.g (view s) c.low_side-low.ensures (the_low k q))) t) (s.args.left + 1)
-            (spread_is s.args.g (view s) c.high_side-high.ensures (the_high k q) t))
-            ∙ sym (room_cut s.args.g (view s) (before s) s.args.left s.args.x (best k q)); arrays = c.put_with_spread-2.ensures.arrays }
+    let q = c.in-At.is in record {
+      number = sym (boxes_cut s.args.g (view s) (before s) s.args.left s.args.x (best k q));
+      room = c.put_with_spread-2.ensures.room
+          ∙ (λ t. put_in by_spread no_item
+          ((c.put_with_spread.ensures.room
+          ∙ ap (put_in by_spread no_item (before s) s.args.left)
+          (spread_is s.args.g (view s) c.low_side-low.ensures (the_low k q))) t) (s.args.left + 1)
+          (spread_is s.args.g (view s) c.high_side-high.ensures (the_high k q) t))
+          ∙ sym (room_cut s.args.g (view s) (before s) s.args.left s.args.x (best k q));
+      arrays = c.put_with_spread-2.ensures.arrays;
+    }

@@ -64,11 +64,15 @@ returns-then-s c =
     let s = (goal.at-returns-then-s c).Start in
     let on : lt zero_of (top s).spread ≡ true = ap (lt zero_of) (room_in_spread s.requires.two_arrays.0 0)
     ∙ c.if-s.true in
-    let same = box_read (goal.at-returns-then-s c).After-unpacked-x in record { number = c.cut_top.ensures.number ∙ ap (λ (x : Bounds). boxes_after (s.args.len - 1) (best_cut s.args.g (view s) x)) same
-          ∙ sym (boxes_on s.args.g (view s) (before s) s.args.len on); room = c.cut_top.ensures.room
-            ∙ (λ i. room_after s.args.g (view s) (c.take_top.ensures.room i)
-            (s.args.len - 1) (same i) (best_cut s.args.g (view s) (same i)))
-            ∙ sym (room_on_lem s.args.g (view s) (before s) s.args.len on); arrays = c.cut_top.ensures.arrays }
+    let same = box_read (goal.at-returns-then-s c).After-unpacked-x in record {
+      number = c.cut_top.ensures.number ∙ ap (λ (x : Bounds). boxes_after (s.args.len - 1) (best_cut s.args.g (view s) x)) same
+          ∙ sym (boxes_on s.args.g (view s) (before s) s.args.len on);
+      room = c.cut_top.ensures.room
+          ∙ (λ i. room_after s.args.g (view s) (c.take_top.ensures.room i)
+          (s.args.len - 1) (same i) (best_cut s.args.g (view s) (same i)))
+          ∙ sym (room_on_lem s.args.g (view s) (before s) s.args.len on);
+      arrays = c.cut_top.ensures.arrays;
+    }
 
 pub put_box-requires : goal.put_box-requires
 put_box-requires c =
@@ -83,11 +87,15 @@ unfolding of_bits
 returns c =
     let s = (goal.at-returns c).Start in
     let off : lt zero_of (top s).spread ≡ false = ap (lt zero_of) (room_in_spread s.requires.two_arrays.0 0)
-    ∙ c.if-s.false in record { number = sym (boxes_stops s.args.g (view s) (before s) s.args.len off); room = c.put_box.ensures.room
-            ∙ (λ i. put_in by_spread no_item (c.take_top.ensures.room i)
-            (s.args.len - 1)
-            (record {
-              spread = sym (room_in_spread s.requires.two_arrays.0 0) i;
-              bounds = box_read (goal.at-returns c).After-unpacked-x i;
-            }))
-            ∙ sym (room_stops s.args.g (view s) (before s) s.args.len off); arrays = c.put_box.ensures.arrays }
+    ∙ c.if-s.false in record {
+      number = sym (boxes_stops s.args.g (view s) (before s) s.args.len off);
+      room = c.put_box.ensures.room
+          ∙ (λ i. put_in by_spread no_item (c.take_top.ensures.room i)
+          (s.args.len - 1)
+          (record {
+            spread = sym (room_in_spread s.requires.two_arrays.0 0) i;
+            bounds = box_read (goal.at-returns c).After-unpacked-x i;
+          }))
+          ∙ sym (room_stops s.args.g (view s) (before s) s.args.len off);
+      arrays = c.put_box.ensures.arrays;
+    }

@@ -1,14 +1,14 @@
 -- `seluvava::arrays::put_boxes` meets its contract: after each box, both arrays have the boxes so far in front.
 -- Assumes nothing.
-use mathlib.Core.Path.{◌≡◌, refl, sym, ap, ◌∙◌}
+use mathlib.Core.Path.{refl, sym, ap, ◌∙◌}
 use mathlib.Core.List.{List}
-use Prim.Native.Nat.{◌-◌, ◌≤◌, ◌<◌}
+use Prim.Native.Nat.{◌<◌}
 use native.Mathlib.Omega.{arith}
-use lib.ListN.{length, take}
+use lib.ListN.{length}
 use Rattle.rounds.specs.declared.gather.BoxSpread.{BoxSpread}
 use Rattle.cutter.specs.Fronts.{filled}
 use Rattle.cutter.proofs.Fronts.{filled_none}
-use Rattle.seluvava.specs.Cut.{its_bytes, spread_of, told}
+use Rattle.seluvava.specs.Cut.{its_bytes, spread_of}
 use Rattle.seluvava.proofs.Boxes.{six, one, told_all, boxes_next, spreads_next, boxes_long, spreads_long}
 use Rattle.seluvava.proofs.arrays.put_boxes.Goals as goal
 

@@ -47,6 +47,9 @@ returns c =
     s.args.map.now) s.args.boxes.now s.args.spreads.now in
     let later : Lent = call_later Bins s.args.b1 s.args.b2 s.args.b3 s.args.k s.args.table.now
     all in
-    let left = call_leaves_work Wide s.args.b1 s.args.b2 s.args.b3 s.args.k s.args.table.now all in record { answer = e.answer; later = ap (λ (l : Lent). lent (record { work = no_work; results = l.buffers.results }) l.boxes l.spreads) e.later
+    let left = call_leaves_work Wide s.args.b1 s.args.b2 s.args.b3 s.args.k s.args.table.now all in record {
+      answer = e.answer;
+      later = ap (λ (l : Lent). lent (record { work = no_work; results = l.buffers.results }) l.boxes l.spreads) e.later
           ∙ (λ i. lent (record { work = sym left i; results = later.buffers.results }) later.boxes
-          later.spreads) }
+          later.spreads);
+    }

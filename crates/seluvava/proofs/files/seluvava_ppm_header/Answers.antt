@@ -1,6 +1,6 @@
 -- `seluvava::files::seluvava_ppm_header` meets its contract: each case of the header with its values.
 -- Assumes nothing.
-use mathlib.Core.Path.{◌≡◌, refl, sym, ap, ◌∙◌}
+use mathlib.Core.Path.{refl, sym, ◌∙◌}
 use borrow.Author.Rules.{rules}
 use Rattle.ppm.specs.Header.{header_answer}
 use Rattle.seluvava.specs.Files.{ppm_answer, ppm_header}

@@ -47,7 +47,10 @@ returns c =
     s.args.counts.now s.args.remainders.now s.args.map.now) s.args.boxes.now
     s.args.spreads.now in
     let later : LentIn Narrow = call_later_in Narrow Bins s.args.b1 s.args.b2 s.args.b3 s.args.k t all in
-    let left = call_leaves_work Narrow s.args.b1 s.args.b2 s.args.b3 s.args.k t all in record { answer = e.answer; later = ap (λ (l : LentIn Narrow). lent_in Narrow (record { work = no_work_in Narrow; results = l.buffers.results })
+    let left = call_leaves_work Narrow s.args.b1 s.args.b2 s.args.b3 s.args.k t all in record {
+      answer = e.answer;
+      later = ap (λ (l : LentIn Narrow). lent_in Narrow (record { work = no_work_in Narrow; results = l.buffers.results })
           l.boxes l.spreads) e.later
           ∙ (λ i. lent_in Narrow (record { work = sym left i; results = later.buffers.results }) later.boxes
-          later.spreads) }
+          later.spreads);
+    }

@@ -1,13 +1,10 @@
 -- `spread::by_bins::best_by_bins` meets its contract: after each bin the best is that of the positions so far.
 -- Assumes nothing.
 use mathlib.Core.Path.{◌≡◌}
-use Prim.Native.Nat.{◌+◌, ◌-◌, ◌≤◌, ◌<◌}
-use native.Mathlib.Omega.{arith}
-use borrow.Author.Rules.{rules}
+use Prim.Native.Nat.{◌+◌, ◌-◌, ◌≤◌}
 use Rattle.table.specs.Layout.{laid_view}
-use Rattle.boxes.specs.Box.{min_at, max_at}
+use Rattle.boxes.specs.Box.{min_at}
 use Rattle.spread.specs.Cut.{best_run}
-use Rattle.spread.proofs.Choose.{end_high, run_none, run_next, run_whole}
 use Rattle.spread.proofs.by_bins.best_by_bins.Given as goal
 
 abbrev pub invariant-loop-bin : goal.invariant-loop-bin

@@ -47,12 +47,16 @@ enum_told-1 c = search rules
 pub best_wide-requires : goal.best_wide-requires
 best_wide-requires c =
     let s = c in
-    let a = s.args in record { can_sum = (
+    let a = s.args in record {
+      can_sum = (
         subst (λ (l : Layout). CanSum l limit Moments a.g (laid l a.small.now a.large.now)
             (laid l a.smallwork.now a.largework.now)) c.in-Wide.is s.requires.can_sum.0,
         s.requires.can_sum.1,
-      ); all_value = s.requires.all_value ∙ ap (λ (l : Layout). stats_of a.g (laid_view l a.small.now a.large.now) a.x)
-            c.in-Wide.is; walk_value = s.requires.walk_value }
+      );
+      all_value = s.requires.all_value ∙ ap (λ (l : Layout). stats_of a.g (laid_view l a.small.now a.large.now) a.x)
+          c.in-Wide.is;
+      walk_value = s.requires.walk_value;
+    }
 
 pub enum_told-in-Narrow : goal.enum_told-in-Narrow
 enum_told-in-Narrow c = search rules
@@ -60,12 +64,16 @@ enum_told-in-Narrow c = search rules
 pub best_narrow-requires : goal.best_narrow-requires
 best_narrow-requires c =
     let s = c in
-    let a = s.args in record { can_sum = (
+    let a = s.args in record {
+      can_sum = (
         subst (λ (l : Layout). CanSum l limit Moments a.g (laid l a.small.now a.large.now)
             (laid l a.smallwork.now a.largework.now)) c.in-Narrow.is s.requires.can_sum.0,
         s.requires.can_sum.1,
-      ); all_value = s.requires.all_value ∙ ap (λ (l : Layout). stats_of a.g (laid_view l a.small.now a.large.now) a.x)
-            c.in-Narrow.is; walk_value = s.requires.walk_value }
+      );
+      all_value = s.requires.all_value ∙ ap (λ (l : Layout). stats_of a.g (laid_view l a.small.now a.large.now) a.x)
+          c.in-Narrow.is;
+      walk_value = s.requires.walk_value;
+    }
 
 pub returns-in-Wide : goal.returns-in-Wide
 returns-in-Wide c =

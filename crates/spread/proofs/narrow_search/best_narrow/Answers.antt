@@ -1,8 +1,7 @@
 -- `spread::narrow_search::best_narrow` meets its contract: after each bin the best is that of the positions so far.
 -- Assumes nothing.
 use mathlib.Core.Path.{◌≡◌, sym, ap, ◌∙◌}
-use mathlib.Core.Logic.{⊎_elim}
-use Prim.Native.Nat.{ℕ, ◌+◌, ◌-◌, ◌≤◌, ◌<◌}
+use Prim.Native.Nat.{ℕ, ◌+◌, ◌-◌, ◌<◌}
 use native.Mathlib.Omega.{arith}
 use borrow.Author.Rules.{rules}
 use Rattle.table.specs.declared.layout.Layout.TheVariants.{Narrow}
@@ -45,7 +44,8 @@ loop-bin-init c =
 
 pub narrow_before-before-requires : goal.narrow_before-before-requires
 narrow_before-before-requires c =
-    let s = c in record { can_sum = (
+    let s = c in record {
+      can_sum = (
         s.requires.can_sum.0,
         s.requires.can_sum.1,
         omega (
@@ -53,7 +53,9 @@ narrow_before-before-requires c =
           c.loop-bin-test.true,
           c.end_bin-end.ensures,
         ),
-      ); walk_value = s.requires.walk_value }
+      );
+      walk_value = s.requires.walk_value;
+    }
 
 -- a bin past the first: the position there, and the best with it
 module _ (k : Else-bin-first) where
@@ -139,30 +141,30 @@ loop-bin-preserved c =
       omega (arith, l.invariant.0),
       omega (arith, c.loop-bin-test.true),
       elim c.if-bin-first.branch [
-        then-bin-first w ↦
-          w.best-is
-          ∙ l.invariant.2
-          ∙ ap (best_run s.args.g (laid_view Narrow s.args.small.now s.args.large.now) s.args.x s.args.dimension (from + 1))
-          (none from l.bin (w.if-bin-first.true ∙ first))
-      | else-bin-first+then-later_wins w ↦
-          run_next s.args.g (laid_view Narrow s.args.small.now s.args.large.now) s.args.x s.args.dimension (from + 1) l.bin
-          (omega (arith, past w.if-bin-first.false)) l.invariant.2 w.position_at-later.ensures
-          (w.best-is ∙ later_is_better l.best w.position_at-later.result (sym w.later_wins.ensures ∙ w.if-later_wins.true))
-      | else-bin-first+else-later_wins w ↦
-          run_next s.args.g (laid_view Narrow s.args.small.now s.args.large.now) s.args.x s.args.dimension (from + 1) l.bin
-          (omega (arith, past w.if-bin-first.false)) l.invariant.2 w.position_at-later.ensures
-          (w.best-is ∙ earlier_is_better l.best w.position_at-later.result (sym w.later_wins.ensures ∙ w.if-later_wins.false))
+        | then-bin-first w ↦
+            w.best-is
+            ∙ l.invariant.2
+            ∙ ap (best_run s.args.g (laid_view Narrow s.args.small.now s.args.large.now) s.args.x s.args.dimension (from + 1))
+            (none from l.bin (w.if-bin-first.true ∙ first))
+        | else-bin-first+then-later_wins w ↦
+            run_next s.args.g (laid_view Narrow s.args.small.now s.args.large.now) s.args.x s.args.dimension (from + 1) l.bin
+            (omega (arith, past w.if-bin-first.false)) l.invariant.2 w.position_at-later.ensures
+            (w.best-is ∙ later_is_better l.best w.position_at-later.result (sym w.later_wins.ensures ∙ w.if-later_wins.true))
+        | else-bin-first+else-later_wins w ↦
+            run_next s.args.g (laid_view Narrow s.args.small.now s.args.large.now) s.args.x s.args.dimension (from + 1) l.bin
+            (omega (arith, past w.if-bin-first.false)) l.invariant.2 w.position_at-later.ensures
+            (w.best-is ∙ earlier_is_better l.best w.position_at-later.result (sym w.later_wins.ensures ∙ w.if-later_wins.false))
       ],
       λ h.
           elim c.if-bin-first.branch [
-            then-bin-first w ↦
-              w.base-is
-              ∙ c.narrow_before-before.ensures
-              ∙ ap (λ (n : ℕ). stats_of s.args.g (laid_view Narrow s.args.small.now s.args.large.now)
-              (slab_to s.args.x s.args.dimension n))
-              (w.if-bin-first.true ∙ first)
-          | else-bin-first+then-later_wins w ↦ w.base-is ∙ l.invariant.3 (past w.if-bin-first.false)
-          | else-bin-first+else-later_wins w ↦ w.base-is ∙ l.invariant.3 (past w.if-bin-first.false)
+            | then-bin-first w ↦
+                w.base-is
+                ∙ c.narrow_before-before.ensures
+                ∙ ap (λ (n : ℕ). stats_of s.args.g (laid_view Narrow s.args.small.now s.args.large.now)
+                (slab_to s.args.x s.args.dimension n))
+                (w.if-bin-first.true ∙ first)
+            | else-bin-first+then-later_wins w ↦ w.base-is ∙ l.invariant.3 (past w.if-bin-first.false)
+            | else-bin-first+else-later_wins w ↦ w.base-is ∙ l.invariant.3 (past w.if-bin-first.false)
           ],
     )
   where

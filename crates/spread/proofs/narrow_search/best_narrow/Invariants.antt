@@ -1,18 +1,12 @@
 -- `spread::narrow_search::best_narrow` meets its contract: after each bin the best is that of the positions so far.
 -- Assumes nothing.
-use mathlib.Core.Path.{◌≡◌, sym, ap, ◌∙◌}
-use mathlib.Core.Logic.{⊎_elim}
-use Prim.Native.Nat.{ℕ, ◌+◌, ◌-◌, ◌≤◌, ◌<◌}
-use native.Mathlib.Omega.{arith}
-use borrow.Author.Rules.{rules}
+use mathlib.Core.Path.{◌≡◌}
+use Prim.Native.Nat.{◌+◌, ◌-◌, ◌≤◌, ◌<◌}
 use Rattle.table.specs.declared.layout.Layout.TheVariants.{Narrow}
 use Rattle.table.specs.Layout.{laid_view}
 use Rattle.sums.specs.Box.{stats_of}
 use Rattle.boxes.specs.Box.{min_at, slab_to}
-use Rattle.spread.specs.declared.position.Position.{Position}
-use Rattle.spread.specs.Cut.{position_at, better, best_run}
-use Rattle.spread.specs.Inner.{CutsAt}
-use Rattle.spread.proofs.Choose.{later_is_better, earlier_is_better, end_high, run_none, run_next, run_whole}
+use Rattle.spread.specs.Cut.{best_run}
 use Rattle.spread.proofs.narrow_search.best_narrow.Given as goal
 
 abbrev pub invariant-loop-bin : goal.invariant-loop-bin

@@ -20,8 +20,12 @@ plus-sum-requires c =
 
 pub edge_at-moment-requires : goal.edge_at-moment-requires
 edge_at-moment-requires c =
-    let s = c in record { ready = s.requires.ready; line_value = line_through s.requires.ready s.requires.line_value c.place-p.ensures
-            c.cell_in.ensures c.plus-sum.ensures; at_edge = s.requires.at_edge }
+    let s = c in record {
+      ready = s.requires.ready;
+      line_value = line_through s.requires.ready s.requires.line_value c.place-p.ensures
+          c.cell_in.ensures c.plus-sum.ensures;
+      at_edge = s.requires.at_edge;
+    }
 
 pub put_cell-requires : goal.put_cell-requires
 put_cell-requires c =
@@ -38,8 +42,11 @@ shape_of-largework c = search rules
 
 pub returns : goal.returns
 returns c =
-    let s = c in record { sums = line_through s.requires.ready s.requires.line_value c.place-p.ensures c.cell_in.ensures
-          c.plus-sum.ensures; later = c.put_cell.ensures
+    let s = c in record {
+      sums = line_through s.requires.ready s.requires.line_value c.place-p.ensures c.cell_in.ensures
+          c.plus-sum.ensures;
+      later = c.put_cell.ensures
           ∙ (λ i. put_in s.args.layout
           (laid s.args.layout s.args.smallwork.now s.args.largework.now)
-          (c.place-p.ensures i) (c.edge_at-moment.ensures i)) }
+          (c.place-p.ensures i) (c.edge_at-moment.ensures i));
+    }

@@ -17,8 +17,12 @@ plus-sum-requires c =
 
 pub inner_at-moment-requires : goal.inner_at-moment-requires
 inner_at-moment-requires c =
-    let s = c in record { ready = s.requires.ready; line_value = line_through s.requires.ready s.requires.line_value s.requires.r_nonzero.2
-            c.cell_in.ensures c.plus-sum.ensures; r_nonzero = s.requires.r_nonzero }
+    let s = c in record {
+      ready = s.requires.ready;
+      line_value = line_through s.requires.ready s.requires.line_value s.requires.r_nonzero.2
+          c.cell_in.ensures c.plus-sum.ensures;
+      r_nonzero = s.requires.r_nonzero;
+    }
 
 pub put_cell-requires : goal.put_cell-requires
 put_cell-requires c =
@@ -35,8 +39,11 @@ shape_of-largework c = search rules
 
 pub returns : goal.returns
 returns c =
-    let s = c in record { sums = line_through s.requires.ready s.requires.line_value s.requires.r_nonzero.2 c.cell_in.ensures
-          c.plus-sum.ensures; later = c.put_cell.ensures
+    let s = c in record {
+      sums = line_through s.requires.ready s.requires.line_value s.requires.r_nonzero.2 c.cell_in.ensures
+          c.plus-sum.ensures;
+      later = c.put_cell.ensures
           ∙ (λ i. put_in s.args.layout
           (laid s.args.layout s.args.smallwork.now s.args.largework.now)
-          (s.requires.r_nonzero.2 i) (c.inner_at-moment.ensures i)) }
+          (s.requires.r_nonzero.2 i) (c.inner_at-moment.ensures i));
+    }

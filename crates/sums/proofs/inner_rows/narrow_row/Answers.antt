@@ -2,17 +2,15 @@
 -- along them.
 -- Assumes nothing.
 use mathlib.Core.Path.{◌≡◌, refl, sym, ap, ◌∙◌}
-use Prim.Native.Nat.{ℕ, ◌+◌, ◌≤◌, ◌-◌}
+use Prim.Native.Nat.{ℕ, ◌+◌}
 use native.Mathlib.Nat.{add-zero, add_assoc}
 use native.Mathlib.Omega.{arith}
 use borrow.Author.Rules.{rules}
-use lib.ListN.{length}
 use Rattle.grid.specs.Grid.{place_of}
 use Rattle.grid.proofs.Places.{three, place_lt, place_along, bins_high}
 use Rattle.grid.proofs.Size.{size_high}
 use Rattle.table.specs.declared.layout.Layout.TheVariants.{Narrow}
-use Rattle.table.specs.Layout.{laid, laid_view}
-use Rattle.sums.specs.Inner.{line_cell, Before}
+use Rattle.table.specs.Layout.{laid_view}
 use Rattle.sums.proofs.Steps.{line_start, before_same, row_ready, one_on}
 use Rattle.sums.proofs.inner_rows.narrow_row.Goals as goal
 
@@ -39,12 +37,16 @@ pub inner_bin-line-requires : goal.inner_bin-line-requires
 inner_bin-line-requires c =
     let s = c in
     let l = c.loop-b in
-    let i = s.requires.ready.inside in record { ready = row_ready (record { accepted = i.accepted; one = i.one; two = i.two; three = c.loop-b-test.true })
-          l.invariant.2; line_value = l.invariant.1; r_nonzero = (
-          s.requires.r_nonzero.0,
-          s.requires.r_nonzero.1,
-          ap (λ (n : ℕ). n + l.b) c.place-start.ensures ∙ place_along s.args.g s.args.r s.args.gr l.b,
-        ) }
+    let i = s.requires.ready.inside in record {
+      ready = row_ready (record { accepted = i.accepted; one = i.one; two = i.two; three = c.loop-b-test.true })
+          l.invariant.2;
+      line_value = l.invariant.1;
+      r_nonzero = (
+        s.requires.r_nonzero.0,
+        s.requires.r_nonzero.1,
+        ap (λ (n : ℕ). n + l.b) c.place-start.ensures ∙ place_along s.args.g s.args.r s.args.gr l.b,
+      );
+    }
 
 pub overflow_add-b : goal.overflow_add-b
 overflow_add-b c =

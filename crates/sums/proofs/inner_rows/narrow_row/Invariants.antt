@@ -1,19 +1,13 @@
 -- `sums::inner_rows::narrow_row` meets its contract: after b bins of the row their moments stand, and the line is the sum
 -- along them.
 -- Assumes nothing.
-use mathlib.Core.Path.{◌≡◌, refl, sym, ap, ◌∙◌}
-use Prim.Native.Nat.{ℕ, ◌+◌, ◌≤◌, ◌-◌}
-use native.Mathlib.Nat.{add-zero, add_assoc}
-use native.Mathlib.Omega.{arith}
-use borrow.Author.Rules.{rules}
+use mathlib.Core.Path.{◌≡◌}
+use Prim.Native.Nat.{◌+◌, ◌≤◌, ◌-◌}
 use lib.ListN.{length}
 use Rattle.grid.specs.Grid.{place_of}
-use Rattle.grid.proofs.Places.{three, place_lt, place_along, bins_high}
-use Rattle.grid.proofs.Size.{size_high}
 use Rattle.table.specs.declared.layout.Layout.TheVariants.{Narrow}
 use Rattle.table.specs.Layout.{laid, laid_view}
 use Rattle.sums.specs.Inner.{line_cell, Before}
-use Rattle.sums.proofs.Steps.{line_start, before_same, row_ready, one_on}
 use Rattle.sums.proofs.inner_rows.narrow_row.Given as goal
 
 abbrev pub invariant-loop-b : goal.invariant-loop-b

@@ -1,16 +1,13 @@
 -- `sums::moments` meets its contract: after each plane the moments of the planes so far stand.
 -- Assumes nothing.
 use mathlib.Core.Path.{◌≡◌, refl, sym, ap, ◌∙◌}
-use Prim.Native.Nat.{ℕ, ◌+◌, ◌≤◌, ◌-◌, ◌*◌}
+use Prim.Native.Nat.{ℕ, ◌+◌, ◌≤◌, ◌*◌}
 use native.Mathlib.Nat.{zero-add, zero-mul, mul_assoc, mul-le-mul}
 use native.Mathlib.Omega.{arith}
 use borrow.Author.Rules.{rules}
-use lib.ListN.{length}
 use Rattle.grid.specs.Grid.{bins_of}
 use Rattle.grid.proofs.Places.{one, two, three, plane_start, plane_high}
 use Rattle.grid.proofs.Size.{size_low, size_high}
-use Rattle.table.specs.Layout.{laid}
-use Rattle.sums.specs.Inner.{Before}
 use Rattle.sums.proofs.Steps.{before_same, add_one_mul, none_made, all_made}
 use Rattle.sums.proofs.moments.moments.Goals as goal
 
@@ -24,7 +21,8 @@ next_plane-requires c =
     let s = c in
     let l = c.loop-r in
     let a = s.requires.table.accepted in
-    let here = plane_start s.args.g l.r ∙ zero-add _ in record { ready = record {
+    let here = plane_start s.args.g l.r ∙ zero-add _ in record {
+      ready = record {
         inside =
             record {
               accepted = a;
@@ -34,7 +32,9 @@ next_plane-requires c =
                   omega (arith, size_low (three a));
             };
         before = before_same l.invariant.1 (sym here);
-      }; first_value = l.invariant.2 ∙ sym here }
+      };
+      first_value = l.invariant.2 ∙ sym here;
+    }
 
 pub overflow_mul-first : goal.overflow_mul-first
 overflow_mul-first c = omega (arith, plane_high c.requires.table.accepted)

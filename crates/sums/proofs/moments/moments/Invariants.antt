@@ -1,17 +1,10 @@
 -- `sums::moments` meets its contract: after each plane the moments of the planes so far stand.
 -- Assumes nothing.
-use mathlib.Core.Path.{◌≡◌, refl, sym, ap, ◌∙◌}
-use Prim.Native.Nat.{ℕ, ◌+◌, ◌≤◌, ◌-◌, ◌*◌}
-use native.Mathlib.Nat.{zero-add, zero-mul, mul_assoc, mul-le-mul}
-use native.Mathlib.Omega.{arith}
-use borrow.Author.Rules.{rules}
+use mathlib.Core.Path.{◌≡◌}
+use Prim.Native.Nat.{◌≤◌, ◌-◌, ◌*◌}
 use lib.ListN.{length}
-use Rattle.grid.specs.Grid.{bins_of}
-use Rattle.grid.proofs.Places.{one, two, three, plane_start, plane_high}
-use Rattle.grid.proofs.Size.{size_low, size_high}
 use Rattle.table.specs.Layout.{laid}
 use Rattle.sums.specs.Inner.{Before}
-use Rattle.sums.proofs.Steps.{before_same, add_one_mul, none_made, all_made}
 use Rattle.sums.proofs.moments.moments.Given as goal
 
 abbrev pub invariant-loop-r : goal.invariant-loop-r

@@ -1,16 +1,13 @@
 -- `sums::next_plane` meets its contract: after each row the moments of the rows so far stand.
 -- Assumes nothing.
 use mathlib.Core.Path.{◌≡◌, refl, sym, ap, ◌∙◌}
-use Prim.Native.Nat.{ℕ, ◌+◌, ◌≤◌, ◌-◌, ◌*◌}
+use Prim.Native.Nat.{ℕ, ◌+◌, ◌*◌}
 use native.Mathlib.Nat.{add-zero, zero-mul, add_assoc}
 use native.Mathlib.Omega.{arith}
 use borrow.Author.Rules.{rules}
-use lib.ListN.{length}
 use Rattle.grid.specs.Grid.{place_of, Inside}
 use Rattle.grid.proofs.Places.{two, three, row_start, place_lt, bins_high}
 use Rattle.grid.proofs.Size.{size_high}
-use Rattle.table.specs.Layout.{laid}
-use Rattle.sums.specs.Inner.{Before}
 use Rattle.sums.proofs.Steps.{before_same, add_one_mul}
 use Rattle.sums.proofs.moments.next_plane.Goals.{After-struct_known-in-loop-gr-1, Start}
 use Rattle.sums.proofs.moments.next_plane.Goals as goal
@@ -30,10 +27,13 @@ pub next_row-requires : goal.next_row-requires
 next_row-requires c =
     let s = c in
     let l = c.loop-gr in
-    let i = s.requires.ready.inside in record { ready = record {
+    let i = s.requires.ready.inside in record {
+      ready = record {
         inside = record { accepted = i.accepted; one = i.one; two = c.loop-gr-test.true; three = i.three };
         before = before_same l.invariant.1 (sym (row_start s.args.g s.args.r l.gr));
-      }; start_value = l.invariant.2 }
+      };
+      start_value = l.invariant.2;
+    }
 
 -- the row that was written stands in the grid
 module _ (c : After-struct_known-in-loop-gr-1) where

@@ -1,17 +1,11 @@
 -- `sums::next_plane` meets its contract: after each row the moments of the rows so far stand.
 -- Assumes nothing.
-use mathlib.Core.Path.{◌≡◌, refl, sym, ap, ◌∙◌}
-use Prim.Native.Nat.{ℕ, ◌+◌, ◌≤◌, ◌-◌, ◌*◌}
-use native.Mathlib.Nat.{add-zero, zero-mul, add_assoc}
-use native.Mathlib.Omega.{arith}
-use borrow.Author.Rules.{rules}
+use mathlib.Core.Path.{◌≡◌}
+use Prim.Native.Nat.{◌+◌, ◌≤◌, ◌-◌, ◌*◌}
 use lib.ListN.{length}
-use Rattle.grid.specs.Grid.{place_of, Inside}
-use Rattle.grid.proofs.Places.{two, three, row_start, place_lt, bins_high}
-use Rattle.grid.proofs.Size.{size_high}
+use Rattle.grid.specs.Grid.{place_of}
 use Rattle.table.specs.Layout.{laid}
 use Rattle.sums.specs.Inner.{Before}
-use Rattle.sums.proofs.Steps.{before_same, add_one_mul}
 use Rattle.sums.proofs.moments.next_plane.Given as goal
 
 abbrev pub invariant-loop-gr : goal.invariant-loop-gr

@@ -41,8 +41,11 @@ enum_told-1 c = search rules
 pub wide_row-requires : goal.wide_row-requires
 wide_row-requires c =
     let s = c in
-    let a = s.args in record { ready = ready_as c.in-Wide.is a.g a.small.now a.large.now a.smallwork.now
-          a.largework.now a.r a.gr 0 s.requires.ready; r_nonzero = (omega (arith, c.if-r-eq0.false), omega (arith, c.if-gr-eq0.false), s.requires.start_value) }
+    let a = s.args in record {
+      ready = ready_as c.in-Wide.is a.g a.small.now a.large.now a.smallwork.now
+          a.largework.now a.r a.gr 0 s.requires.ready;
+      r_nonzero = (omega (arith, c.if-r-eq0.false), omega (arith, c.if-gr-eq0.false), s.requires.start_value);
+    }
 
 pub enum_told-in-Narrow : goal.enum_told-in-Narrow
 enum_told-in-Narrow c = search rules
@@ -50,8 +53,11 @@ enum_told-in-Narrow c = search rules
 pub narrow_row-requires : goal.narrow_row-requires
 narrow_row-requires c =
     let s = c in
-    let a = s.args in record { ready = ready_as c.in-Narrow.is a.g a.small.now a.large.now a.smallwork.now
-          a.largework.now a.r a.gr 0 s.requires.ready; r_nonzero = (omega (arith, c.if-r-eq0.false), omega (arith, c.if-gr-eq0.false)) }
+    let a = s.args in record {
+      ready = ready_as c.in-Narrow.is a.g a.small.now a.large.now a.smallwork.now
+          a.largework.now a.r a.gr 0 s.requires.ready;
+      r_nonzero = (omega (arith, c.if-r-eq0.false), omega (arith, c.if-gr-eq0.false));
+    }
 
 pub shape_of-smallwork-in-Wide : goal.shape_of-smallwork-in-Wide
 shape_of-smallwork-in-Wide c = search rules

@@ -1,11 +1,9 @@
 -- `swatches::listing::swatch_lines` meets its contract: after each turn the first line and the lines so far are put.
 -- Assumes nothing.
 use mathlib.Core.Path.{◌≡◌, ◌∙◌}
-use Prim.Native.Nat.{◌+◌, ◌-◌, ◌*◌, ◌≤◌}
 use native.Mathlib.Omega.{arith}
 use native.Mathlib.Numerals.{add-one}
 use borrow.Author.Rules.{rules}
-use Rattle.lines.specs.Text.{Put}
 use Rattle.swatches.specs.Swatches.{swatch_lines, swatch_listing}
 use Rattle.lines.proofs.Putting.{put_none, put_more, put_length, put_whole}
 use Rattle.swatches.proofs.listing.swatch_lines.Goals as goal

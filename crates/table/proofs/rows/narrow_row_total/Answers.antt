@@ -1,8 +1,7 @@
 -- `table::rows::narrow_row_total` meets its contract: after b bins all of them are in bounds and the total is that of their
 -- weights.
 -- Assumes nothing.
-use Rattle.std.proofs.Common.{◌≡◌, ℕ, ◌+◌, ◌-◌, ◌*◌, ◌<◌, ◌≤◌, Bool, true, ◌&&◌, leb, sym, refl, ap, ◌∙◌, lt_of_lt_of_le, add-zero, add_assoc, arith, leb-true}
-use borrow.Author.Tests.{not-true, not-false}
+use Rattle.std.proofs.Common.{◌≡◌, ℕ, ◌+◌, ◌<◌, ◌≤◌, Bool, true, ◌&&◌, leb, sym, refl, ap, ◌∙◌, lt_of_lt_of_le, add-zero, add_assoc, arith, leb-true}
 use Rattle.grid.specs.declared.place.Grid.{Grid}
 use Rattle.basics.specs.Range.{sum_from, all_from}
 use Rattle.grid.proofs.Size.{size_high}

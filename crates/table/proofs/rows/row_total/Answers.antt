@@ -14,8 +14,11 @@ enum_told-1 c = search rules
 pub wide_row_total-requires : goal.wide_row_total-requires
 wide_row_total-requires c =
     let s = c in
-    let a = s.args in record { row = subst (λ (l : Layout). Row l a.g (laid l a.small.now a.large.now) a.r a.gr a.had)
-          c.in-Wide.is s.requires.row; spans = s.requires.spans }
+    let a = s.args in record {
+      row = subst (λ (l : Layout). Row l a.g (laid l a.small.now a.large.now) a.r a.gr a.had)
+          c.in-Wide.is s.requires.row;
+      spans = s.requires.spans;
+    }
 
 pub enum_told-in-Narrow : goal.enum_told-in-Narrow
 enum_told-in-Narrow c = search rules
@@ -23,8 +26,11 @@ enum_told-in-Narrow c = search rules
 pub narrow_row_total-requires : goal.narrow_row_total-requires
 narrow_row_total-requires c =
     let s = c in
-    let a = s.args in record { row = subst (λ (l : Layout). Row l a.g (laid l a.small.now a.large.now) a.r a.gr a.had)
-          c.in-Narrow.is s.requires.row; spans = s.requires.spans }
+    let a = s.args in record {
+      row = subst (λ (l : Layout). Row l a.g (laid l a.small.now a.large.now) a.r a.gr a.had)
+          c.in-Narrow.is s.requires.row;
+      spans = s.requires.spans;
+    }
 
 pub returns-in-Wide : goal.returns-in-Wide
 returns-in-Wide c =

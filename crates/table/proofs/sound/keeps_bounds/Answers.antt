@@ -2,7 +2,6 @@
 -- Assumes nothing.
 -- ---- on entry: the bin's spans, its bounds by them, and what is told of them
 use Rattle.std.proofs.Common.{◌≡◌, ◌*◌, ◌<◌, Bool, true, ◌&&◌, leb, get_or, sym, ap, ◌∙◌, lt_of_lt_of_le, arith, rules}
-use borrow.Author.Tests.{not-true, not-false}
 use Rattle.grid.specs.declared.dimension.Span.{Span}
 use Rattle.grid.specs.Size.{span_of}
 use Rattle.basics.specs.Dimension.{choose}

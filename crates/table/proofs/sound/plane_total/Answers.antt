@@ -1,6 +1,6 @@
 -- `table::sound::plane_total` meets its contract: after each row the total is that of the rows so far.
 -- Assumes nothing.
-use Rattle.std.proofs.Common.{◌≡◌, ℕ, ◌-◌, ◌*◌, ◌≤◌, sym, ap, ◌∙◌, zero-mul, arith, rules}
+use Rattle.std.proofs.Common.{◌≡◌, ℕ, ◌*◌, sym, ap, ◌∙◌, zero-mul, arith, rules}
 use Rattle.grid.specs.Grid.{place_of}
 use Rattle.grid.proofs.Places.{two, row_start}
 use Rattle.grid.proofs.Size.{size_high}
@@ -23,7 +23,8 @@ loop-gr-init c =
 pub row_total-requires : goal.row_total-requires
 row_total-requires c =
     let s = c in
-    let l = c.loop-gr in record { row = record {
+    let l = c.loop-gr in record {
+      row = record {
         table = s.requires.row.table;
         inside =
             record {
@@ -34,7 +35,9 @@ row_total-requires c =
                   s.requires.row.inside.three;
             };
         under = scan_under (limit_of s.args.layout) s.args.g (laid_view s.args.layout s.args.small.now s.args.large.now) _ _ _ l.total l.invariant.1;
-      }; spans = s.requires.spans }
+      };
+      spans = s.requires.spans;
+    }
 
 pub enum_known-x : goal.enum_known-x
 enum_known-x c = search rules

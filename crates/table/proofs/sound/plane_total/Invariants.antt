@@ -1,14 +1,11 @@
 -- `table::sound::plane_total` meets its contract: after each row the total is that of the rows so far.
 -- Assumes nothing.
-use Rattle.std.proofs.Common.{◌≡◌, ℕ, ◌-◌, ◌*◌, ◌≤◌, sym, ap, ◌∙◌, zero-mul, arith, rules}
+use Rattle.std.proofs.Common.{◌≡◌, ◌-◌, ◌*◌, ◌≤◌}
 use Rattle.grid.specs.Grid.{place_of}
-use Rattle.grid.proofs.Places.{two, row_start}
-use Rattle.grid.proofs.Size.{size_high}
-use Rattle.table.specs.declared.sound.SoundTotal.TheVariants.{Total, Unsound}
+use Rattle.table.specs.declared.sound.SoundTotal.TheVariants.{Total}
 use Rattle.table.specs.Inner.{scanned}
 use Rattle.table.specs.Sound.{limit_of}
 use Rattle.table.specs.Layout.{laid_view}
-use Rattle.table.proofs.Scans.{scan_none, scan_under, block_more, block_stop}
 use Rattle.table.proofs.sound.plane_total.Given as goal
 
 abbrev pub invariant-loop-gr : goal.invariant-loop-gr

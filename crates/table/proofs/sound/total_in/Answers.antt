@@ -1,7 +1,7 @@
 -- `table::sound::total_in` meets its contract: after each plane the total is that of the planes so far.
 -- Assumes nothing.
 -- all bins are the planes' bins
-use Rattle.std.proofs.Common.{◌≡◌, ℕ, ◌-◌, ◌*◌, ◌≤◌, sym, refl, ap, ◌∙◌, mul_assoc, zero-mul, arith, rules}
+use Rattle.std.proofs.Common.{◌≡◌, ℕ, ◌*◌, sym, refl, ap, ◌∙◌, mul_assoc, zero-mul, arith, rules}
 use Rattle.grid.specs.declared.place.Grid.{Grid}
 use Rattle.grid.specs.Grid.{bins_of}
 use Rattle.grid.proofs.Places.{one, two, three, plane_start}
@@ -51,7 +51,8 @@ plane_total-requires c =
     let t = (goal.at-plane_total-requires c).In-loop-r in
     let s = entry (filled t) in
     let l = t.loop-r in
-    let a = s.requires.accepted in record { row = record {
+    let a = s.requires.accepted in record {
+      row = record {
         table = s.requires;
         inside =
             record {
@@ -61,7 +62,9 @@ plane_total-requires c =
               three = omega (arith, size_low (three a));
             };
         under = scan_under (limit_of s.args.layout) s.args.g (view s) _ _ _ l.total l.invariant.1;
-      }; spans = rw (filled t).fill_spans.ensures (filled_table a _) }
+      };
+      spans = rw (filled t).fill_spans.ensures (filled_table a _);
+    }
 
 pub enum_known-x : goal.enum_known-x
 enum_known-x c = search rules

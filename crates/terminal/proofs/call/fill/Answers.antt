@@ -1,11 +1,9 @@
 -- `terminal::call::fill` meets its contract: after i entries i numbers are written.
 -- Assumes nothing.
 use mathlib.Core.Path.{◌≡◌, refl, ap, ◌∙◌}
-use Prim.Native.Nat.{ℕ, ◌+◌, ◌/◌, ◌-◌, ◌≤◌}
 use native.Mathlib.Omega.{arith}
-use lib.ListN.{length}
 use Rattle.terminal.specs.Nearest.{entries_in, nearest_of, nearest_at, numbers_for}
-use Rattle.terminal.proofs.Calls.{Written, written_more, written_all}
+use Rattle.terminal.proofs.Calls.{written_more, written_all}
 use Rattle.terminal.proofs.call.fill.Goals as goal
 
 pub loop-i-init : goal.loop-i-init

@@ -1,8 +1,7 @@
 -- `terminal::closest::closest` meets its contract: after k turns the smallest key of the first k numbers is kept.
 -- Assumes nothing.
 use mathlib.Core.Path.{◌≡◌, ap, ◌∙◌}
-use mathlib.Core.Logic.{⊎_elim}
-use Prim.Native.Nat.{ℕ, ◌+◌, ◌*◌, ◌%◌, ◌-◌, ◌≤◌}
+use Prim.Native.Nat.{ℕ, ◌+◌, ◌*◌, ◌%◌, ◌-◌}
 use native.Mathlib.Omega.{arith}
 use Rattle.terminal.specs.Nearest.{distance_of, least_from, nearest_of}
 use Rattle.terminal.proofs.Lowest.{lowest_is, key_of, key_next, key_same}
@@ -54,10 +53,10 @@ loop-k-preserved c =
       omega arith,
       omega arith,
       elim c.if-key-least.branch [
-        then-key-least w ↦ w.least-is
+        | then-key-least w ↦ w.least-is
             ∙ key_next 16 f (omega arith) l.k l.least x l.invariant.0 (omega arith) l.invariant.2 key
             (omega (arith, w.if-key-least.true))
-      | else-key-least w ↦ w.least-is
+        | else-key-least w ↦ w.least-is
             ∙ key_same 16 f (omega arith) l.k l.least x l.invariant.0 (omega arith) l.invariant.2 key
             (omega (arith, w.if-key-least.false))
       ],

@@ -1,11 +1,9 @@
 -- `terminal::closest::closest` meets its contract: after k turns the smallest key of the first k numbers is kept.
 -- Assumes nothing.
-use mathlib.Core.Path.{◌≡◌, ap, ◌∙◌}
-use mathlib.Core.Logic.{⊎_elim}
-use Prim.Native.Nat.{ℕ, ◌+◌, ◌*◌, ◌%◌, ◌-◌, ◌≤◌}
-use native.Mathlib.Omega.{arith}
-use Rattle.terminal.specs.Nearest.{distance_of, least_from, nearest_of}
-use Rattle.terminal.proofs.Lowest.{lowest_is, key_of, key_next, key_same}
+use mathlib.Core.Path.{◌≡◌}
+use Prim.Native.Nat.{◌-◌, ◌≤◌}
+use Rattle.terminal.specs.Nearest.{distance_of, least_from}
+use Rattle.terminal.proofs.Lowest.{key_of}
 use Rattle.terminal.proofs.closest.closest.Given as goal
 
 abbrev pub invariant-loop-k : goal.invariant-loop-k

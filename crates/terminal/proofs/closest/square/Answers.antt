@@ -21,5 +21,4 @@ unfolding square_of
 returns c = (
   λ i. c.difference-by.ensures.0 i * c.difference-by.ensures.0 i,
   square_bound c.difference-by.result c.difference-by.ensures.1,
-
 )

@@ -1,12 +1,11 @@
 -- `terminal::planes::plane` meets its contract: the loop fills the plane from the front.
 -- Assumes nothing.
-use mathlib.Core.Path.{◌≡◌, refl, ap, ◌∙◌}
+use mathlib.Core.Path.{refl, ap, ◌∙◌}
 use mathlib.Core.List.{List}
-use Prim.Native.Nat.{ℕ, ◌+◌, ◌*◌, ◌-◌, ◌≤◌}
+use Prim.Native.Nat.{ℕ, ◌+◌, ◌*◌}
 use native.Mathlib.Omega.{arith}
-use lib.ListN.{length, get_or, length-set}
-use Rattle.basics.proofs.Range.{Filled, filled_more, list_is}
-use Rattle.terminal.specs.Colours.{level_at}
+use lib.ListN.{get_or, length-set}
+use Rattle.basics.proofs.Range.{filled_more, list_is}
 use Rattle.terminal.specs.Inner.{plane_of}
 use Rattle.terminal.proofs.Laws.{table_at}
 use Rattle.terminal.proofs.planes.plane.Goals as goal

@@ -1,7 +1,6 @@
 -- `widen::call::widen_bins` meets its contract: after p places the table holds the first p cells of the narrow one.
 -- Assumes nothing.
 use mathlib.Core.Path.{◌≡◌, ap, ◌∙◌}
-use Prim.Native.Nat.{◌≤◌, ◌-◌}
 use native.Mathlib.Omega.{arith}
 use lib.Dec.{lit≤}
 use Rattle.grid.proofs.Places.{bins_high}
@@ -11,11 +10,11 @@ use Rattle.table.specs.Cell.{View, number_of}
 use Rattle.table.specs.Table.{view_of}
 use Rattle.table.specs.Narrow.{NarrowTable, narrow_table, narrow_view}
 use Rattle.table.proofs.Cells.{number_cell}
-use Rattle.table.proofs.Tables.{Holds, has_cell, same_size}
+use Rattle.table.proofs.Tables.{has_cell, same_size}
 use Rattle.table.proofs.Layouts.{cell_in}
 use Rattle.table.proofs.Soundness.{sound_held}
 use Rattle.widen.specs.Widen.{widened}
-use Rattle.widen.proofs.Writing.{partly, none_written, one_written, all_written}
+use Rattle.widen.proofs.Writing.{none_written, one_written, all_written}
 use Rattle.widen.proofs.call.widen_bins.Goals.{Start}
 use Rattle.widen.proofs.call.widen_bins.Goals as goal
 
