@@ -77,8 +77,7 @@ pub(crate) fn cut_and_write(
 // Cuts a table into at most k boxes: their colours go into the palette, their weights into the counts, what the means
 // leave of their sums into the remainders, the index of the box of each bin into the map, and the boxes with their
 // spreads into arrays of their own.
-#[unsafe(no_mangle)]
-pub extern "C" fn seluvava_cut(
+pub fn seluvava_cut(
     b1: usize,
     b2: usize,
     b3: usize,
@@ -128,8 +127,7 @@ pub extern "C" fn seluvava_cut(
 }
 
 // The same without a work table: the bins of a box are added up each time that its sums are needed.
-#[unsafe(no_mangle)]
-pub extern "C" fn seluvava_cut_slowly(
+pub fn seluvava_cut_slowly(
     b1: usize,
     b2: usize,
     b3: usize,

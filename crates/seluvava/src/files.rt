@@ -29,8 +29,7 @@ fn refused(number: u8) -> PpmAnswer
 }
 
 // Reads the header of a PPM.
-#[unsafe(no_mangle)]
-pub extern "C" fn seluvava_ppm_header(file: &[u8]) -> PpmAnswer
+pub fn seluvava_ppm_header(file: &[u8]) -> PpmAnswer
     ensures { result ≡ ppm_header file.now }
 {
     match read_header(file) {
@@ -46,14 +45,7 @@ pub extern "C" fn seluvava_ppm_header(file: &[u8]) -> PpmAnswer
 }
 
 // Adds the pixels of a PPM to a table.
-#[unsafe(no_mangle)]
-pub extern "C" fn seluvava_load_ppm(
-    b1: usize,
-    b2: usize,
-    b3: usize,
-    table: &mut [u64],
-    file: &[u8],
-) -> u8
+pub fn seluvava_load_ppm(b1: usize, b2: usize, b3: usize, table: &mut [u64], file: &[u8]) -> u8
     ensures number { result ≡ ppm_number b1 b2 b3 table.old file.now }
     ensures later { table.new ≡ ppm_later b1 b2 b3 table.old file.now }
 {

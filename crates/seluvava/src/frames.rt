@@ -4,8 +4,7 @@ ghost use Rattle.mapper.specs.Map.{map_number, map_later};
 ghost use Rattle.painter.specs.Paint.{paint_number, paint_later};
 
 // The index of each pixel of a band of a frame, into the same band of the index buffer.
-#[unsafe(no_mangle)]
-pub extern "C" fn seluvava_map(
+pub fn seluvava_map(
     b1: usize,
     b2: usize,
     b3: usize,
@@ -37,8 +36,7 @@ pub extern "C" fn seluvava_map(
 }
 
 // The palette's colour at each pixel's index, in the place of a band of a frame.
-#[unsafe(no_mangle)]
-pub extern "C" fn seluvava_paint(
+pub fn seluvava_paint(
     b1: usize,
     b2: usize,
     b3: usize,

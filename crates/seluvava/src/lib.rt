@@ -1,4 +1,4 @@
-// The calls for C and Rust; include/seluvava.h says the same to their callers.
+// The calls for C and Rust, which seluvava_c exports; include/seluvava.h says the same to their callers.
 #![tactic(auto)]
 
 mod arrays;

@@ -14,8 +14,7 @@ use sums::source::Source;
 use table::layout::Layout;
 
 // Adds a batch of colours to a narrow table.
-#[unsafe(no_mangle)]
-pub extern "C" fn seluvava_narrow_load(
+pub fn seluvava_narrow_load(
     b1: usize,
     b2: usize,
     b3: usize,
@@ -46,8 +45,7 @@ pub extern "C" fn seluvava_narrow_load(
 }
 
 // Adds a second narrow table into a first.
-#[unsafe(no_mangle)]
-pub extern "C" fn seluvava_narrow_merge(
+pub fn seluvava_narrow_merge(
     b1: usize,
     b2: usize,
     b3: usize,
@@ -76,8 +74,7 @@ pub extern "C" fn seluvava_narrow_merge(
 }
 
 // Cuts a narrow table into at most k boxes; all but the tables is as for a wide one.
-#[unsafe(no_mangle)]
-pub extern "C" fn seluvava_narrow_cut(
+pub fn seluvava_narrow_cut(
     b1: usize,
     b2: usize,
     b3: usize,
@@ -130,8 +127,7 @@ pub extern "C" fn seluvava_narrow_cut(
 }
 
 // The same without a work table.
-#[unsafe(no_mangle)]
-pub extern "C" fn seluvava_narrow_cut_slowly(
+pub fn seluvava_narrow_cut_slowly(
     b1: usize,
     b2: usize,
     b3: usize,
@@ -184,8 +180,7 @@ pub extern "C" fn seluvava_narrow_cut_slowly(
 }
 
 // Writes the wide table of a narrow one.
-#[unsafe(no_mangle)]
-pub extern "C" fn seluvava_widen(
+pub fn seluvava_widen(
     b1: usize,
     b2: usize,
     b3: usize,

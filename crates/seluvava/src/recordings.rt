@@ -7,24 +7,21 @@ ghost use Rattle.recorder.specs.Replay.{recorded, replay_answer, replay_table, r
 use recorder::session::{Session, SessionAnswer};
 
 // Begins a session.
-#[unsafe(no_mangle)]
-pub extern "C" fn seluvava_begin(interval: u32) -> SessionAnswer
+pub fn seluvava_begin(interval: u32) -> SessionAnswer
     ensures { result ≡ begun interval }
 {
     recorder::session::begin(interval)
 }
 
 // Changes the interval in force.
-#[unsafe(no_mangle)]
-pub extern "C" fn seluvava_reload(session: Session, interval: u32) -> SessionAnswer
+pub fn seluvava_reload(session: Session, interval: u32) -> SessionAnswer
     ensures { result ≡ reloaded session interval }
 {
     recorder::session::reload(session, interval)
 }
 
 // Adds a batch of colours to a table, each weight multiplied by its interval.
-#[unsafe(no_mangle)]
-pub extern "C" fn seluvava_batch(
+pub fn seluvava_batch(
     session: Session,
     interval: u32,
     b1: usize,
@@ -48,8 +45,7 @@ pub extern "C" fn seluvava_batch(
 }
 
 // Replays a recorded list into a table.
-#[unsafe(no_mangle)]
-pub extern "C" fn seluvava_replay(
+pub fn seluvava_replay(
     first: u32,
     b1: usize,
     b2: usize,

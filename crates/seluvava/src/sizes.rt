@@ -5,8 +5,7 @@ ghost use Rattle.seluvava.specs.Sizes.{bins_for};
 use grid::place::{Chosen, bins, grid_of};
 
 // The bins of a grid, or 0 where it is refused.
-#[unsafe(no_mangle)]
-pub extern "C" fn seluvava_bins(b1: usize, b2: usize, b3: usize) -> usize
+pub fn seluvava_bins(b1: usize, b2: usize, b3: usize) -> usize
     ensures { result ≡ bins_for b1 b2 b3 }
 {
     let Chosen::Accepted(g) = grid_of(b1, b2, b3) else {

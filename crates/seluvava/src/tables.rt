@@ -11,8 +11,7 @@ use grid::place::{Chosen, grid_of};
 use table::wide::table_len;
 
 // How many numbers a table has, or 0 where the grid is refused.
-#[unsafe(no_mangle)]
-pub extern "C" fn seluvava_table_len(b1: usize, b2: usize, b3: usize) -> usize
+pub fn seluvava_table_len(b1: usize, b2: usize, b3: usize) -> usize
     ensures { result ≡ table_len_for b1 b2 b3 }
 {
     let Chosen::Accepted(g) = grid_of(b1, b2, b3) else {
@@ -22,8 +21,7 @@ pub extern "C" fn seluvava_table_len(b1: usize, b2: usize, b3: usize) -> usize
 }
 
 // Adds a batch of colours to a table.
-#[unsafe(no_mangle)]
-pub extern "C" fn seluvava_load(
+pub fn seluvava_load(
     b1: usize,
     b2: usize,
     b3: usize,
@@ -41,14 +39,7 @@ pub extern "C" fn seluvava_load(
 }
 
 // Adds a second table into a first.
-#[unsafe(no_mangle)]
-pub extern "C" fn seluvava_merge(
-    b1: usize,
-    b2: usize,
-    b3: usize,
-    table: &mut [u64],
-    second: &[u64],
-) -> u8
+pub fn seluvava_merge(b1: usize, b2: usize, b3: usize, table: &mut [u64], second: &[u64]) -> u8
     ensures number { result ≡ merge_number b1 b2 b3 table.old second.now }
     ensures later { table.new ≡ merge_later b1 b2 b3 table.old second.now }
 {
@@ -56,8 +47,7 @@ pub extern "C" fn seluvava_merge(
 }
 
 // Compares a second table with a first.
-#[unsafe(no_mangle)]
-pub extern "C" fn seluvava_compare(
+pub fn seluvava_compare(
     b1: usize,
     b2: usize,
     b3: usize,
@@ -74,14 +64,7 @@ pub extern "C" fn seluvava_compare(
 }
 
 // Clears what keeps a table from being sound, and says why.
-#[unsafe(no_mangle)]
-pub extern "C" fn seluvava_rescue(
-    b1: usize,
-    b2: usize,
-    b3: usize,
-    table: &mut [u64],
-    reasons: &mut [u8],
-) -> u8
+pub fn seluvava_rescue(b1: usize, b2: usize, b3: usize, table: &mut [u64], reasons: &mut [u8]) -> u8
     ensures number { result ≡ rescue_number b1 b2 b3 table.old reasons.old }
     ensures table { table.new ≡ rescue_table b1 b2 b3 table.old reasons.old }
     ensures reasons { reasons.new

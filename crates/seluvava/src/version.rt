@@ -9,8 +9,7 @@ const MINOR: u32 = 9;
 const PATCH: u32 = 0;
 
 // The three numbers of the version as one.
-#[unsafe(no_mangle)]
-pub extern "C" fn seluvava_version() -> u32
+pub fn seluvava_version() -> u32
     ensures { result ≡ version_number }
 {
     10000 * MAJOR + 100 * MINOR + PATCH

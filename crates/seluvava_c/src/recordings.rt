@@ -1,0 +1,76 @@
+// Recordings: sessions, batches that say their interval, and replays.
+ghost use Rattle.std.specs.Prelude.{◌≡◌};
+ghost use Rattle.recorder.specs.Session.{begun, reloaded};
+ghost use Rattle.recorder.specs.Batch.{batch_number, batch_later};
+ghost use Rattle.recorder.specs.Replay.{recorded, replay_answer, replay_table, replay_bytes};
+
+use recorder::session::{Session, SessionAnswer};
+
+// Begins a session.
+#[unsafe(no_mangle)]
+pub extern "C" fn seluvava_begin(interval: u32) -> SessionAnswer
+    ensures { result ≡ begun interval }
+{
+    seluvava::recordings::seluvava_begin(interval)
+}
+
+// Changes the interval in force.
+#[unsafe(no_mangle)]
+pub extern "C" fn seluvava_reload(session: Session, interval: u32) -> SessionAnswer
+    ensures { result ≡ reloaded session interval }
+{
+    seluvava::recordings::seluvava_reload(session, interval)
+}
+
+// Adds a batch of colours to a table, each weight multiplied by its interval.
+#[unsafe(no_mangle)]
+pub extern "C" fn seluvava_batch(
+    session: Session,
+    interval: u32,
+    b1: usize,
+    b2: usize,
+    b3: usize,
+    table: &mut [u64],
+    colours: &[u8],
+    weighted: bool,
+    weights: &[u32],
+) -> u8
+    ensures number { result
+        ≡ batch_number session interval b1 b2 b3 table.old colours.now weighted
+        weights.now }
+    ensures later { table.new
+        ≡ batch_later session interval b1 b2 b3 table.old colours.now weighted
+        weights.now }
+{
+    seluvava::recordings::seluvava_batch(
+        session, interval, b1, b2, b3, table, colours, weighted, weights,
+    )
+}
+
+// Replays a recorded list into a table.
+#[unsafe(no_mangle)]
+pub extern "C" fn seluvava_replay(
+    first: u32,
+    b1: usize,
+    b2: usize,
+    b3: usize,
+    table: &mut [u64],
+    entries: &[u32],
+    colours: &[u8],
+    weights: &[u32],
+    answers: &mut [u8],
+) -> SessionAnswer
+    ensures answer { result
+        ≡ replay_answer first b1 b2 b3 table.old
+        (recorded entries.now colours.now weights.now answers.old) }
+    ensures table { table.new
+        ≡ replay_table first b1 b2 b3 table.old
+        (recorded entries.now colours.now weights.now answers.old) }
+    ensures answers { answers.new
+        ≡ replay_bytes first b1 b2 b3 table.old
+        (recorded entries.now colours.now weights.now answers.old) }
+{
+    seluvava::recordings::seluvava_replay(
+        first, b1, b2, b3, table, entries, colours, weights, answers,
+    )
+}
