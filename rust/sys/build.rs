@@ -52,7 +52,7 @@ fn given(directory: &Path) -> Result<PathBuf, String> {
 /// A directory with a copy of the project's own archive. Where a file of the code is newer, `rt` has to make it anew
 /// first. It writes the archive anew each time, so it is the code whose changes cargo is told to look for.
 fn of_project(root: &Path) -> Result<PathBuf, String> {
-    let code = ["crates", "crates.txt"].map(|source| root.join(source));
+    let code = code_of(root);
     for source in &code {
         println!("cargo::rerun-if-changed={}", source.display());
     }
@@ -71,6 +71,17 @@ fn of_project(root: &Path) -> Result<PathBuf, String> {
     }
 }
 
+/// The project's code: crates.txt, and of each crate what is proved and compiled, less what `rt` keeps beside it in out/.
+fn code_of(root: &Path) -> Vec<PathBuf> {
+    let mut code = vec![root.join("crates.txt")];
+    for folder in fs::read_dir(root.join("crates")).into_iter().flatten() {
+        let Ok(folder) = folder else { continue };
+        let parts = ["src", "specs", "proofs"].map(|part| folder.path().join(part));
+        code.extend(parts.into_iter().filter(|part| part.exists()));
+    }
+    code
+}
+
 /// When a file, or something below a directory, was last changed.
 fn last_change(path: &Path) -> io::Result<SystemTime> {
     let about = fs::metadata(path)?;
@@ -83,22 +94,30 @@ fn last_change(path: &Path) -> io::Result<SystemTime> {
     Ok(latest)
 }
 
-/// Has `rt` make the project's archive. It knows what has changed and proves that, and then compiles all of it: half a
-/// minute, and from nothing some minutes. Where there is no `rt`, an archive that is there already has to do.
+/// Has `rt` make the project's archive, and copies it to its place. `rt` knows what has changed and proves that, and then
+/// compiles all of it: half a minute, and from nothing some minutes. Where there is no `rt`, an archive that is there
+/// already has to do.
 fn by_the_kit(root: &Path, archive: &Path) -> Result<(), String> {
-    let command = "rt staticlib seluvava";
+    let command = "rt lib";
+    let exports = root.join("crates/seluvava_c");
     say(&format!(
         "{ARCHIVE} is not built, or older than the code: `{command}` proves and builds it, in half a minute or, from \
          nothing, some minutes"
     ));
     let begun = Instant::now();
     let mut rt = Command::new("rt");
-    rt.args(["staticlib", "seluvava"]).current_dir(root);
+    rt.arg("lib").current_dir(&exports);
     match rt.output() {
         Ok(ran) if ran.status.success() => {
             let seconds = begun.elapsed().as_secs();
             println!("cargo::warning=the code had changed: `{command}` took {seconds} s");
-            Ok(())
+            let place = archive.parent().expect("it is in a directory");
+            let copied = fs::create_dir_all(place)
+                .and_then(|()| fs::copy(exports.join("out/libseluvava_c.a"), archive));
+            match copied {
+                Ok(_) => Ok(()),
+                Err(e) => Err(format!("{} cannot be written: {e}", archive.display())),
+            }
         }
         Ok(ran) => {
             // Cargo shows nothing else that a script prints.
