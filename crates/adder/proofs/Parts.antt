@@ -20,7 +20,7 @@ use Rattle.pixels.proofs.EqualColours.{one_colour}
 use Rattle.basics.proofs.Range.{and_left, and_right, sum_append, sum_grow, sum_equal, sum_scale}
 use Rattle.grid.proofs.Places.{Bytes, colour_place_lt}
 use Rattle.table.specs.Cell.{View, number_of, cell_of}
-use Rattle.table.specs.declared.layout.Layout.{Layout}
+use Rattle.table.specs.Layouts.{Layout}
 use Rattle.table.specs.Layout.{TableIn, SizedIn, view_in}
 use Rattle.table.specs.Sound.{limit_of}
 use Rattle.adder.specs.Batch.{Weighted, share, adds, sum_over, weight_of, loaded, weighted_at, batch_of}

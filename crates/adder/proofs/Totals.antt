@@ -1,5 +1,6 @@
 -- Laws of a total that is held to a limit: the weights of a batch added to it, each multiplied by a scale.
 -- Assumes nothing.
+use Rattle.std.specs.Prelude.{None, Some}
 use mathlib.Core.Path.{◌≡◌, sym, ap}
 use mathlib.Core.Bool.{Bool, cond}
 use Prim.Native.Nat.{ℕ, ◌+◌, ◌-◌, ◌*◌, ◌/◌, ◌≤◌, ◌<◌}
@@ -8,17 +9,16 @@ use native.Mathlib.Omega.{arith}
 use borrow.Author.Tests.{le-leb, lt-leb}
 use Rattle.basics.specs.Range.{sum_from}
 use Rattle.basics.proofs.Range.{sum_split, sum_grow, sum_bounded}
-use Rattle.adder.specs.declared.add.Added.TheVariants.{Total, Passed}
 use Rattle.adder.specs.Inner.{held_to}
 use Rattle.adder.proofs.Loading.{times_high}
 
-pub held_within : (most n : ℕ) → n ≤ most → held_to most n ≡ Total n
+pub held_within : (most n : ℕ) → n ≤ most → held_to most n ≡ Some n
 unfolding held_to
-held_within most n h = ap (λ (b : Bool). cond b (Total n) Passed) (le-leb n most h)
+held_within most n h = ap (λ (b : Bool). cond b (Some n) None) (le-leb n most h)
 
-pub held_past : (most n : ℕ) → most < n → held_to most n ≡ Passed
+pub held_past : (most n : ℕ) → most < n → held_to most n ≡ None
 unfolding held_to
-held_past most n h = ap (λ (b : Bool). cond b (Total n) Passed) (lt-leb n most h)
+held_past most n h = ap (λ (b : Bool). cond b (Some n) None) (lt-leb n most h)
 
 -- ---- weights, a block at a time
 -- at most 4,096 weights, multiplied
@@ -35,13 +35,13 @@ more_weights scale had i k f h e q =
 
 -- past the limit after k weights, it is past it after more
 pub passes_early : (most scale had k n : ℕ) (f : ℕ → ℕ) → k ≤ n → most < had + scale * sum_from 0 k f
-    → Passed ≡ held_to most (had + scale * sum_from 0 n f)
+    → None ≡ held_to most (had + scale * sum_from 0 n f)
 passes_early most scale had k n f h l =
     sym (held_past most _ (omega (arith, mul-le-mul_left scale (sum_grow 0 k n f h))))
 
 -- ---- without weights: n is compared with what is left, divided
 module _ (most had scale n : ℕ) (h : had ≤ most) (s : 1 ≤ scale) where
-  pub left_passed : (most - had) / scale < n → Passed ≡ held_to most (had + scale * n)
+  pub left_passed : (most - had) / scale < n → None ≡ held_to most (had + scale * n)
   left_passed l =
       let over : most - had < n * scale = (div-lt_iff_lt-mul {k = scale} (omega arith)).0 l in
       sym (held_past most _ (omega (arith, mul_comm n scale)))

@@ -5,15 +5,15 @@ use Rattle.grid.specs.declared.place.Grid.{Grid}
 use Rattle.basics.specs.Answer.{refuse, when_done}
 use Rattle.grid.specs.Grid.{grid_of, grid_answer, on_grid, number_on, bins_of}
 use Rattle.table.specs.Cell.{View}
-use Rattle.table.specs.declared.layout.Layout.{Layout}
-use Rattle.table.specs.declared.layout.Layout.TheVariants.{Wide}
+use Rattle.table.specs.Layouts.{Layout}
+use Rattle.table.specs.Layouts.{Wide}
 use Rattle.table.specs.Table.{Table}
 use Rattle.table.specs.Layout.{TableIn, laid, is_sized_in, view_in, written_in}
 use Rattle.table.specs.Sound.{limit_of, total, sound, unsound_number}
 use Rattle.boxes.specs.declared.sides.Bounds.{Bounds}
 use Rattle.boxes.specs.Box.{no_box}
-use Rattle.sums.specs.declared.source.Source.{Source}
-use Rattle.sums.specs.declared.source.Source.TheVariants.{Moments, Bins}
+use Rattle.sums.specs.Sources.{Source}
+use Rattle.sums.specs.Sources.{Moments, Bins}
 use Rattle.sums.specs.Moments.{moments_of}
 use Rattle.rounds.specs.declared.gather.BoxSpread.{BoxSpread}
 use Rattle.rounds.specs.declared.gather.Boxes.{Boxes}

@@ -2,6 +2,7 @@
 -- contract allows are equal. `Learnt` is what a contract tells its caller of the arguments a, the result r and the
 -- parameters at exit e. What is lent in a layout is seen by `lent_lists`: a wide table has no small list.
 -- Assumes nothing.
+use Rattle.std.specs.Prelude.{Option}
 use mathlib.Core.Path.{◌≡◌, ap}
 use mathlib.Core.List.{List}
 use Prim.Native.Nat.{ℕ}
@@ -9,7 +10,7 @@ use lib.IntN.{ℤ}
 use lib.Ieee.{Float}
 use Rattle.basics.proofs.Determined.{determined}
 use Rattle.cutter.specs.declared.call.CutRecord.{CutRecord}
-use Rattle.table.specs.declared.layout.Layout.TheVariants.{Narrow}
+use Rattle.table.specs.Layouts.{Narrow}
 use Rattle.table.specs.Narrow.{NarrowTable, narrow_table}
 use Rattle.cutter.specs.Cut.{Results, Buffers, buffers, no_work, buffers_in, no_work_in}
 use Rattle.promises.specs.Layouts.{lists_in, lent_lists, DeterminesBy}
@@ -37,7 +38,6 @@ use Rattle.table.proofs.sound.keeps_bounds as keeps-bounds
 use Rattle.table.proofs.sound.limit_of as limit-of
 use Rattle.table.proofs.sound.total_in as total-in
 use Rattle.table.proofs.sound.sound_total as sound-total
-use Rattle.adder.specs.declared.add.Added.{Added}
 use Rattle.adder.proofs.shares.add_at as add_at
 use Rattle.adder.proofs.steps.fill_steps as fill-steps
 use Rattle.adder.proofs.add.add_batch_in as add-batch-in
@@ -248,12 +248,12 @@ pub fill_steps_determined : Determines 1 fill-steps.Kinds.ps fill-steps.Kinds.r 
     (λ κs r e. e.0.now)
 fill_steps_determined κs a r s x y p q = determined p q
 
-pub add_batch_in_determined : DeterminesBy {A = Added × (List ℕ × List ℕ)} 5 add-batch-in.Kinds.ps
+pub add_batch_in_determined : DeterminesBy {A = Option ℕ × (List ℕ × List ℕ)} 5 add-batch-in.Kinds.ps
     add-batch-in.Kinds.r add-batch-in.Reads.Learnt (λ κs a r e. (r, lent_lists a.0 e.1.1.0.now e.1.1.1.0.now))
 add_batch_in_determined κs a r s x y p q =
     both (determined p.0 q.0) (ap (lists_in a.0) (determined p.1 q.1))
 
-pub add_batch_determined : Determines {A = Added × List ℕ} 4 add-batch.Kinds.ps add-batch.Kinds.r add-batch.Reads.Learnt
+pub add_batch_determined : Determines {A = Option ℕ × List ℕ} 4 add-batch.Kinds.ps add-batch.Kinds.r add-batch.Reads.Learnt
     (λ κs r e. (r, e.1.0.now))
 add_batch_determined κs a r s x y p q = both (determined p.0 q.0) (determined p.1 q.1)
 

@@ -4,13 +4,13 @@ use Rattle.std.specs.Prelude.{◌≡◌, ◌⊎◌, true, not, ◌&&◌, cond, L
 use Rattle.basics.specs.Answer.{refuse}
 use Rattle.basics.specs.Range.{list_from}
 use Rattle.grid.specs.declared.place.Grid.{Grid}
-use Rattle.table.specs.declared.layout.Layout.TheVariants.{Wide}
+use Rattle.table.specs.Layouts.{Wide}
 use Rattle.table.specs.Table.{Table, view_of}
 use Rattle.table.specs.Sound.{limit, total}
 use Rattle.adder.specs.Batch.{Weighted, weight_of}
 use Rattle.adder.specs.Add.{scaled_batch}
 use Rattle.loader.specs.Plan.{Plan, Filled, ends}
-use Rattle.sums.specs.declared.source.Source.{Source}
+use Rattle.sums.specs.Sources.{Source}
 use Rattle.cutter.specs.Cut.{Buffers}
 use Rattle.recorder.specs.Session.{is_interval, reloaded}
 use Rattle.recorder.specs.Batch.{batch_number, batch_later}

@@ -12,7 +12,7 @@ use Rattle.grid.specs.Grid.{size_at, place_of, stride_at, Accepted, Inside}
 use Rattle.grid.proofs.Size.{size_low}
 use Rattle.grid.proofs.Places.{one, two, three, place_lt, bins_high}
 use Rattle.table.specs.Cell.{View, number_of, cell_of}
-use Rattle.table.specs.declared.layout.Layout.{Layout}
+use Rattle.table.specs.Layouts.{Layout}
 use Rattle.table.specs.Layout.{TableIn, view_in}
 use Rattle.boxes.specs.declared.sides.Bounds.{Bounds}
 use Rattle.boxes.specs.Box.{min_at, max_at, low_side, high_side, slab_to, Within}
@@ -21,7 +21,7 @@ use Rattle.sums.specs.Box.{stats_from, stats_of}
 use Rattle.table.proofs.Cells.{zero_cell, zeros_cell}
 use Rattle.table.specs.Sound.{limit}
 use Rattle.sums.specs.declared.box_sums.Stats.{Stats}
-use Rattle.sums.specs.declared.source.Source.TheVariants.{Moments}
+use Rattle.sums.specs.Sources.{Moments}
 use Rattle.sums.specs.Moments.{CanSum}
 use Rattle.sums.specs.Inner.{Corner, bin_cell}
 use Rattle.bins.proofs.Runs.{first_from_lem, second_from, third_from, no_first, no_second, no_third}

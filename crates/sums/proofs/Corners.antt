@@ -10,7 +10,7 @@ use Rattle.grid.specs.Grid.{Inside, bins_of, place_of}
 use Rattle.grid.proofs.Places.{place_lt, bins_high, row_start, plane_start, place_along}
 use Rattle.table.specs.declared.cell.Cell.{Cell}
 use Rattle.table.specs.Cell.{View, cell_of, number_of, minus_cell, AtLeast}
-use Rattle.table.specs.declared.layout.Layout.{Layout}
+use Rattle.table.specs.Layouts.{Layout}
 use Rattle.table.specs.Layout.{TableIn, view_in, CellIn}
 use Rattle.table.specs.Sound.{limit}
 use Rattle.table.proofs.Layouts.{cell_in}
@@ -20,7 +20,7 @@ use Rattle.boxes.specs.declared.sides.Bounds.{Bounds}
 use Rattle.boxes.specs.Box.{Within}
 use Rattle.boxes.proofs.Within.{sides}
 use Rattle.sums.specs.declared.box_sums.Stats.{Stats}
-use Rattle.sums.specs.declared.source.Source.TheVariants.{Moments}
+use Rattle.sums.specs.Sources.{Moments}
 use Rattle.bins.specs.Sum.{bin_sum}
 use Rattle.sums.specs.Box.{stats_from}
 use Rattle.sums.specs.Moments.{below_sum, CanSum}

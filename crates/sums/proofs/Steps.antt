@@ -17,14 +17,14 @@ use Rattle.grid.proofs.Size.{size_low}
 use Rattle.grid.proofs.Places.{two, three, place_lt, place_along, row_start, plane_start}
 use Rattle.table.specs.declared.cell.Cell.{Cell}
 use Rattle.table.specs.Cell.{View, number_of, cell_of, plus_cell, minus_cell, SumsFit}
-use Rattle.table.specs.declared.layout.Layout.{Layout}
+use Rattle.table.specs.Layouts.{Layout}
 use Rattle.table.specs.Layout.{TableIn, laid, SizedIn, view_in, written_in, put_in, CellIn, HeldIn, TableOfIn}
 use Rattle.table.specs.Sound.{limit, limit_of, total, sound as sound_for}
 use Rattle.table.proofs.Cells.{number_cell, number_plus, number_minus, cell_by, zero_cell, zero_cell_lem}
 use Rattle.table.proofs.Layouts.{cell_in, cell_of_lem, list_holds_in, holds_list_in, held_in}
 use Rattle.table.proofs.Layouts.{put_sized_in, put_there_in, put_elsewhere_in}
 use Rattle.table.proofs.Soundness.{Sound, sound_in, total_high}
-use Rattle.sums.specs.declared.source.Source.TheVariants.{Moments, Bins}
+use Rattle.sums.specs.Sources.{Moments, Bins}
 use Rattle.sums.specs.Moments.{below_sum, moments_of, HasMoments, ForMoments, CanSum}
 use Rattle.sums.specs.Inner.{line_sum, moment_cell, line_cell, Before, Ready, joined_cell, CanJoin, with_moment}
 use Rattle.sums.proofs.Below.{moments_at, below_none, below_no_row, below_step, below_grows, below_small, below_high}

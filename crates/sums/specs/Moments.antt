@@ -3,12 +3,12 @@ use Rattle.std.specs.Prelude.{◌≡◌, true, ℕ, ◌+◌, ◌<◌}
 use Rattle.grid.specs.declared.place.Grid.{Grid}
 use Rattle.grid.specs.Grid.{bins_of, bin_at}
 use Rattle.table.specs.Cell.{View}
-use Rattle.table.specs.declared.layout.Layout.{Layout}
+use Rattle.table.specs.Layouts.{Layout}
 use Rattle.table.specs.Layout.{TableIn, SizedIn, view_in, TableOfIn}
 use Rattle.table.specs.Sound.{limit_of, sound}
 use Rattle.bins.specs.Sum.{bin_sum}
-use Rattle.sums.specs.declared.source.Source.{Source}
-use Rattle.sums.specs.declared.source.Source.TheVariants.{Moments, Bins}
+use Rattle.sums.specs.Sources.{Source}
+use Rattle.sums.specs.Sources.{Moments, Bins}
 
 -- number j of all bins with r, g and b below the three given
 unfoldable pub below_sum : Grid → View → ℕ → ℕ → ℕ → ℕ → ℕ

@@ -1,6 +1,7 @@
 -- `adder::add::add_batch_in` meets its contract: the total then is known before the first colour is added.
 -- Assumes nothing.
 -- where the call stood: on entry
+use Rattle.std.specs.Prelude.{Some}
 use mathlib.Core.Path.{◌≡◌, sym, ap, ◌∙◌}
 use mathlib.Core.Bool.{cond}
 use mathlib.Core.List.{List}
@@ -12,7 +13,6 @@ use Rattle.grid.specs.Grid.{bins_of}
 use Rattle.table.specs.Layout.{TableIn, laid, view_in, written_in}
 use Rattle.table.specs.Sound.{limit_of}
 use Rattle.table.proofs.Soundness.{limit_high, total_high}
-use Rattle.adder.specs.declared.add.Added.TheVariants.{Total}
 use Rattle.adder.specs.Batch.{Weighted, loaded}
 use Rattle.adder.specs.Add.{scaled_batch, added_to}
 use Rattle.adder.specs.Inner.{all_weights, held_to, with_part}
@@ -50,11 +50,8 @@ tested k =
 
 -- and where it fits, it is had
 told : (k : In-Total) → let b = (goal.at-In-Total k).After-batch_total in
-    added_to (most b) (entry b).args.had (batch b) ≡ Total k.in-Total.total
+    added_to (most b) (entry b).args.had (batch b) ≡ Some k.in-Total.total
 told k = sym (tested (goal.at-In-Total k).After-batch_total) ∙ k.in-Total.is
-
-pub limit_of-requires : goal.limit_of-requires
-limit_of-requires c = search rules
 
 pub batch_total-requires : goal.batch_total-requires
 batch_total-requires c =
@@ -71,12 +68,6 @@ batch_total-requires c =
       omega (arith, c.limit_of.ensures, limit_high l),
       s.requires.scale,
     )
-
-pub enum_known-total : goal.enum_known-total
-enum_known-total c = search rules
-
-pub enum_told-1 : goal.enum_told-1
-enum_told-1 c = search rules
 
 pub returns-in_default : goal.returns-in_default
 returns-in_default c =
@@ -106,12 +97,6 @@ add_blocks-requires c =
       };
       steps = s.requires.steps;
     }
-
-pub shape_of-small : goal.shape_of-small
-shape_of-small c = search rules
-
-pub shape_of-large : goal.shape_of-large
-shape_of-large c = search rules
 
 pub returns : goal.returns
 unfolding with_part

@@ -4,9 +4,6 @@ use borrow.Author.Rules.{rules}
 use Rattle.adder.proofs.ByLayout.{part_fits_as, part_as}
 use Rattle.adder.proofs.blocks.add_block.Goals as goal
 
-pub enum_told-1 : goal.enum_told-1
-enum_told-1 c = search rules
-
 pub wide_block-requires : goal.wide_block-requires
 wide_block-requires c =
     let s = c in
@@ -16,9 +13,6 @@ wide_block-requires c =
       whole = s.requires.whole;
       steps = s.requires.steps;
     }
-
-pub enum_told-in-Narrow : goal.enum_told-in-Narrow
-enum_told-in-Narrow c = search rules
 
 pub narrow_block-requires : goal.narrow_block-requires
 narrow_block-requires c =
@@ -30,21 +24,12 @@ narrow_block-requires c =
       steps = s.requires.steps;
     }
 
-pub shape_of-large-in-Wide : goal.shape_of-large-in-Wide
-shape_of-large-in-Wide c = search rules
-
 pub returns-in-Wide : goal.returns-in-Wide
 returns-in-Wide c =
     let w = c in
     let a = w.args in
     part_as w.in-Wide.is a.small.now a.large.now a.g a.scale
     a.colours.now a.weighted a.weights.now a.at 64 _ _ w.wide_block.ensures
-
-pub shape_of-small : goal.shape_of-small
-shape_of-small c = search rules
-
-pub shape_of-large-in-Narrow : goal.shape_of-large-in-Narrow
-shape_of-large-in-Narrow c = search rules
 
 pub returns-in-Narrow : goal.returns-in-Narrow
 returns-in-Narrow c =

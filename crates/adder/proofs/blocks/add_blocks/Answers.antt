@@ -29,9 +29,6 @@ loop-i-init c =
           a.weighted a.weights.now 0 s.requires.fits.table.lent,
     )
 
-pub overflow_sub-n : goal.overflow_sub-n
-overflow_sub-n c = omega arith
-
 pub add_block-requires : goal.add_block-requires
 add_block-requires c =
     let l = c.loop-i in
@@ -41,12 +38,6 @@ add_block-requires c =
       whole = omega (arith, s.requires.fits.there);
       steps = s.requires.steps;
     }
-
-pub overflow_add-i : goal.overflow_add-i
-overflow_add-i c = omega arith
-
-pub loop-i-smaller : goal.loop-i-smaller
-loop-i-smaller c = omega arith
 
 pub loop-i-preserved : goal.loop-i-preserved
 loop-i-preserved c =
@@ -61,9 +52,6 @@ loop-i-preserved c =
           (part_held a.layout a.g (laid a.layout l.small l.large) a.scale a.colours.now
           a.weighted a.weights.now l.i 64 _ c.add_block.ensures),
     )
-
-pub overflow_sub-n-2 : goal.overflow_sub-n-2
-overflow_sub-n-2 c = omega arith
 
 pub add_last-requires : goal.add_last-requires
 add_last-requires c =

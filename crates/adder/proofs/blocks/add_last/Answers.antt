@@ -33,9 +33,6 @@ module _ (f : Then-last_equal) where
       ≡ colour_at start.args.colours.now start.args.at
   same = last_same start.args.colours.now start.args.at start.args.n start.requires.few equal
 
-pub last_equal-requires : goal.last_equal-requires
-last_equal-requires c = search rules
-
 pub colour-x-requires : goal.colour-x-requires
 colour-x-requires c = omega (arith, some c, (start c).requires.fits.there)
 
@@ -60,12 +57,6 @@ add_colour-requires c =
           c.block_weight-w.ensures;
     }
 
-pub shape_of-small-then-last_equal : goal.shape_of-small-then-last_equal
-shape_of-small-then-last_equal c = search rules
-
-pub shape_of-large-then-last_equal : goal.shape_of-large-then-last_equal
-shape_of-large-then-last_equal c = search rules
-
 pub returns-then-last_equal : goal.returns-then-last_equal
 unfolding with_part
 returns-then-last_equal c =
@@ -78,12 +69,6 @@ returns-then-last_equal c =
 pub add_each-requires : goal.add_each-requires
 add_each-requires c =
     let s = c in record { fits = s.requires.fits; steps = s.requires.steps }
-
-pub shape_of-small : goal.shape_of-small
-shape_of-small c = search rules
-
-pub shape_of-large : goal.shape_of-large
-shape_of-large c = search rules
 
 pub returns : goal.returns
 returns c = c.add_each.ensures

@@ -4,17 +4,11 @@ use borrow.Author.Rules.{rules}
 use Rattle.adder.proofs.ByLayout.{fits_as, added_as}
 use Rattle.adder.proofs.shares.add_at.Goals as goal
 
-pub enum_told-1 : goal.enum_told-1
-enum_told-1 c = search rules
-
 pub add_wide-requires : goal.add_wide-requires
 add_wide-requires c =
     let s = c in
     fits_as c.in-Wide.is s.args.small.now s.args.large.now s.args.place s.args.c
     s.requires
-
-pub enum_told-in-Narrow : goal.enum_told-in-Narrow
-enum_told-in-Narrow c = search rules
 
 pub add_narrow-requires : goal.add_narrow-requires
 add_narrow-requires c =
@@ -22,20 +16,11 @@ add_narrow-requires c =
     fits_as c.in-Narrow.is s.args.small.now s.args.large.now s.args.place
     s.args.c s.requires
 
-pub shape_of-large-in-Wide : goal.shape_of-large-in-Wide
-shape_of-large-in-Wide c = search rules
-
 pub returns-in-Wide : goal.returns-in-Wide
 returns-in-Wide c =
     let a = c.args in
     added_as c.in-Wide.is a.small.now a.large.now a.place
     a.c _ _ c.add_wide.ensures
-
-pub shape_of-small : goal.shape_of-small
-shape_of-small c = search rules
-
-pub shape_of-large-in-Narrow : goal.shape_of-large-in-Narrow
-shape_of-large-in-Narrow c = search rules
 
 pub returns-in-Narrow : goal.returns-in-Narrow
 returns-in-Narrow c =

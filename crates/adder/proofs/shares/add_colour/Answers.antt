@@ -7,9 +7,6 @@ use Rattle.adder.specs.Batch.{share}
 use Rattle.adder.proofs.ByLayout.{fits_as, colour_as}
 use Rattle.adder.proofs.shares.add_colour.Goals as goal
 
-pub enum_told-1 : goal.enum_told-1
-enum_told-1 c = search rules
-
 pub add_wide_colour-requires : goal.add_wide_colour-requires
 add_wide_colour-requires c =
     let s = c in
@@ -19,9 +16,6 @@ add_wide_colour-requires c =
       fits = fits_as c.in-Wide.is a.small.now a.large.now (colour_place a.g a.x)
           (cell_of (share (record { colour = a.x; weight = a.w }))) s.requires.fits;
     }
-
-pub enum_told-in-Narrow : goal.enum_told-in-Narrow
-enum_told-in-Narrow c = search rules
 
 pub add_narrow_colour-requires : goal.add_narrow_colour-requires
 add_narrow_colour-requires c =
@@ -33,21 +27,12 @@ add_narrow_colour-requires c =
           (cell_of (share (record { colour = a.x; weight = a.w }))) s.requires.fits;
     }
 
-pub shape_of-large-in-Wide : goal.shape_of-large-in-Wide
-shape_of-large-in-Wide c = search rules
-
 pub returns-in-Wide : goal.returns-in-Wide
 returns-in-Wide c =
     let w = c in
     let a = w.args in
     colour_as w.in-Wide.is a.small.now a.large.now a.g
     (record { colour = a.x; weight = a.w }) _ _ w.add_wide_colour.ensures
-
-pub shape_of-small : goal.shape_of-small
-shape_of-small c = search rules
-
-pub shape_of-large-in-Narrow : goal.shape_of-large-in-Narrow
-shape_of-large-in-Narrow c = search rules
 
 pub returns-in-Narrow : goal.returns-in-Narrow
 returns-in-Narrow c =

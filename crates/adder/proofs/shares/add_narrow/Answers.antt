@@ -3,7 +3,7 @@
 use mathlib.Core.Path.{sym, subst, ap, ◌∙◌}
 use borrow.Author.Rules.{rules}
 use Rattle.table.specs.declared.cell.Cell.{Cell}
-use Rattle.table.specs.declared.layout.Layout.TheVariants.{Narrow}
+use Rattle.table.specs.Layouts.{Narrow}
 use Rattle.table.specs.Cell.{plus_cell, SumsFit}
 use Rattle.table.specs.Layout.{laid, put_in, HeldIn}
 use Rattle.adder.proofs.shares.add_narrow.Goals as goal
@@ -23,12 +23,6 @@ put_cell-requires c =
     let s = old in
     let is = sum.plus-both.ensures ∙ ap (λ (x : Cell). plus_cell x s.args.c) old.cell_in-before.ensures in
     (s.requires.cell, subst (HeldIn Narrow) (sym is) s.requires.held)
-
-pub shape_of-small : goal.shape_of-small
-shape_of-small c = search rules
-
-pub shape_of-large : goal.shape_of-large
-shape_of-large c = search rules
 
 pub returns : goal.returns
 returns c =

@@ -23,9 +23,6 @@ put_at-requires c =
     let is = sum.plus-sum.ensures ∙ ap (λ (x : Cell). plus_cell x s.args.c) old.cell_at-old.ensures in
     (s.requires.cell, subst Held (sym is) s.requires.held)
 
-pub shape_of-table : goal.shape_of-table
-shape_of-table c = search rules
-
 pub returns : goal.returns
 returns c =
     let sum = c in

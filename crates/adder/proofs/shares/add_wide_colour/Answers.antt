@@ -14,9 +14,6 @@ is_bytes s =
     let known = s.well_formed.1.1.1.0 in
     record { one = omega (arith, known); two = omega (arith, known); three = omega (arith, known) }
 
-pub look_up-v-requires : goal.look_up-v-requires
-look_up-v-requires c = search rules
-
 pub share_of-requires : goal.share_of-requires
 share_of-requires c =
     let s = (goal.at-share_of-requires c).Start in
@@ -26,9 +23,6 @@ pub add_wide-requires : goal.add_wide-requires
 add_wide-requires c =
     let s = (goal.at-add_wide-requires c).Start in
     rw (place_below s.requires.steps (is_bytes s) c.look_up-v.ensures, c.share_of.ensures) s.requires.fits
-
-pub shape_of-table : goal.shape_of-table
-shape_of-table c = search rules
 
 pub returns : goal.returns
 unfolding with_colour

@@ -14,17 +14,8 @@ fits c =
     let s = c in
     left_fits s.args.most s.args.had s.args.scale s.args.n s.requires.0 s.requires.2.some (omega arith)
 
-pub weights_total-requires : goal.weights_total-requires
-weights_total-requires c = search rules
-
 pub returns-then-weighted : goal.returns-then-weighted
 returns-then-weighted c = rw c.if-weighted.true c.weights_total.ensures
-
-pub overflow_sub-most : goal.overflow_sub-most
-overflow_sub-most c = search rules
-
-pub nonzero_div-most : goal.nonzero_div-most
-nonzero_div-most c = search rules
 
 pub returns-then-most-had : goal.returns-then-most-had
 returns-then-most-had c =

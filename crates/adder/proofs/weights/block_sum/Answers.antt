@@ -11,23 +11,11 @@ use Rattle.adder.proofs.weights.block_sum.Goals as goal
 pub loop-i-init : goal.loop-i-init
 loop-i-init c = (omega arith, omega arith, sym (run_none _ _), omega arith)
 
-pub offset_bounds-weights-i : goal.offset_bounds-weights-i
-offset_bounds-weights-i c = omega arith
-
-pub bounds-weights-i : goal.bounds-weights-i
-bounds-weights-i c = omega arith
-
 pub overflow_cast-sum : goal.overflow_cast-sum
 overflow_cast-sum c = omega (arith, c.shared_slice_known-1.given c.loop-i.i)
 
 pub overflow_add-sum : goal.overflow_add-sum
 overflow_add-sum c = omega (arith, c.shared_slice_known-1.given c.loop-i.i)
-
-pub overflow_add-i : goal.overflow_add-i
-overflow_add-i c = omega arith
-
-pub loop-i-smaller : goal.loop-i-smaller
-loop-i-smaller c = omega arith
 
 pub loop-i-preserved : goal.loop-i-preserved
 loop-i-preserved c =

@@ -1,13 +1,13 @@
 -- `adder::weights::weights_total` meets its contract: the total so far is within the limit, so a block more still fits
 -- a u64.
 -- Assumes nothing.
+use Rattle.std.specs.Prelude.{Some}
 use mathlib.Core.Path.{◌≡◌, sym, ap, ◌∙◌}
 use Prim.Native.Nat.{ℕ, ◌+◌, ◌≤◌, ◌-◌, ◌*◌}
 use native.Mathlib.Nat.{mul-zero}
 use native.Mathlib.Omega.{arith}
 use lib.ListN.{length, get_or}
 use Rattle.basics.specs.Range.{sum_from}
-use Rattle.adder.specs.declared.add.Added.TheVariants.{Total}
 use Rattle.adder.proofs.Totals.{held_within, held_past, block_high, more_weights, passes_early}
 use Rattle.adder.proofs.weights.weights_total.Goals.{After-block_sum, After-block_sum-2, At-loop-i}
 use Rattle.adder.proofs.weights.weights_total.Goals as goal
@@ -46,12 +46,6 @@ pub loop-i-init : goal.loop-i-init
 unfolding sum_from
 loop-i-init c = (omega arith, omega (arith, mul-zero c.args.scale), c.requires.0)
 
-pub overflow_sub-weights : goal.overflow_sub-weights
-overflow_sub-weights c = omega arith
-
-pub overflow_add-i : goal.overflow_add-i
-overflow_add-i c = omega arith
-
 pub block_sum-requires : goal.block_sum-requires
 block_sum-requires c = (omega arith, omega arith, omega arith)
 
@@ -70,12 +64,6 @@ returns-then-most-total c =
     c.block_sum.ensures in
     passes_early a.most a.scale a.had (l.loop-i.i + 4096) (length a.weights.now) f (omega arith)
     (omega (arith, so_far))
-
-pub overflow_add-i-in-loop-i : goal.overflow_add-i-in-loop-i
-overflow_add-i-in-loop-i c = omega arith
-
-pub loop-i-smaller : goal.loop-i-smaller
-loop-i-smaller c = omega arith
 
 pub loop-i-preserved : goal.loop-i-preserved
 loop-i-preserved c =
@@ -102,4 +90,4 @@ returns-then-most-total-2 c = sym (held_past c.args.most _ (omega (arith, all (g
 pub returns : goal.returns
 returns c =
     sym (held_within c.args.most _ (omega (arith, all (goal.at-returns c).After-block_sum-2))
-    ∙ ap Total (sym (all (goal.at-returns c).After-block_sum-2)))
+    ∙ ap Some (sym (all (goal.at-returns c).After-block_sum-2)))

@@ -4,7 +4,7 @@ use mathlib.Core.Path.{◌≡◌, refl, ◌∙◌}
 use Prim.Native.Nat.{ℕ, ◌<◌, ◌+◌}
 use native.Mathlib.Omega.{arith}
 use lib.ListN.{get_or}
-use Rattle.table.specs.declared.layout.Layout.TheVariants.{Wide}
+use Rattle.table.specs.Layouts.{Wide}
 use Rattle.table.proofs.Tables.{same_size}
 use Rattle.table.proofs.Layouts.{holds_list_in}
 use Rattle.adder.specs.Inner.{with_part, PartFits}
@@ -51,12 +51,6 @@ add_wide_colour-requires c =
     let same = alone a.colours.now (a.at + l.loop-k.k) in
     let own = own_weight a.scale a.weighted a.weights.now (a.at + l.loop-k.k) in
     let w = c.weight_at-w.ensures ∙ own in record { steps = l.requires.steps; weight = light (next l) (bytes l) same c.colour-x.ensures w; fits = has_room_lem (next l) (bytes l) same c.colour-x.ensures w }
-
-pub overflow_add-k : goal.overflow_add-k
-overflow_add-k c = omega arith
-
-pub loop-k-smaller : goal.loop-k-smaller
-loop-k-smaller c = omega arith
 
 pub loop-k-preserved : goal.loop-k-preserved
 loop-k-preserved c =

@@ -2,7 +2,7 @@
 -- Assumes nothing.
 use Prim.Native.Nat.{◌≤◌, ◌-◌}
 use Rattle.grid.specs.Grid.{bins_of}
-use Rattle.table.specs.declared.layout.Layout.TheVariants.{Wide}
+use Rattle.table.specs.Layouts.{Wide}
 use Rattle.table.specs.Table.{view_of}
 use Rattle.table.proofs.Layouts.{HoldsIn}
 use Rattle.adder.specs.Batch.{loaded}

@@ -8,7 +8,7 @@ use borrow.Author.Rules.{rules}
 use lib.ListN.{get_or}
 use Rattle.pixels.specs.Colour.{colour_at}
 use Rattle.pixels.proofs.EqualColours.{one_colour}
-use Rattle.table.specs.declared.layout.Layout.TheVariants.{Wide}
+use Rattle.table.specs.Layouts.{Wide}
 use Rattle.table.proofs.Layouts.{holds_list_in}
 use Rattle.adder.specs.Inner.{with_part}
 use Rattle.adder.proofs.Parts.{constants, light, has_room_lem, at_once}
@@ -28,9 +28,6 @@ same f k h =
 pub equal_colours-requires : goal.equal_colours-requires
 equal_colours-requires c = c.requires.whole
 
-pub colour-x-requires : goal.colour-x-requires
-colour-x-requires c = omega arith
-
 pub block_weight-w-requires : goal.block_weight-w-requires
 block_weight-w-requires c =
     let fits = c.requires.fits in
@@ -40,9 +37,6 @@ pub add_wide_colour-requires : goal.add_wide_colour-requires
 add_wide_colour-requires c =
     let f = (goal.at-add_wide_colour-requires c).Then-equal_colours in
     let pre = f.requires in record { steps = pre.steps; weight = light pre.fits (bytes f) (same f) c.colour-x.ensures c.block_weight-w.ensures; fits = has_room_lem pre.fits (bytes f) (same f) c.colour-x.ensures c.block_weight-w.ensures }
-
-pub shape_of-table-then-equal_colours : goal.shape_of-table-then-equal_colours
-shape_of-table-then-equal_colours c = search rules
 
 pub returns-then-equal_colours : goal.returns-then-equal_colours
 unfolding with_part
@@ -57,9 +51,6 @@ pub each_wide-requires : goal.each_wide-requires
 each_wide-requires c =
     let s = c in record { fits = constants c.if-scale-eq1.true c.if-weighted.true s.requires.fits; steps = s.requires.steps }
 
-pub shape_of-table-then-weighted : goal.shape_of-table-then-weighted
-shape_of-table-then-weighted c = search rules
-
 pub returns-then-weighted : goal.returns-then-weighted
 returns-then-weighted c =
     let b = c in
@@ -69,9 +60,6 @@ pub each_wide-requires-then-scale-eq1 : goal.each_wide-requires-then-scale-eq1
 each_wide-requires-then-scale-eq1 c =
     let s = c in record { fits = constants c.if-scale-eq1.true c.if-weighted.false s.requires.fits; steps = s.requires.steps }
 
-pub shape_of-table-then-scale-eq1 : goal.shape_of-table-then-scale-eq1
-shape_of-table-then-scale-eq1 c = search rules
-
 pub returns-then-scale-eq1 : goal.returns-then-scale-eq1
 returns-then-scale-eq1 c =
     let b = c in
@@ -80,9 +68,6 @@ returns-then-scale-eq1 c =
 pub each_wide-requires-2 : goal.each_wide-requires-2
 each_wide-requires-2 c =
     let s = c in record { fits = s.requires.fits; steps = s.requires.steps }
-
-pub shape_of-table : goal.shape_of-table
-shape_of-table c = search rules
 
 pub returns : goal.returns
 returns c = c.each_wide-2.ensures

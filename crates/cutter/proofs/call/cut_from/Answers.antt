@@ -1,11 +1,11 @@
 -- `cutter::call::cut_from` meets its contract: the refusals, and else the cut.
 -- Assumes nothing.
 -- the grid, once it is accepted
+use Rattle.std.specs.Prelude.{Some}
 use mathlib.Core.Path.{◌≡◌, sym, ap, ◌∙◌}
 use mathlib.Core.Bool.{Bool}
 use borrow.Author.Rules.{rules}
 use lib.ListN.{length}
-use Rattle.grid.specs.declared.place.Chosen.TheVariants as chosen
 use Rattle.grid.specs.declared.place.Grid.{Grid}
 use Rattle.grid.specs.Grid.{grid_of, Accepted, bins_of}
 use Rattle.grid.proofs.Places.{chose}
@@ -21,7 +21,7 @@ abbrev grid : In-Accepted → Grid
 grid k = k.in-Accepted.g
 
 on_grid : (k : In-Accepted) → let s = k in
-    grid_of s.args.b1 s.args.b2 s.args.b3 ≡ chosen.Accepted (grid k)
+    grid_of s.args.b1 s.args.b2 s.args.b3 ≡ Some (grid k)
 on_grid k = sym k.grid_of.ensures ∙ k.in-Accepted.is
 
 accepted : (k : In-Accepted) → Accepted (grid k)

@@ -2,7 +2,7 @@
 -- Assumes nothing.
 use mathlib.Core.Path.{◌≡◌}
 use Prim.Native.Nat.{◌+◌, ◌-◌, ◌≤◌, ◌<◌}
-use Rattle.table.specs.declared.layout.Layout.TheVariants.{Narrow}
+use Rattle.table.specs.Layouts.{Narrow}
 use Rattle.table.specs.Layout.{laid_view}
 use Rattle.sums.specs.Box.{stats_of}
 use Rattle.boxes.specs.Box.{min_at, slab_to}

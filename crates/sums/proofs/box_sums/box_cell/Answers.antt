@@ -2,11 +2,11 @@
 -- Assumes nothing.
 use mathlib.Core.Path.{sym, ap, subst, ◌∙◌}
 use borrow.Author.Rules.{rules}
-use Rattle.table.specs.declared.layout.Layout.{Layout}
+use Rattle.table.specs.Layouts.{Layout}
 use Rattle.table.specs.Layout.{laid, laid_view}
 use Rattle.table.specs.Sound.{limit}
 use Rattle.bins.specs.Sum.{box_cell}
-use Rattle.sums.specs.declared.source.Source.TheVariants.{Moments}
+use Rattle.sums.specs.Sources.{Moments}
 use Rattle.sums.specs.Moments.{CanSum}
 use Rattle.sums.proofs.box_sums.box_cell.Goals as goal
 

@@ -5,7 +5,7 @@ use mathlib.Core.Path.{◌≡◌}
 use Prim.Native.Nat.{◌+◌, ◌≤◌, ◌-◌}
 use lib.ListN.{length}
 use Rattle.grid.specs.Grid.{place_of}
-use Rattle.table.specs.declared.layout.Layout.TheVariants.{Narrow}
+use Rattle.table.specs.Layouts.{Narrow}
 use Rattle.table.specs.Layout.{laid, laid_view}
 use Rattle.sums.specs.Inner.{line_cell, Before}
 use Rattle.sums.proofs.inner_rows.narrow_row.Given as goal

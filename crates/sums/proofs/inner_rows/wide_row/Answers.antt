@@ -9,7 +9,7 @@ use borrow.Author.Rules.{rules}
 use Rattle.grid.specs.Grid.{place_of}
 use Rattle.grid.proofs.Places.{three, place_lt, place_along, bins_high}
 use Rattle.grid.proofs.Size.{size_high}
-use Rattle.table.specs.declared.layout.Layout.TheVariants.{Wide}
+use Rattle.table.specs.Layouts.{Wide}
 use Rattle.table.specs.Layout.{laid_view}
 use Rattle.sums.proofs.Steps.{line_start, before_same, row_ready, one_on}
 use Rattle.sums.proofs.inner_rows.wide_row.Goals as goal
