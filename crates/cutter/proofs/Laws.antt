@@ -16,8 +16,8 @@ use Rattle.table.specs.Layouts.{Layout}
 use Rattle.table.specs.Layout.{TableIn, is_sized_in, view_in}
 use Rattle.table.specs.Sound.{limit_of}
 use Rattle.rounds.specs.Loop.{boxes_of}
-use Rattle.sums.specs.Sources.{Source}
-use Rattle.sums.specs.Sources.{Bins}
+use Rattle.sums.specs.declared.source.Source.{Source}
+use Rattle.sums.specs.declared.source.Source.TheVariants.{Bins}
 use Rattle.cutter.specs.declared.call.CutRecord.{CutRecord}
 use Rattle.cutter.specs.Cut.{BuffersIn, lengths_of, lengths_right, cut_number_on, cut_number_in, CanCut, LengthsFit}
 use Rattle.cutter.specs.Cut.{refused_record, done_record, record_on, cut_record_in, later_on, cut_later_in}

@@ -68,32 +68,30 @@ fn done(b: Boxes) -> CutRecord
 }
 
 // Readies the work table for a source of sums: with the moments, or not at all.
-fn ready(
+fn ready<L: Layout>(
     source: Source,
-    layout: Layout,
     small: &[u32],
     large: &[u64],
     g: Grid,
     smallwork: &mut [u32],
     largework: &mut [u64],
 )
-    requires { TableOfIn layout g (laid layout small.now large.now)
-        × (sound (limit_of layout) g (laid_view layout small.now large.now) ≡ true)
-        × (work_fits source (is_sized_in layout (laid layout smallwork.old largework.old) (bins_of g)) ≡ true) }
-    ensures { laid layout smallwork.new largework.new
-        ≡ work_later source layout g (laid_view layout small.now large.now)
-        (laid layout smallwork.old largework.old) }
+    requires { TableOfIn L.layout g (laid L.layout small.now large.now)
+        × (sound (limit_of L.layout) g (laid_view L.layout small.now large.now) ≡ true)
+        × (work_fits source (is_sized_in L.layout (laid L.layout smallwork.old largework.old) (bins_of g)) ≡ true) }
+    ensures { laid L.layout smallwork.new largework.new
+        ≡ work_later source L.layout g (laid_view L.layout small.now large.now)
+        (laid L.layout smallwork.old largework.old) }
 {
     match source {
-        Source::Moments => moments(layout, small, large, g, smallwork, largework),
+        Source::Moments => moments::<L>(small, large, g, smallwork, largework),
         Source::Bins => {}
     }
 }
 
 // A cut that nothing refuses.
-fn cut_on(
+fn cut_on<L: Layout>(
     source: Source,
-    layout: Layout,
     small: &[u32],
     large: &[u64],
     g: Grid,
@@ -105,21 +103,20 @@ fn cut_on(
     remainders: &mut [u32],
     map: &mut [u8],
 ) -> CutRecord
-    requires accepted { Accepted g × CanCut (limit_of layout) g k (laid_view layout small.now large.now) }
-    requires lengths_fit { LengthsFit source g k (is_sized_in layout (laid layout small.now large.now) (bins_of g))
-        (lengths_of layout g (buffers_in layout (laid layout smallwork.old largework.old) palette.old counts.old
+    requires accepted { Accepted g × CanCut (limit_of L.layout) g k (laid_view L.layout small.now large.now) }
+    requires lengths_fit { LengthsFit source g k (is_sized_in L.layout (laid L.layout small.now large.now) (bins_of g))
+        (lengths_of L.layout g (buffers_in L.layout (laid L.layout smallwork.old largework.old) palette.old counts.old
         remainders.old map.old)) }
-    ensures answer { result ≡ done_record (boxes_of g (laid_view layout small.now large.now) k) }
-    ensures later { buffers_in layout (laid layout smallwork.new largework.new)
+    ensures answer { result ≡ done_record (boxes_of g (laid_view L.layout small.now large.now) k) }
+    ensures later { buffers_in L.layout (laid L.layout smallwork.new largework.new)
         palette.new counts.new remainders.new map.new
-        ≡ later_on layout source g (laid_view layout small.now large.now) k
-        (buffers_in layout (laid layout smallwork.old largework.old) palette.old
+        ≡ later_on L.layout source g (laid_view L.layout small.now large.now) k
+        (buffers_in L.layout (laid L.layout smallwork.old largework.old) palette.old
         counts.old remainders.old map.old) }
 {
-    ready(source, layout, small, large, g, smallwork, largework);
-    let b = cut_boxes(layout, small, large, smallwork, largework, source, g, k);
-    put_results(
-        layout, small, large, smallwork, largework, source, g, b, palette, counts, remainders,
+    ready::<L>(source, small, large, g, smallwork, largework);
+    let b = cut_boxes::<L>(small, large, smallwork, largework, source, g, k);
+    put_results::<L>(small, large, smallwork, largework, source, g, b, palette, counts, remainders,
     );
     fill_boxes(g, b, map);
     done(b)
@@ -128,9 +125,8 @@ fn cut_on(
 // Cuts a table in either layout into at most k boxes: their colours go into the palette, their weights into the counts,
 // what the means leave of their sums into the remainders, and the index of the box of each bin into the map. Sums come
 // from moments in the work table, or from the bins of the table.
-pub fn cut_from(
+pub fn cut_from<L: Layout>(
     source: Source,
-    layout: Layout,
     b1: usize,
     b2: usize,
     b3: usize,
@@ -145,23 +141,20 @@ pub fn cut_from(
     map: &mut [u8],
 ) -> CutRecord
     ensures answer { result
-        ≡ cut_record_in layout source b1 b2 b3 k (laid layout small.now large.now)
-        (buffers_in layout (laid layout smallwork.old largework.old) palette.old
+        ≡ cut_record_in L.layout source b1 b2 b3 k (laid L.layout small.now large.now)
+        (buffers_in L.layout (laid L.layout smallwork.old largework.old) palette.old
         counts.old remainders.old map.old) }
-    ensures later { buffers_in layout (laid layout smallwork.new largework.new)
+    ensures later { buffers_in L.layout (laid L.layout smallwork.new largework.new)
         palette.new counts.new remainders.new map.new
-        ≡ cut_later_in layout source b1 b2 b3 k (laid layout small.now large.now)
-        (buffers_in layout (laid layout smallwork.old largework.old) palette.old
+        ≡ cut_later_in L.layout source b1 b2 b3 k (laid L.layout small.now large.now)
+        (buffers_in L.layout (laid L.layout smallwork.old largework.old) palette.old
         counts.old remainders.old map.old) }
 {
     let Chosen::Accepted(g) = grid_of(b1, b2, b3) else {
         return refused(1);
     };
-    let sized = lengths_fit(layout, smallwork.len(), largework.len(), g);
-    let number = number_on(
-        source,
-        layout,
-        small,
+    let sized = L::fits(smallwork.len(), largework.len(), g);
+    let number = number_on::<L>(source, small,
         large,
         g,
         k,
@@ -174,8 +167,7 @@ pub fn cut_from(
     if number != 0 {
         return refused(number);
     }
-    cut_on(
-        source, layout, small, large, g, k, smallwork, largework, palette, counts, remainders, map,
+    cut_on::<L>(source, small, large, g, k, smallwork, largework, palette, counts, remainders, map,
     )
 }
 

@@ -16,7 +16,7 @@ fn fill(map: &mut [u8], at: usize, end: usize, index: u8)
     let mut p = at;
     while p < end {
         map[p] = index;
-        p = p + 1;
+        p += 1;
     }
 }
 
@@ -32,7 +32,7 @@ fn fill_plane(map: &mut [u8], g: Grid, x: Bounds, r: usize, index: u8)
     while gr < end {
         let at = place(g, r, gr, 0);
         fill(map, at + b0, at + b1, index);
-        gr = gr + 1;
+        gr += 1;
     }
 }
 
@@ -45,6 +45,6 @@ pub(crate) fn fill_box(map: &mut [u8], g: Grid, x: Bounds, index: u8)
     let mut r = x.r0 as usize;
     while r < end {
         fill_plane(map, g, x, r, index);
-        r = r + 1;
+        r += 1;
     }
 }

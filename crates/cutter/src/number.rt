@@ -57,9 +57,8 @@ fn long_enough(
 }
 
 // The answer to a cut on an accepted grid.
-pub(crate) fn number_on(
+pub(crate) fn number_on<L: Layout>(
     source: Source,
-    layout: Layout,
     small: &[u32],
     large: &[u64],
     g: Grid,
@@ -72,10 +71,10 @@ pub(crate) fn number_on(
 ) -> u8
     requires { Accepted g }
     ensures { result
-        ≡ cut_number_on (limit_of layout) g k
-        (long_enough source g k (is_sized_in layout (laid layout small.now large.now) (bins_of g))
+        ≡ cut_number_on (limit_of L.layout) g k
+        (long_enough source g k (is_sized_in L.layout (laid L.layout small.now large.now) (bins_of g))
         (record { work = work; palette = palette; counts = counts; remainders = remainders; map = map }))
-        (laid_view layout small.now large.now) }
+        (laid_view L.layout small.now large.now) }
 {
     if k < 1 {
         return 2;
@@ -83,7 +82,7 @@ pub(crate) fn number_on(
     if 256 < k {
         return 2;
     }
-    let table = lengths_fit(layout, small.len(), large.len(), g);
+    let table = L::fits(small.len(), large.len(), g);
     if !long_enough(source, g, k, table, work, palette, counts, remainders, map) {
         return 5;
     }

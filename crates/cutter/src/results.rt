@@ -16,8 +16,7 @@ use sums::source::Source;
 use table::layout::Layout;
 
 // Writes colours, counts and remainders of all boxes.
-pub(crate) fn put_results(
-    layout: Layout,
+pub(crate) fn put_results<L: Layout>(
     small: &[u32],
     large: &[u64],
     smallwork: &[u32],
@@ -29,18 +28,18 @@ pub(crate) fn put_results(
     counts: &mut [u32],
     remainders: &mut [u32],
 )
-    requires can_sum { CanSum layout limit source g (laid layout small.now large.now)
-        (laid layout smallwork.now largework.now) × Found g (laid_view layout small.now large.now) b }
+    requires can_sum { CanSum L.layout limit source g (laid L.layout small.now large.now)
+        (laid L.layout smallwork.now largework.now) × Found g (laid_view L.layout small.now large.now) b }
     requires boxes_in_bounds { (3 * b.boxes ≤ length palette.old) × (b.boxes ≤ length counts.old)
         × (3 * b.boxes ≤ length remainders.old) }
     ensures palette { palette.new
-        ≡ palette_later g (laid_view layout small.now large.now) (list_of b.boxes b.places)
+        ≡ palette_later g (laid_view L.layout small.now large.now) (list_of b.boxes b.places)
         palette.old }
     ensures counts { counts.new
-        ≡ counts_later g (laid_view layout small.now large.now) (list_of b.boxes b.places)
+        ≡ counts_later g (laid_view L.layout small.now large.now) (list_of b.boxes b.places)
         counts.old }
     ensures remainders { remainders.new
-        ≡ remainders_later g (laid_view layout small.now large.now) (list_of b.boxes b.places)
+        ≡ remainders_later g (laid_view L.layout small.now large.now) (list_of b.boxes b.places)
         remainders.old }
 {
     let places = b.places;
@@ -48,11 +47,10 @@ pub(crate) fn put_results(
     let mut i = 0;
     while i < n {
         let x = places[i];
-        put_result(
-            layout, small, large, smallwork, largework, source, g, x.bounds, i, palette, counts,
+        put_result::<L>(small, large, smallwork, largework, source, g, x.bounds, i, palette, counts,
             remainders,
         );
-        i = i + 1;
+        i += 1;
     }
 }
 
@@ -68,6 +66,6 @@ pub(crate) fn fill_boxes(g: Grid, b: Boxes, map: &mut [u8])
         let x = places[at];
         let index = at as u8;
         fill_box(map, g, x.bounds, index);
-        at = at + 1;
+        at += 1;
     }
 }

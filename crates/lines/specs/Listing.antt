@@ -3,7 +3,7 @@ use Rattle.std.specs.Prelude.{◌≡◌, false, List, [], ℕ, zero, suc, ◌*�
 use Rattle.basics.specs.Answer.{when_done}
 use Rattle.table.specs.Table.{Table, empty_of}
 use Rattle.loader.specs.Load.{load_number, load_later}
-use Rattle.sums.specs.Sources.{Moments}
+use Rattle.sums.specs.declared.source.Source.TheVariants.{Moments}
 use Rattle.cutter.specs.Cut.{Buffers, buffers, cut_record, cut_later}
 use Rattle.lines.specs.declared.batches.Loaded.{Loaded}
 use Rattle.lines.specs.Text.{listing_of, refused_of}

@@ -15,7 +15,7 @@ use Rattle.basics.specs.Answer.{when_done}
 use Rattle.rounds.specs.declared.gather.BoxSpread.{BoxSpread}
 use Rattle.boxes.specs.Box.{no_box}
 use Rattle.rounds.specs.Loop.{with_zero}
-use Rattle.sums.specs.Sources.{Source}
+use Rattle.sums.specs.declared.source.Source.{Source}
 use Rattle.table.specs.Layouts.{Layout}
 use Rattle.table.specs.Layout.{TableIn}
 use Rattle.cutter.specs.declared.call.CutRecord.{CutRecord}

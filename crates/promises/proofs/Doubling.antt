@@ -34,8 +34,8 @@ use Rattle.boxes.specs.declared.sides.Bounds.{Bounds}
 use Rattle.boxes.specs.Box.{no_box}
 use Rattle.bins.specs.Sum.{box_sum}
 use Rattle.spread.specs.Spread.{zero_of}
-use Rattle.sums.specs.Sources.{Source}
-use Rattle.sums.specs.Sources.{Moments}
+use Rattle.sums.specs.declared.source.Source.{Source}
+use Rattle.sums.specs.declared.source.Source.TheVariants.{Moments}
 use Rattle.sums.specs.Moments.{moments_of}
 use Rattle.heap.specs.Heap.{item}
 use Rattle.rounds.specs.declared.gather.BoxSpread.{BoxSpread}

@@ -18,8 +18,8 @@ use Rattle.table.specs.Layouts.{Layout}
 use Rattle.table.specs.Cell.{View}
 use Rattle.table.specs.Layout.{TableIn, view_in}
 use Rattle.table.specs.Sound.{limit_of, total, sound}
-use Rattle.sums.specs.Sources.{Source}
-use Rattle.sums.specs.Sources.{Moments, Bins}
+use Rattle.sums.specs.declared.source.Source.{Source}
+use Rattle.sums.specs.declared.source.Source.TheVariants.{Moments, Bins}
 use Rattle.rounds.specs.Loop.{boxes_of}
 use Rattle.cutter.specs.declared.call.CutRecord.{CutRecord}
 use Rattle.cutter.specs.Cut.{Results, BuffersIn, work_fits, long_enough, lengths_right, cut_number_on, cut_number_in}

@@ -23,7 +23,7 @@ use Rattle.spread.specs.Spread.{SpreadsAbove}
 use Rattle.loaded.proofs.Spreads.{table_above}
 use Rattle.rounds.specs.Loop.{boxes_of}
 use Rattle.rounds.proofs.Full.{full, occupied_whole}
-use Rattle.sums.specs.Sources.{Source}
+use Rattle.sums.specs.declared.source.Source.{Source}
 use Rattle.cutter.specs.Cut.{Buffers, cut_number, done_record, cut_record}
 use Rattle.cutter.proofs.Laws.{cut_says, cut_accepts}
 use Rattle.promises.specs.Full.{occupied_bins, Lends}

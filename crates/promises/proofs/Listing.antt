@@ -45,7 +45,7 @@ use Rattle.rounds.specs.Loop.{with_spread, start_room, start, room_after, boxes_
 use Rattle.rounds.specs.Loop.{round}
 use Rattle.rounds.specs.Loop.{rounds, heap_of, places_of, boxes_of}
 use Rattle.boxes.specs.Box.{whole_of}
-use Rattle.sums.specs.Sources.{Moments}
+use Rattle.sums.specs.declared.source.Source.TheVariants.{Moments}
 use Rattle.cutter.specs.Fronts.{join_all, filled}
 use Rattle.cutter.specs.Palette.{mean_of, colour_of, count_of, bytes_of, its_colour, its_count, palette_later, counts_later}
 use Rattle.cutter.specs.Cut.{long_enough, results_on, lengths_of, cut_number, cut_number_in, cut_record, done_record, list_of, box_list}

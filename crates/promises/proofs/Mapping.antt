@@ -17,7 +17,7 @@ use Rattle.grid.proofs.Places.{chose, colour_place_lt}
 use Rattle.table.specs.Layouts.{Wide}
 use Rattle.table.specs.Table.{view_of}
 use Rattle.adder.proofs.Parts.{colour_bytes}
-use Rattle.sums.specs.Sources.{Source}
+use Rattle.sums.specs.declared.source.Source.{Source}
 use Rattle.cutter.specs.Palette.{its_colour, colours_of}
 use Rattle.boxes.specs.Holds.{holds_at}
 use Rattle.cutter.specs.Cut.{results_on, Buffers, cut_number, cut_record, box_list, later_on}

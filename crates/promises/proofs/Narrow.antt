@@ -39,8 +39,8 @@ use Rattle.loader.proofs.Order.{table_holds_in, table_total_in, leaves_bytes, an
 use Rattle.loader.proofs.Plans.{filled_table, filled_formed}
 use Rattle.widen.specs.Widen.{widened, widen_number, widen_later}
 use Rattle.widen.proofs.Laws.{widened_holds, widened_same, widen_says}
-use Rattle.sums.specs.Sources.{Source}
-use Rattle.sums.specs.Sources.{Moments, Bins}
+use Rattle.sums.specs.declared.source.Source.{Source}
+use Rattle.sums.specs.declared.source.Source.TheVariants.{Moments, Bins}
 use Rattle.sums.specs.Moments.{moments_of}
 use Rattle.sums.proofs.Below.{below_small, below_high}
 use Rattle.rounds.specs.Loop.{boxes_of}

@@ -39,7 +39,7 @@ use Rattle.compare.proofs.Laws.{compare_answer, compare_refused, compare_tests_l
 use Rattle.rescue.specs.Rescue.{rescue_number, rescue_table, rescue_reasons}
 use Rattle.rescue.proofs.Calls as rescues
 use Rattle.rescue.proofs.Laws.{rescue_refused, rescue_tests_lem, rescue_says, rescue_grid, rescue_accepts}
-use Rattle.sums.specs.Sources.{Source}
+use Rattle.sums.specs.declared.source.Source.{Source}
 use Rattle.widen.specs.Widen.{widen_number, widen_later}
 use Rattle.widen.proofs.Calls as widens
 use Rattle.widen.proofs.Laws.{widen_refused, widen_tests_lem, widen_says, widen_accepts}

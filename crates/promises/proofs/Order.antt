@@ -17,7 +17,7 @@ use Rattle.loader.specs.Load.{table_in}
 use Rattle.loader.specs.Plan.{Plan, Filled, Stopped, ended_of_in, ends_in, leaves, first_malformed, BytesIn}
 use Rattle.loader.proofs.Order.{table_perm_in, ends_is_in, any_order_in, malformed_refused_in}
 use Rattle.loader.proofs.Plans.{filled_table}
-use Rattle.sums.specs.Sources.{Source}
+use Rattle.sums.specs.declared.source.Source.{Source}
 use Rattle.cutter.specs.Cut.{BuffersIn, cut_record_in, cut_later_in}
 use Rattle.promises.specs.Order.{SameCut, CutAlike}
 

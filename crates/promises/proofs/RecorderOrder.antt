@@ -18,7 +18,7 @@ use Rattle.loader.specs.Load.{table_of}
 use Rattle.loader.specs.Plan.{Plan, Filled, ends, leaves, first_malformed, BytesIn}
 use Rattle.loader.proofs.Order.{load_table, table_perm, table_total, leaves_bytes, any_order}
 use Rattle.loader.proofs.Plans.{filled_table}
-use Rattle.sums.specs.Sources.{Source}
+use Rattle.sums.specs.declared.source.Source.{Source}
 use Rattle.cutter.specs.Cut.{Buffers}
 use Rattle.recorder.specs.Replay.{Recorded, replay_number, replay_table}
 use Rattle.promises.specs.Order.{SameCut}

@@ -19,7 +19,7 @@ use Rattle.boxes.specs.declared.sides.Bounds.{Bounds}
 use Rattle.boxes.specs.Box.{no_box}
 use Rattle.bins.specs.Sum.{box_sum}
 use Rattle.rounds.specs.Loop.{boxes_of}
-use Rattle.sums.specs.Sources.{Source}
+use Rattle.sums.specs.declared.source.Source.{Source}
 use Rattle.cutter.specs.Cut.{Buffers, CanCut, cut_number, done_record, cut_record, list_of, box_list, results_on, later_on}
 use Rattle.cutter.specs.Cut.{cut_later}
 use Rattle.cutter.proofs.Colours.{palette_byte, counts_at, remainders_at, component_whole, component_left}

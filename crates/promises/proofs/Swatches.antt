@@ -12,7 +12,7 @@ use Rattle.grid.specs.Grid.{grid_with, grid_of}
 use Rattle.pixels.specs.Colour.{colour_at}
 use Rattle.table.specs.Layouts.{Wide}
 use Rattle.table.specs.Table.{view_of}
-use Rattle.sums.specs.Sources.{Moments}
+use Rattle.sums.specs.declared.source.Source.TheVariants.{Moments}
 use Rattle.cutter.specs.Palette.{its_colour, palette_later}
 use Rattle.cutter.specs.Cut.{cut_number, cut_record, done_record, box_list, results_on, later_on, Buffers}
 use Rattle.cutter.proofs.Fronts.{length_filled}

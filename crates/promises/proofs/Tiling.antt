@@ -32,7 +32,7 @@ use Rattle.rounds.specs.declared.gather.Boxes.{Boxes}
 use Rattle.boxes.specs.Box.{no_box}
 use Rattle.rounds.specs.Loop.{boxes_of}
 use Rattle.rounds.proofs.Filled.{heap_most}
-use Rattle.sums.specs.Sources.{Source}
+use Rattle.sums.specs.declared.source.Source.{Source}
 use Rattle.cutter.specs.declared.call.CutRecord.{CutRecord}
 use Rattle.cutter.specs.Palette.{count_of, palette_later, counts_later, front_of}
 use Rattle.boxes.specs.Holds.{holds_at}

@@ -9,7 +9,7 @@ use Rattle.spread.specs.Spread.{zero_of}
 use Rattle.spread.specs.Cut.{ScoredAnswer, position_answer, best_cut}
 use Rattle.rounds.specs.declared.gather.BoxSpread.{BoxSpread}
 use Rattle.boxes.specs.Box.{whole_of}
-use Rattle.sums.specs.Sources.{Moments}
+use Rattle.sums.specs.declared.source.Source.TheVariants.{Moments}
 use Rattle.cutter.specs.declared.call.CutRecord.{CutRecord}
 use Rattle.cutter.specs.Cut.{Buffers, buffers, cut_record, cut_later}
 

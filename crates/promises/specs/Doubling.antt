@@ -8,8 +8,8 @@ use Rattle.table.specs.Layouts.{Wide, Narrow}
 use Rattle.table.specs.Narrow.{narrow_table}
 use Rattle.table.specs.Layout.{TableIn, view_in}
 use Rattle.table.specs.Sound.{limit_of, total, sound}
-use Rattle.sums.specs.Sources.{Source}
-use Rattle.sums.specs.Sources.{Moments}
+use Rattle.sums.specs.declared.source.Source.{Source}
+use Rattle.sums.specs.declared.source.Source.TheVariants.{Moments}
 use Rattle.rounds.specs.declared.gather.BoxSpread.{BoxSpread}
 use Rattle.cutter.specs.declared.call.CutRecord.{CutRecord}
 use Rattle.cutter.specs.Cut.{BuffersIn, cut_number_in, cut_record_in, cut_later_in}

@@ -5,7 +5,7 @@ use Rattle.basics.specs.Range.{sum_from}
 use Rattle.grid.specs.Grid.{bins_of}
 use Rattle.table.specs.Table.{is_sized, view_of}
 use Rattle.bins.specs.Sum.{marks}
-use Rattle.sums.specs.Sources.{Source}
+use Rattle.sums.specs.declared.source.Source.{Source}
 use Rattle.cutter.specs.Cut.{Buffers, work_fits}
 
 -- the occupied bins of a table: those of weight above 0

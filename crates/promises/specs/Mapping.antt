@@ -1,6 +1,6 @@
 -- What a cut leaves for mapping and painting, and two maps by which every frame is mapped alike. Definitions only.
 use Rattle.std.specs.Prelude.{◌≡◌, List, ℕ}
-use Rattle.sums.specs.Sources.{Source}
+use Rattle.sums.specs.declared.source.Source.{Source}
 use Rattle.cutter.specs.Palette.{front_of}
 use Rattle.cutter.specs.Cut.{Buffers, cut_record, cut_later}
 use Rattle.mapper.specs.Map.{map_number, map_later}

@@ -14,8 +14,8 @@ use Rattle.loader.specs.Load.{load_number, load_later, load_number_in, load_late
 use Rattle.loader.specs.Merge.{merge_number, merge_later, merge_number_in, merge_later_in}
 use Rattle.loader.specs.Plan.{Plan, Filled, ends}
 use Rattle.widen.specs.Widen.{widened}
-use Rattle.sums.specs.Sources.{Source}
-use Rattle.sums.specs.Sources.{Moments, Bins}
+use Rattle.sums.specs.declared.source.Source.{Source}
+use Rattle.sums.specs.declared.source.Source.TheVariants.{Moments, Bins}
 use Rattle.sums.specs.Moments.{moments_of}
 use Rattle.cutter.specs.Cut.{Results, BuffersIn, Buffers, cut_number, cut_record, cut_later}
 use Rattle.cutter.specs.Cut.{cut_number_in, cut_record_in, cut_later_in}

@@ -12,7 +12,7 @@ use Rattle.table.specs.Layout.{TableIn, SizedIn, is_sized_in, view_in}
 use Rattle.table.specs.Sound.{limit, limit_of, total, sound}
 use Rattle.adder.specs.Batch.{weight_of, batch_of}
 use Rattle.table.specs.Sound.{passed_number}
-use Rattle.sums.specs.Sources.{Source}
+use Rattle.sums.specs.declared.source.Source.{Source}
 use Rattle.cutter.specs.Cut.{BuffersIn, lengths_right}
 use Rattle.band.specs.Band.{all_below}
 use Rattle.seluvava.specs.Cut.{LentIn, has_room}

@@ -6,7 +6,7 @@ use Rattle.grid.specs.Grid.{colour_place}
 use Rattle.table.specs.Layouts.{Layout}
 use Rattle.table.specs.Layout.{TableIn}
 use Rattle.loader.specs.Plan.{Plan, Filled, ends_in}
-use Rattle.sums.specs.Sources.{Source}
+use Rattle.sums.specs.declared.source.Source.{Source}
 use Rattle.cutter.specs.Cut.{BuffersIn, cut_record_in, cut_later_in}
 
 -- two tables that a cut tells nothing apart by: the same boxes with their spreads, palette, counts, map and work table,

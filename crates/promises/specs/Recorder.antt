@@ -10,7 +10,7 @@ use Rattle.table.specs.Sound.{limit, total}
 use Rattle.adder.specs.Batch.{Weighted, weight_of}
 use Rattle.adder.specs.Add.{scaled_batch}
 use Rattle.loader.specs.Plan.{Plan, Filled, ends}
-use Rattle.sums.specs.Sources.{Source}
+use Rattle.sums.specs.declared.source.Source.{Source}
 use Rattle.cutter.specs.Cut.{Buffers}
 use Rattle.recorder.specs.Session.{is_interval, reloaded}
 use Rattle.recorder.specs.Batch.{batch_number, batch_later}

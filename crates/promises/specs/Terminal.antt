@@ -2,7 +2,7 @@
 -- Definitions only.
 use Rattle.std.specs.Prelude.{Bool, not, ◌&&◌, List, [], ◌∷◌, ℕ, ◌%◌, ◌≤◌, ◌<◌, eqb, leb, ltb, length}
 use Rattle.pixels.specs.declared.colour.Rgb.{Rgb}
-use Rattle.sums.specs.Sources.{Moments}
+use Rattle.sums.specs.declared.source.Source.TheVariants.{Moments}
 use Rattle.cutter.specs.Cut.{cut_later}
 use Rattle.terminal.specs.Nearest.{distance_of, entries_in}
 use Rattle.lines.specs.Listing.{lent_zeros}

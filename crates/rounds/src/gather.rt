@@ -47,14 +47,13 @@ fn gathered(spreads: &[f64; 256], boxes: &[u64; 256], len: usize) -> [BoxSpread;
             bounds: unpacked(boxes[i]),
             spread,
         };
-        i = i + 1;
+        i += 1;
     }
     places
 }
 
 // The boxes that a table is cut into, at most k, or one where k is 0 (`cubes_heap`).
-pub fn cut_boxes(
-    layout: Layout,
+pub fn cut_boxes<L: Layout>(
     small: &[u32],
     large: &[u64],
     smallwork: &[u32],
@@ -63,17 +62,15 @@ pub fn cut_boxes(
     g: Grid,
     k: usize,
 ) -> Boxes
-    requires { CanSum layout limit source g (laid layout small.now large.now)
-        (laid layout smallwork.now largework.now) × (k ≤ 256) }
-    ensures { result ≡ boxes_of g (laid_view layout small.now large.now) k }
+    requires { CanSum L.layout limit source g (laid L.layout small.now large.now)
+        (laid L.layout smallwork.now largework.now) × (k ≤ 256) }
+    ensures { result ≡ boxes_of g (laid_view L.layout small.now large.now) k }
 {
     let mut spreads = [0.0; 256];
     let mut boxes = [0u64; 256];
     spreads[0] = 1.0 / 0.0;
     boxes[0] = packed(whole(g));
-    let end = all_rounds(
-        layout,
-        small,
+    let end = all_rounds::<L>(small,
         large,
         smallwork,
         largework,

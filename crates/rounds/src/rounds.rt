@@ -20,8 +20,7 @@ use sums::source::Source;
 use table::layout::Layout;
 
 // Cuts a box that was taken out, with `left` boxes left, and answers how many there are then.
-fn cut_top(
-    layout: Layout,
+fn cut_top<L: Layout>(
     small: &[u32],
     large: &[u64],
     smallwork: &[u32],
@@ -33,18 +32,18 @@ fn cut_top(
     left: usize,
     x: Bounds,
 ) -> usize
-    requires can_sum { CanSum layout limit source g (laid layout small.now large.now)
-        (laid layout smallwork.now largework.now) × Within g x }
+    requires can_sum { CanSum L.layout limit source g (laid L.layout small.now large.now)
+        (laid L.layout smallwork.now largework.now) × Within g x }
     requires two_arrays { TwoArrays spreads.old boxes.old × (left + 1 < 256) }
     ensures number { result
-        ≡ boxes_after left (best_cut g (laid_view layout small.now large.now) x) }
+        ≡ boxes_after left (best_cut g (laid_view L.layout small.now large.now) x) }
     ensures room { room_in spreads.new boxes.new
-        ≡ room_after g (laid_view layout small.now large.now)
+        ≡ room_after g (laid_view L.layout small.now large.now)
         (room_in spreads.old boxes.old) left x
-        (best_cut g (laid_view layout small.now large.now) x) }
+        (best_cut g (laid_view L.layout small.now large.now) x) }
     ensures arrays { TwoArrays spreads.new boxes.new }
 {
-    let best = best_cut(layout, small, large, smallwork, largework, source, g, x);
+    let best = best_cut::<L>(small, large, smallwork, largework, source, g, x);
     let position = best.position;
     let Position::At {
         dimension,
@@ -63,8 +62,7 @@ fn cut_top(
 }
 
 // One round with `len` boxes; answers how many there are then.
-fn round(
-    layout: Layout,
+fn round<L: Layout>(
     small: &[u32],
     large: &[u64],
     smallwork: &[u32],
@@ -75,15 +73,15 @@ fn round(
     boxes: &mut [u64; 256],
     len: usize,
 ) -> usize
-    requires can_sum { CanSum layout limit source g (laid layout small.now large.now)
-        (laid layout smallwork.now largework.now) }
+    requires can_sum { CanSum L.layout limit source g (laid L.layout small.now large.now)
+        (laid L.layout smallwork.now largework.now) }
     requires two_arrays { TwoArrays spreads.old boxes.old × (0 < len) × (len < 256)
         × Within g (item no_item (room_in spreads.old boxes.old) 0).bounds }
     ensures number { result
-        ≡ round_boxes g (laid_view layout small.now large.now)
+        ≡ round_boxes g (laid_view L.layout small.now large.now)
         (room_in spreads.old boxes.old) len }
     ensures room { room_in spreads.new boxes.new
-        ≡ round_room g (laid_view layout small.now large.now)
+        ≡ round_room g (laid_view L.layout small.now large.now)
         (room_in spreads.old boxes.old) len }
     ensures arrays { TwoArrays spreads.new boxes.new }
 {
@@ -92,8 +90,7 @@ fn round(
     let left = len - 1;
     take_top(spreads, boxes, len);
     if 0.0 < s {
-        return cut_top(
-            layout, small, large, smallwork, largework, source, g, spreads, boxes, left, x,
+        return cut_top::<L>(small, large, smallwork, largework, source, g, spreads, boxes, left, x,
         );
     }
     put_box(spreads, boxes, left, s, x);
@@ -108,8 +105,7 @@ pub struct Ended {
 }
 
 // All rounds.
-pub(crate) fn all_rounds(
-    layout: Layout,
+pub(crate) fn all_rounds<L: Layout>(
     small: &[u32],
     large: &[u64],
     smallwork: &[u32],
@@ -120,24 +116,23 @@ pub(crate) fn all_rounds(
     spreads: &mut [f64; 256],
     boxes: &mut [u64; 256],
 ) -> Ended
-    requires can_sum { CanSum layout limit source g (laid layout small.now large.now)
-        (laid layout smallwork.now largework.now) × (k ≤ 256) }
+    requires can_sum { CanSum L.layout limit source g (laid L.layout small.now large.now)
+        (laid L.layout smallwork.now largework.now) × (k ≤ 256) }
     requires two_arrays { TwoArrays spreads.old boxes.old × (room_in spreads.old boxes.old ≡ start_room g) }
-    ensures boxes { result.boxes ≡ (heap_of g (laid_view layout small.now large.now) k).boxes }
+    ensures boxes { result.boxes ≡ (heap_of g (laid_view L.layout small.now large.now) k).boxes }
     ensures rounds { result.rounds
-        ≡ (heap_of g (laid_view layout small.now large.now) k).rounds }
+        ≡ (heap_of g (laid_view L.layout small.now large.now) k).rounds }
     ensures room { room_in spreads.new boxes.new
-        ≡ (heap_of g (laid_view layout small.now large.now) k).room }
+        ≡ (heap_of g (laid_view L.layout small.now large.now) k).room }
     ensures arrays { TwoArrays spreads.new boxes.new }
 {
     let mut len = 1;
     let mut rounds = 0;
     while len < k {
         let more = 0.0 < spreads[0];
-        len = round(
-            layout, small, large, smallwork, largework, source, g, spreads, boxes, len,
+        len = round::<L>(small, large, smallwork, largework, source, g, spreads, boxes, len,
         );
-        rounds = rounds + 1;
+        rounds += 1;
         if !more {
             return Ended { boxes: len, rounds };
         }

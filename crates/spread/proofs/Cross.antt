@@ -21,7 +21,7 @@ use Rattle.sums.specs.Box.{stats_from, stats_of}
 use Rattle.table.proofs.Cells.{zero_cell, zeros_cell}
 use Rattle.table.specs.Sound.{limit}
 use Rattle.sums.specs.declared.box_sums.Stats.{Stats}
-use Rattle.sums.specs.Sources.{Moments}
+use Rattle.sums.specs.declared.source.Source.TheVariants.{Moments}
 use Rattle.sums.specs.Moments.{CanSum}
 use Rattle.sums.specs.Inner.{Corner, bin_cell}
 use Rattle.bins.proofs.Runs.{first_from_lem, second_from, third_from, no_first, no_second, no_third}

@@ -21,7 +21,7 @@ use table::layout::Layout;
 // there is no position they are all zeros.
 #[derive(Clone, Copy)]
 pub struct BestCut {
-    pub position: Position,
+    pub position: Option<Position>,
     pub low: Stats,
     pub high: Stats,
 }
@@ -38,7 +38,7 @@ fn no_cut() -> BestCut
         squares: 0.0,
     };
     BestCut {
-        position: Position::Nowhere,
+        position: None,
         low: none,
         high: none,
     }
@@ -46,40 +46,33 @@ fn no_cut() -> BestCut
 
 // The best position with its sides, from the moments: the high side is what the low side leaves of the box, so that a
 // round finds two sums and not three.
-pub(crate) fn sides_by_moments(
-    layout: Layout,
+pub(crate) fn sides_by_moments<L: Layout>(
     small: &[u32],
     large: &[u64],
     smallwork: &[u32],
     largework: &[u64],
     g: Grid,
     x: Bounds,
-    position: Position,
+    position: Option<Position>,
     all: Stats,
 ) -> BestCut
-    requires can_sum { CanSum layout limit Moments g (laid layout small.now large.now)
-        (laid layout smallwork.now largework.now) × Within g x }
-    requires position_value { (position ≡ best_cut g (laid_view layout small.now large.now) x)
-        × (all ≡ stats_of g (laid_view layout small.now large.now) x) }
-    ensures { result ≡ cut_at g (laid_view layout small.now large.now) x position }
+    requires can_sum { CanSum L.layout limit Moments g (laid L.layout small.now large.now)
+        (laid L.layout smallwork.now largework.now) × Within g x }
+    requires position_value { (position ≡ best_cut g (laid_view L.layout small.now large.now) x)
+        × (all ≡ stats_of g (laid_view L.layout small.now large.now) x) }
+    ensures { result ≡ cut_at g (laid_view L.layout small.now large.now) x position }
 {
-    let Position::At {
-        dimension,
-        bin,
-        score: _,
-    } = position
-    else {
+    let Some(at) = position else {
         return no_cut();
     };
-    let low = box_sum(
-        layout,
+    let low = box_sum::<L>(
         small,
         large,
         smallwork,
         largework,
         Source::Moments,
         g,
-        low_side(x, dimension, bin),
+        low_side(x, at.dimension, at.bin),
     );
     BestCut {
         position,
@@ -89,29 +82,23 @@ pub(crate) fn sides_by_moments(
 }
 
 // The same from the bins: each side is added up by itself.
-pub(crate) fn sides_by_bins(
-    layout: Layout,
+pub(crate) fn sides_by_bins<L: Layout>(
     small: &[u32],
     large: &[u64],
     g: Grid,
     x: Bounds,
-    position: Position,
+    position: Option<Position>,
 ) -> BestCut
-    requires can_add { CanAdd layout limit g (laid layout small.now large.now) x }
-    requires position_value { position ≡ best_cut g (laid_view layout small.now large.now) x }
-    ensures { result ≡ cut_at g (laid_view layout small.now large.now) x position }
+    requires can_add { CanAdd L.layout limit g (laid L.layout small.now large.now) x }
+    requires position_value { position ≡ best_cut g (laid_view L.layout small.now large.now) x }
+    ensures { result ≡ cut_at g (laid_view L.layout small.now large.now) x position }
 {
-    let Position::At {
-        dimension,
-        bin,
-        score: _,
-    } = position
-    else {
+    let Some(at) = position else {
         return no_cut();
     };
     BestCut {
         position,
-        low: sum_of_bins(layout, small, large, g, low_side(x, dimension, bin)),
-        high: sum_of_bins(layout, small, large, g, high_side(x, dimension, bin)),
+        low: sum_of_bins::<L>(small, large, g, low_side(x, at.dimension, at.bin)),
+        high: sum_of_bins::<L>(small, large, g, high_side(x, at.dimension, at.bin)),
     }
 }

@@ -20,7 +20,7 @@ use Rattle.boxes.specs.declared.sides.Bounds.{Bounds}
 use Rattle.boxes.specs.Box.{Within}
 use Rattle.boxes.proofs.Within.{sides}
 use Rattle.sums.specs.declared.box_sums.Stats.{Stats}
-use Rattle.sums.specs.Sources.{Moments}
+use Rattle.sums.specs.declared.source.Source.TheVariants.{Moments}
 use Rattle.bins.specs.Sum.{bin_sum}
 use Rattle.sums.specs.Box.{stats_from}
 use Rattle.sums.specs.Moments.{below_sum, CanSum}

@@ -24,7 +24,7 @@ use Rattle.table.proofs.Cells.{number_cell, number_plus, number_minus, cell_by, 
 use Rattle.table.proofs.Layouts.{cell_in, cell_of_lem, list_holds_in, holds_list_in, held_in}
 use Rattle.table.proofs.Layouts.{put_sized_in, put_there_in, put_elsewhere_in}
 use Rattle.table.proofs.Soundness.{Sound, sound_in, total_high}
-use Rattle.sums.specs.Sources.{Moments, Bins}
+use Rattle.sums.specs.declared.source.Source.TheVariants.{Moments, Bins}
 use Rattle.sums.specs.Moments.{below_sum, moments_of, HasMoments, ForMoments, CanSum}
 use Rattle.sums.specs.Inner.{line_sum, moment_cell, line_cell, Before, Ready, joined_cell, CanJoin, with_moment}
 use Rattle.sums.proofs.Below.{moments_at, below_none, below_no_row, below_step, below_grows, below_small, below_high}

@@ -10,7 +10,7 @@ use Rattle.table.specs.Layouts.{Layout}
 use Rattle.table.specs.Layout.{TableIn, view_in, put_in}
 use Rattle.table.specs.Sound.{limit}
 use Rattle.bins.specs.Sum.{bin_sum}
-use Rattle.sums.specs.Sources.{Moments}
+use Rattle.sums.specs.declared.source.Source.TheVariants.{Moments}
 use Rattle.sums.specs.Moments.{moments_of, MomentsBefore, ForMoments, CanSum}
 
 -- the cell of the moments at a place

@@ -7,8 +7,8 @@ use Rattle.table.specs.Layouts.{Layout}
 use Rattle.table.specs.Layout.{TableIn, SizedIn, view_in, TableOfIn}
 use Rattle.table.specs.Sound.{limit_of, sound}
 use Rattle.bins.specs.Sum.{bin_sum}
-use Rattle.sums.specs.Sources.{Source}
-use Rattle.sums.specs.Sources.{Moments, Bins}
+use Rattle.sums.specs.declared.source.Source.{Source}
+use Rattle.sums.specs.declared.source.Source.TheVariants.{Moments, Bins}
 
 -- number j of all bins with r, g and b below the three given
 unfoldable pub below_sum : Grid → View → ℕ → ℕ → ℕ → ℕ → ℕ

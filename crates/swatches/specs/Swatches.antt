@@ -1,7 +1,7 @@
 -- The listing for a terminal (Rules, Listing): each line after the first behind a swatch. Definitions only.
 use Rattle.std.specs.Prelude.{List, [], ◌∷◌, ◌++◌, ℕ, zero, suc, get_or, replicate}
 use Rattle.basics.specs.Answer.{when_done}
-use Rattle.sums.specs.Sources.{Moments}
+use Rattle.sums.specs.declared.source.Source.TheVariants.{Moments}
 use Rattle.cutter.specs.Cut.{cut_record, cut_later}
 use Rattle.lines.specs.Text.{named_of, head_of, line_at, total_of, refused_of}
 use Rattle.lines.specs.Listing.{lent_zeros}

@@ -11,8 +11,8 @@ use Rattle.table.specs.Layout.{TableIn, laid, laid_view, TableOfIn}
 use Rattle.table.specs.Sound.{limit}
 use Rattle.table.proofs.Layouts.{sized_in}
 use Rattle.table.proofs.Soundness.{Sound, sound_in}
-use Rattle.sums.specs.Sources.{Source}
-use Rattle.sums.specs.Sources.{Moments, Bins}
+use Rattle.sums.specs.declared.source.Source.{Source}
+use Rattle.sums.specs.declared.source.Source.TheVariants.{Moments, Bins}
 use Rattle.sums.specs.Moments.{CanSum}
 use Rattle.sums.proofs.Steps.{can_from_moments, can_from_bins}
 use Rattle.rounds.specs.declared.gather.Boxes.{Boxes}

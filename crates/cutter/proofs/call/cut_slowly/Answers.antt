@@ -2,7 +2,7 @@
 -- Assumes nothing.
 use mathlib.Core.Path.{sym, ap, ◌∙◌}
 use borrow.Author.Rules.{rules}
-use Rattle.sums.specs.Sources.{Bins}
+use Rattle.sums.specs.declared.source.Source.TheVariants.{Bins}
 use Rattle.table.specs.Layouts.{Wide}
 use Rattle.cutter.specs.Cut.{Buffers, buffers, no_work, cut_later}
 use Rattle.cutter.proofs.Laws.{bins_leave_work}

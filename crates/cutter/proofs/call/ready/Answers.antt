@@ -5,7 +5,7 @@ use borrow.Author.Rules.{rules}
 use Rattle.grid.specs.Grid.{bins_of}
 use Rattle.table.specs.Layout.{laid, laid_view, is_sized_in}
 use Rattle.table.proofs.Layouts.{sized_in}
-use Rattle.sums.specs.Sources.{Source}
+use Rattle.sums.specs.declared.source.Source.{Source}
 use Rattle.cutter.specs.Cut.{work_fits, work_later}
 use Rattle.cutter.proofs.Refusals.{moments_fit}
 use Rattle.cutter.proofs.call.ready.Goals as goal

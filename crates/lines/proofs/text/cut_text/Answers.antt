@@ -5,7 +5,7 @@ use native.Mathlib.Omega.{arith}
 use Rattle.table.specs.Layouts.{Wide}
 use Rattle.cutter.proofs.RecordSize.{few}
 use borrow.Author.Rules.{rules}
-use Rattle.sums.specs.Sources.{Moments}
+use Rattle.sums.specs.declared.source.Source.TheVariants.{Moments}
 use Rattle.cutter.specs.Cut.{cut_record, cut_later}
 use Rattle.lines.proofs.Texts.{lent_zeros_lem, cut_refused, cut_listed}
 use Rattle.lines.proofs.text.cut_text.Goals as goal

@@ -2,7 +2,7 @@
 -- Assumes nothing.
 use mathlib.Core.Path.{sym, ap, ◌∙◌}
 use borrow.Author.Rules.{rules}
-use Rattle.sums.specs.Sources.{Bins}
+use Rattle.sums.specs.declared.source.Source.TheVariants.{Bins}
 use Rattle.table.specs.Layouts.{Wide}
 use Rattle.cutter.specs.Cut.{buffers, no_work}
 use Rattle.seluvava.specs.Cut.{Lent, lent, call_later}

@@ -5,7 +5,7 @@ use mathlib.Core.Path.{sym, ap, ◌∙◌}
 use borrow.Author.Rules.{rules}
 use Rattle.table.specs.Layouts.{Narrow}
 use Rattle.table.specs.Narrow.{narrow_table}
-use Rattle.sums.specs.Sources.{Bins}
+use Rattle.sums.specs.declared.source.Source.TheVariants.{Bins}
 use Rattle.cutter.specs.Cut.{buffers_in, no_work_in}
 use Rattle.seluvava.specs.Cut.{LentIn, lent_in, call_later_in}
 use Rattle.seluvava.proofs.Calls.{call_leaves_work}

@@ -7,7 +7,7 @@ use borrow.Author.Rules.{rules}
 use Rattle.table.specs.Layouts.{Layout}
 use Rattle.table.specs.Layout.{laid, laid_view}
 use Rattle.table.specs.Sound.{limit}
-use Rattle.sums.specs.Sources.{Moments}
+use Rattle.sums.specs.declared.source.Source.TheVariants.{Moments}
 use Rattle.sums.specs.Box.{stats_of}
 use Rattle.sums.specs.Moments.{CanSum}
 use Rattle.boxes.specs.Box.{min_at, max_at}

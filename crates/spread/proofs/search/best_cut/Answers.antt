@@ -5,8 +5,8 @@ use mathlib.Core.Path.{◌≡◌, ap, subst, ◌∙◌}
 use borrow.Author.Rules.{rules}
 use Rattle.table.specs.Layout.{laid, laid_view}
 use Rattle.table.specs.Sound.{limit}
-use Rattle.sums.specs.Sources.{Source}
-use Rattle.sums.specs.Sources.{Moments}
+use Rattle.sums.specs.declared.source.Source.{Source}
+use Rattle.sums.specs.declared.source.Source.TheVariants.{Moments}
 use Rattle.sums.specs.Box.{stats_of}
 use Rattle.sums.specs.Moments.{CanSum}
 use Rattle.spread.specs.Cut.{better, best_cut, cut_at}

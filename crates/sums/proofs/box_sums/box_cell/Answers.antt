@@ -6,7 +6,7 @@ use Rattle.table.specs.Layouts.{Layout}
 use Rattle.table.specs.Layout.{laid, laid_view}
 use Rattle.table.specs.Sound.{limit}
 use Rattle.bins.specs.Sum.{box_cell}
-use Rattle.sums.specs.Sources.{Moments}
+use Rattle.sums.specs.declared.source.Source.TheVariants.{Moments}
 use Rattle.sums.specs.Moments.{CanSum}
 use Rattle.sums.proofs.box_sums.box_cell.Goals as goal
 

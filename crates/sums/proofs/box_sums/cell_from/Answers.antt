@@ -4,7 +4,7 @@ use mathlib.Core.Path.{subst}
 use borrow.Author.Rules.{rules}
 use Rattle.table.specs.Sound.{limit}
 use Rattle.table.specs.Layout.{laid}
-use Rattle.sums.specs.Sources.{Source}
+use Rattle.sums.specs.declared.source.Source.{Source}
 use Rattle.sums.specs.Moments.{CanSum}
 use Rattle.sums.proofs.box_sums.cell_from.Goals as goal
 

@@ -1,8 +1,6 @@
-// The five sums of a box, from the moments of a narrow table. The layout is a constant here, so that it is not asked
-// for at each place.
+// The five sums of a box, from the moments of a table.
 ghost use Rattle.std.specs.Prelude.{◌≡◌, ◌-◌, ◌≤◌};
 ghost use Rattle.grid.specs.Grid.{place_of};
-ghost use Rattle.table.specs.declared.layout.Layout.TheVariants.{Narrow};
 ghost use Rattle.table.specs.Sound.{limit};
 ghost use Rattle.table.specs.Layout.{laid, laid_view};
 ghost use Rattle.boxes.specs.Box.{Within};
@@ -14,11 +12,11 @@ ghost use Rattle.sums.specs.Inner.{bin_cell, Corner};
 use boxes::sides::Bounds;
 use grid::place::{Grid, place};
 use table::cell::{Cell, minus};
-use table::layout::{Layout, cell_in};
+use table::layout::Layout;
 
 // The sums of all bins below r, gr and b, given where the last row before starts. The table is named by the contract
 // alone, here and in the three below, and so are the grid, r and gr in the two that are told a row.
-fn narrow_corner(
+fn corner<L: Layout>(
     small: &[u32],
     large: &[u64],
     smallwork: &[u32],
@@ -29,16 +27,16 @@ fn narrow_corner(
     b: usize,
     row: usize,
 ) -> Cell
-    requires corner { Corner Narrow g (laid Narrow small.now large.now)
-        (laid Narrow smallwork.now largework.now) r gr b }
+    requires corner { Corner L.layout g (laid L.layout small.now large.now)
+        (laid L.layout smallwork.now largework.now) r gr b }
     requires row_value { row ≡ place_of g (r - 1) (gr - 1) 0 }
-    ensures { result ≡ bin_cell g (laid_view Narrow small.now large.now) 0 r 0 gr 0 b }
+    ensures { result ≡ bin_cell g (laid_view L.layout small.now large.now) 0 r 0 gr 0 b }
 {
-    cell_in(Layout::Narrow, smallwork, largework, row + (b - 1))
+    L::cell(smallwork, largework, row + (b - 1))
 }
 
 // The sums of the bins from b0 to b1, below r and gr.
-fn narrow_bins_from(
+fn bins_from<L: Layout>(
     small: &[u32],
     large: &[u64],
     smallwork: &[u32],
@@ -50,23 +48,23 @@ fn narrow_bins_from(
     b1: usize,
     row: usize,
 ) -> Cell
-    requires corner { Corner Narrow g (laid Narrow small.now large.now)
-        (laid Narrow smallwork.now largework.now) r gr b1 × (b0 ≤ b1) }
+    requires corner { Corner L.layout g (laid L.layout small.now large.now)
+        (laid L.layout smallwork.now largework.now) r gr b1 × (b0 ≤ b1) }
     requires row_value { row ≡ place_of g (r - 1) (gr - 1) 0 }
-    ensures { result ≡ bin_cell g (laid_view Narrow small.now large.now) 0 r 0 gr b0 (b1 - b0) }
+    ensures { result ≡ bin_cell g (laid_view L.layout small.now large.now) 0 r 0 gr b0 (b1 - b0) }
 {
-    let upper = narrow_corner(small, large, smallwork, largework, g, r, gr, b1, row);
+    let upper = corner::<L>(small, large, smallwork, largework, g, r, gr, b1, row);
     if b0 == 0 {
         return upper;
     }
     minus(
         upper,
-        narrow_corner(small, large, smallwork, largework, g, r, gr, b0, row),
+        corner::<L>(small, large, smallwork, largework, g, r, gr, b0, row),
     )
 }
 
 // The sums of the bins of a box's last two dimensions, below r.
-fn narrow_slab(
+fn slab<L: Layout>(
     small: &[u32],
     large: &[u64],
     smallwork: &[u32],
@@ -76,11 +74,11 @@ fn narrow_slab(
     x: Bounds,
     plane: usize,
 ) -> Cell
-    requires corner { Corner Narrow g (laid Narrow small.now large.now)
-        (laid Narrow smallwork.now largework.now) r x.g1 x.b1 × (x.g0 ≤ x.g1) × (x.b0 ≤ x.b1) }
+    requires corner { Corner L.layout g (laid L.layout small.now large.now)
+        (laid L.layout smallwork.now largework.now) r x.g1 x.b1 × (x.g0 ≤ x.g1) × (x.b0 ≤ x.b1) }
     requires plane_value { plane ≡ place_of g (r - 1) 0 0 }
     ensures { result
-        ≡ bin_cell g (laid_view Narrow small.now large.now) 0 r
+        ≡ bin_cell g (laid_view L.layout small.now large.now) 0 r
         x.g0 (x.g1 - x.g0) x.b0 (x.b1 - x.b0) }
 {
     let b0 = x.b0 as usize;
@@ -88,19 +86,19 @@ fn narrow_slab(
     let g0 = x.g0 as usize;
     let g1 = x.g1 as usize;
     let last = plane + place(g, 0, g1 - 1, 0);
-    let upper = narrow_bins_from(small, large, smallwork, largework, g, r, g1, b0, b1, last);
+    let upper = bins_from::<L>(small, large, smallwork, largework, g, r, g1, b0, b1, last);
     if g0 == 0 {
         return upper;
     }
     let before = plane + place(g, 0, g0 - 1, 0);
     minus(
         upper,
-        narrow_bins_from(small, large, smallwork, largework, g, r, g0, b0, b1, before),
+        bins_from::<L>(small, large, smallwork, largework, g, r, g0, b0, b1, before),
     )
 }
 
 // The five sums of a box, from the moments of its table (`volume`).
-pub(crate) fn narrow_box(
+pub(crate) fn moments_box<L: Layout>(
     small: &[u32],
     large: &[u64],
     smallwork: &[u32],
@@ -108,13 +106,13 @@ pub(crate) fn narrow_box(
     g: Grid,
     x: Bounds,
 ) -> Cell
-    requires { CanSum Narrow limit Moments g (laid Narrow small.now large.now)
-        (laid Narrow smallwork.now largework.now) × Within g x }
-    ensures { result ≡ box_cell g (laid_view Narrow small.now large.now) x }
+    requires { CanSum L.layout limit Moments g (laid L.layout small.now large.now)
+        (laid L.layout smallwork.now largework.now) × Within g x }
+    ensures { result ≡ box_cell g (laid_view L.layout small.now large.now) x }
 {
     let r0 = x.r0 as usize;
     let r1 = x.r1 as usize;
-    let upper = narrow_slab(
+    let upper = slab::<L>(
         small,
         large,
         smallwork,
@@ -129,7 +127,7 @@ pub(crate) fn narrow_box(
     }
     minus(
         upper,
-        narrow_slab(
+        slab::<L>(
             small,
             large,
             smallwork,
