@@ -18,7 +18,7 @@ use Rattle.rounds.specs.Loop.{with_zero}
 use Rattle.sums.specs.declared.source.Source.{Source}
 use Rattle.table.specs.Layouts.{Layout}
 use Rattle.table.specs.Layout.{TableIn}
-use Rattle.cutter.specs.declared.call.CutRecord.{CutRecord}
+use Rattle.cutter.specs.Record.{CutRecord}
 use Rattle.cutter.specs.Fronts.{filled}
 use Rattle.cutter.specs.Cut.{list_of, cut_number_in, cut_record_in, cut_later_in}
 use Rattle.cutter.proofs.RecordSize.{few, all_places}

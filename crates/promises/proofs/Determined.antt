@@ -9,7 +9,7 @@ use Prim.Native.Nat.{ℕ}
 use lib.IntN.{ℤ}
 use lib.Ieee.{Float}
 use Rattle.basics.proofs.Determined.{determined}
-use Rattle.cutter.specs.declared.call.CutRecord.{CutRecord}
+use Rattle.cutter.specs.Record.{CutRecord}
 use Rattle.table.specs.Layouts.{Narrow}
 use Rattle.table.specs.Narrow.{NarrowTable, narrow_table}
 use Rattle.cutter.specs.Cut.{Results, Buffers, buffers, no_work, buffers_in, no_work_in}

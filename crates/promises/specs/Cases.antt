@@ -10,7 +10,7 @@ use Rattle.spread.specs.Cut.{ScoredAnswer, position_answer, best_cut}
 use Rattle.rounds.specs.declared.gather.BoxSpread.{BoxSpread}
 use Rattle.boxes.specs.Box.{whole_of}
 use Rattle.sums.specs.declared.source.Source.TheVariants.{Moments}
-use Rattle.cutter.specs.declared.call.CutRecord.{CutRecord}
+use Rattle.cutter.specs.Record.{CutRecord}
 use Rattle.cutter.specs.Cut.{Buffers, buffers, cut_record, cut_later}
 
 -- the answer to a load, and the table then
