@@ -11,7 +11,7 @@ ghost use Rattle.spread.specs.Cut.{best_cut, no_cut, cut_at};
 
 use crate::low_side::less;
 use crate::position::Position;
-use boxes::sides::{Bounds, high_side, low_side};
+use boxes::sides::Bounds;
 use grid::place::Grid;
 use sums::box_sums::{Stats, box_sum, sum_of_bins};
 use sums::source::Source;
@@ -79,7 +79,7 @@ pub(crate) fn sides_by_moments(
         largework,
         Source::Moments,
         g,
-        low_side(x, dimension, bin),
+        x.low_side(dimension, bin),
     );
     BestCut {
         position,
@@ -111,7 +111,7 @@ pub(crate) fn sides_by_bins(
     };
     BestCut {
         position,
-        low: sum_of_bins(layout, small, large, g, low_side(x, dimension, bin)),
-        high: sum_of_bins(layout, small, large, g, high_side(x, dimension, bin)),
+        low: sum_of_bins(layout, small, large, g, x.low_side(dimension, bin)),
+        high: sum_of_bins(layout, small, large, g, x.high_side(dimension, bin)),
     }
 }

@@ -7,7 +7,7 @@ ghost use Rattle.spread.specs.Cut.{position_at, best_in};
 ghost use Rattle.spread.specs.Inner.{CutsAt};
 
 use crate::position::{Position, better, position_between};
-use boxes::sides::{Bounds, end_bin, first_bin, high_side, low_side};
+use boxes::sides::Bounds;
 use grid::place::Grid;
 use sums::box_sums::sum_of_bins;
 use table::layout::Layout;
@@ -26,8 +26,8 @@ fn position_by_bins(
         × CutsAt g (laid_view layout small.now large.now) x dimension bin }
     ensures { result ≡ position_at g (laid_view layout small.now large.now) x dimension bin }
 {
-    let low = sum_of_bins(layout, small, large, g, low_side(x, dimension, bin));
-    let high = sum_of_bins(layout, small, large, g, high_side(x, dimension, bin));
+    let low = sum_of_bins(layout, small, large, g, x.low_side(dimension, bin));
+    let high = sum_of_bins(layout, small, large, g, x.high_side(dimension, bin));
     position_between(dimension, bin, low, high)
 }
 
@@ -43,9 +43,9 @@ pub(crate) fn best_by_bins(
     requires { CanAdd layout limit g (laid layout small.now large.now) x }
     ensures { result ≡ best_in g (laid_view layout small.now large.now) x dimension }
 {
-    let end = end_bin(x, dimension);
+    let end = x.end_bin(dimension);
     let mut best = Position::Nowhere;
-    let mut bin = first_bin(x, dimension) + 1;
+    let mut bin = x.first_bin(dimension) + 1;
     while bin < end {
         best = better(
             best,

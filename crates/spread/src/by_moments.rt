@@ -14,7 +14,7 @@ use crate::narrow_search::best_narrow;
 use crate::position::{Position, position_between};
 use crate::walk::Walk;
 use crate::wide_search::best_wide;
-use boxes::sides::{Bounds, end_bin, first_bin};
+use boxes::sides::Bounds;
 use grid::place::Grid;
 use sums::box_sums::Stats;
 use table::layout::Layout;
@@ -58,7 +58,7 @@ pub(crate) fn best_by_moments(
     requires walk_value { walk ≡ walk_of g x dimension }
     ensures { result ≡ best_in g (laid_view layout small.now large.now) x dimension }
 {
-    if end_bin(x, dimension) - first_bin(x, dimension) == 1 {
+    if x.end_bin(dimension) - x.first_bin(dimension) == 1 {
         return Position::Nowhere;
     }
     match layout {

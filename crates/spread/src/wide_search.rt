@@ -16,7 +16,7 @@ use crate::by_moments::position_at;
 use crate::low_side::low_side_sums;
 use crate::position::{Position, later_wins};
 use crate::walk::Walk;
-use boxes::sides::{Bounds, end_bin, first_bin};
+use boxes::sides::Bounds;
 use grid::place::Grid;
 use sums::box_sums::{Stats, stats_of};
 use table::cell::ZEROS;
@@ -40,8 +40,8 @@ pub(crate) fn best_wide(
     requires walk_value { walk ≡ walk_of g x dimension }
     ensures { result ≡ best_in g (laid_view Wide small.now large.now) x dimension }
 {
-    let end = end_bin(x, dimension);
-    let first = first_bin(x, dimension);
+    let end = x.end_bin(dimension);
+    let first = x.first_bin(dimension);
     let mut base = stats_of(ZEROS);
     let mut best = Position::Nowhere;
     let mut bin = first;
