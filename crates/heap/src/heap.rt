@@ -1,5 +1,5 @@
 // The heap (Rules, Heap): a room of 256 boxes with their spreads, and how many of its places are in use.
-ghost use Rattle.std.specs.Prelude.{◌≡◌, cond, ◌+◌, ◌-◌, ◌*◌, ◌<◌, ◌≤◌, get_or, replicate};
+ghost use Rattle.std.specs.Prelude.{◌≡◌, cond, ◌+◌, ◌-◌, ◌*◌, ◌<◌, ◌≤◌, get_or, length, replicate};
 ghost use Rattle.std.specs.Float.Ieee.{le};
 
 use boxes::sides::Bounds;
@@ -42,7 +42,8 @@ impl Heap {
     }
 
     pub fn room(&self) -> &[BoxSpread; 256]
-        ensures { result.now ≡ self.now.room }
+        ensures room { result.now ≡ self.now.room }
+        ensures long { length result.now ≡ 256 }
     {
         &self.room
     }

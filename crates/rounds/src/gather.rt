@@ -40,9 +40,8 @@ const NONE: BoxSpread = BoxSpread {
 fn gathered(heap: &Heap) -> [BoxSpread; 256]
     ensures { result ≡ places_of heap.now.room heap.now.len }
 {
-    let n = heap.len();
-    let mut places = [NONE; 256];
-    places[..n].copy_from_slice(&heap.room()[..n]);
+    let mut places = *heap.room();
+    places[heap.len()..].fill(NONE);
     places
 }
 

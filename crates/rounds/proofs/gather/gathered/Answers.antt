@@ -1,10 +1,12 @@
--- `rounds::gather::gathered` meets its contract: the boxes in use are copied to the front of places without a box.
+-- `rounds::gather::gathered` meets its contract: the room of the heap, with a place without a box at each place past the
+-- boxes in use.
 -- Assumes nothing.
 use mathlib.Core.Path.{◌≡◌, sym, ap, ◌∙◌}
-use mathlib.Core.List.{◌++◌}
+use Prim.Native.Nat.{◌-◌}
 use native.Mathlib.Omega.{arith}
-use lib.ListN.{length, take, drop, replicate}
-use lib.Seq.{length-take-le}
+use borrow.Author.Rules.{rules}
+use borrow.Rule.Slice.PartMut.{put_mid}
+use lib.ListN.{length, replicate}
 use lib.Ieee.{of_bits}
 use Rattle.rounds.proofs.Gathering.{no_place, gathered_is}
 use Rattle.rounds.proofs.gather.gathered.Goals as goal
@@ -12,8 +14,7 @@ use Rattle.rounds.proofs.gather.gathered.Goals as goal
 pub returns : goal.returns
 unfolding of_bits
 returns c =
-    let n : c.len-n.result ≡ c.args.heap.now.len = c.len-n.ensures in
-    let e = c.copy_from_slice.ensures in
-    let copied = e.after ∙ (λ i. take (n i) (c.room.ensures i)) in
-    let long = sym (ap length copied) ∙ e.len ∙ length-take-le c.len-n.result (replicate 256 no_place) (omega arith) ∙ n in
-    (λ i. copied i ++ drop (n i) (replicate 256 no_place)) ∙ gathered_is _ _ long c.args.heap.now.in_room
+    let n = c.len.ensures in
+    let filled : c.fill.new.self ≡ replicate (256 - c.len.result) no_place = search rules in
+    (λ i. put_mid (n i) (256 - n i) (c.room.ensures.room i) ((filled ∙ (λ j. replicate (256 - n j) no_place)) i))
+    ∙ gathered_is c.args.heap.now.room c.args.heap.now.len (rw (sym c.room.ensures.room) c.room.ensures.long) c.args.heap.now.in_room
