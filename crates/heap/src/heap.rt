@@ -71,7 +71,7 @@ impl Heap {
         ensures room { self.new.room ≡ take_out by_spread no_item self.old.room self.old.len }
         ensures len { self.new.len ≡ self.old.len - 1 }
     {
-        let top = self.room[0];
+        let top = self.top();
         self.len -= 1;
         if self.len != 0 {
             let last = self.room[self.len];
