@@ -12,7 +12,7 @@ use loader::load::load;
 use loader::merge::merge;
 use mapper::call::map;
 use painter::call::paint;
-use std::alloc::{AllocError, Global};
+use std::alloc::AllocError;
 
 // What a call answers, as the number that a line has.
 fn number(answer: u8) -> u64 {
@@ -20,10 +20,10 @@ fn number(answer: u8) -> u64 {
 }
 
 // Loads the frame with the weights into the list that the line names.
-fn load_frame(alloc: Global, row: &Row, lists: &mut Lists) -> Result<u64, AllocError> {
+fn load_frame(row: &Row, lists: &mut Lists) -> Result<u64, AllocError> {
     let (b1, b2, b3) = row.bins();
-    let frame = lent(alloc, &lists.frame)?;
-    let weights = lent(alloc, &lists.weights)?;
+    let frame = lent(lists.alloc, &lists.frame)?;
+    let weights = lent(lists.alloc, &lists.weights)?;
     let table = lists.named_mut(row);
     Ok(number(load(b1, b2, b3, table, &frame, row.number(6) == 1, &weights)))
 }
@@ -37,11 +37,11 @@ fn merge_second(row: &Row, lists: &mut Lists) -> Result<u64, AllocError> {
 }
 
 // Maps a band of the frame into the indices.
-fn map_frame(alloc: Global, row: &Row, lists: &mut Lists) -> Result<u64, AllocError> {
+fn map_frame(row: &Row, lists: &mut Lists) -> Result<u64, AllocError> {
     let (b1, b2, b3) = row.bins();
-    let by = lent(alloc, &lists.map)?;
-    let frame = lent(alloc, &lists.frame)?;
-    let mut indices = lent(alloc, &lists.indices)?;
+    let by = lent(lists.alloc, &lists.map)?;
+    let frame = lent(lists.alloc, &lists.frame)?;
+    let mut indices = lent(lists.alloc, &lists.indices)?;
     let colours = row.size(6);
     let answer = map(
         b1,
@@ -54,16 +54,16 @@ fn map_frame(alloc: Global, row: &Row, lists: &mut Lists) -> Result<u64, AllocEr
         row.size(7),
         row.size(8),
     );
-    lists.indices = kept(alloc, &indices)?;
+    lists.indices = kept(lists.alloc, &indices)?;
     Ok(number(answer))
 }
 
 // Paints a band of the frame with the palette.
-fn paint_frame(alloc: Global, row: &Row, lists: &mut Lists) -> Result<u64, AllocError> {
+fn paint_frame(row: &Row, lists: &mut Lists) -> Result<u64, AllocError> {
     let (b1, b2, b3) = row.bins();
-    let by = lent(alloc, &lists.map)?;
-    let palette = lent(alloc, &lists.palette)?;
-    let mut frame = lent(alloc, &lists.frame)?;
+    let by = lent(lists.alloc, &lists.map)?;
+    let palette = lent(lists.alloc, &lists.palette)?;
+    let mut frame = lent(lists.alloc, &lists.frame)?;
     let answer = paint(
         b1,
         b2,
@@ -74,7 +74,7 @@ fn paint_frame(alloc: Global, row: &Row, lists: &mut Lists) -> Result<u64, Alloc
         row.size(6),
         row.size(7),
     );
-    lists.frame = kept(alloc, &frame)?;
+    lists.frame = kept(lists.alloc, &frame)?;
     Ok(number(answer))
 }
 
@@ -93,20 +93,20 @@ fn place_of(kind: Kind) -> usize
 }
 
 // Makes a call, and answers its number.
-fn answer(alloc: Global, kind: Kind, row: &Row, lists: &mut Lists) -> Result<u64, AllocError> {
+fn answer(kind: Kind, row: &Row, lists: &mut Lists) -> Result<u64, AllocError> {
     match kind {
-        Kind::Load => load_frame(alloc, row, lists),
+        Kind::Load => load_frame(row, lists),
         Kind::Merge => merge_second(row, lists),
-        Kind::Cut => cut_table(alloc, row, lists),
-        Kind::Front => take_front(alloc, row, lists),
-        Kind::Map => map_frame(alloc, row, lists),
-        Kind::Paint => paint_frame(alloc, row, lists),
+        Kind::Cut => cut_table(row, lists),
+        Kind::Front => take_front(row, lists),
+        Kind::Map => map_frame(row, lists),
+        Kind::Paint => paint_frame(row, lists),
     }
 }
 
 // Makes the call of a line, counts it, and holds its number.
-pub(crate) fn make(alloc: Global, kind: Kind, row: &Row, lists: &mut Lists) -> Result<(), Stop> {
-    let answer = answer(alloc, kind, row, lists)?;
+pub(crate) fn make(kind: Kind, row: &Row, lists: &mut Lists) -> Result<(), Stop> {
+    let answer = answer(kind, row, lists)?;
     if let Some(n) = lists.calls.get_mut(kind as usize) {
         *n = n.wrapping_add(1);
     }

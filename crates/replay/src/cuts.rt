@@ -5,7 +5,7 @@ use crate::row::Row;
 use cutter::call::{CutRecord, cut};
 use cutter::palette::front;
 use rounds::gather::BoxSpread;
-use std::alloc::{AllocError, Global};
+use std::alloc::AllocError;
 
 // The bits of a float, or those of a NaN.
 fn bits(x: f64) -> u64 {
@@ -42,12 +42,12 @@ fn put_record(record: &mut Vec<u64>, r: &CutRecord) -> Result<(), AllocError> {
 }
 
 // Cuts the table, with the second table as work table.
-pub(crate) fn cut_table(alloc: Global, row: &Row, lists: &mut Lists) -> Result<u64, AllocError> {
+pub(crate) fn cut_table(row: &Row, lists: &mut Lists) -> Result<u64, AllocError> {
     let (b1, b2, b3) = row.bins();
-    let mut palette = lent(alloc, &lists.palette)?;
-    let mut counts = lent(alloc, &lists.counts)?;
-    let mut left = lent(alloc, &lists.left)?;
-    let mut map = lent(alloc, &lists.map)?;
+    let mut palette = lent(lists.alloc, &lists.palette)?;
+    let mut counts = lent(lists.alloc, &lists.counts)?;
+    let mut left = lent(lists.alloc, &lists.left)?;
+    let mut map = lent(lists.alloc, &lists.map)?;
     let r = cut(
         b1,
         b2,
@@ -61,16 +61,16 @@ pub(crate) fn cut_table(alloc: Global, row: &Row, lists: &mut Lists) -> Result<u
         &mut map,
     );
     put_record(&mut lists.record, &r)?;
-    lists.palette = kept(alloc, &palette)?;
-    lists.counts = kept(alloc, &counts)?;
-    lists.left = kept(alloc, &left)?;
-    lists.map = kept(alloc, &map)?;
+    lists.palette = kept(lists.alloc, &palette)?;
+    lists.counts = kept(lists.alloc, &counts)?;
+    lists.left = kept(lists.alloc, &left)?;
+    lists.map = kept(lists.alloc, &map)?;
     Ok(u64::from(r.number))
 }
 
 // Makes the palette its filled front, and answers how many bytes that has.
-pub(crate) fn take_front(alloc: Global, row: &Row, lists: &mut Lists) -> Result<u64, AllocError> {
-    let palette = lent(alloc, &lists.palette)?;
+pub(crate) fn take_front(row: &Row, lists: &mut Lists) -> Result<u64, AllocError> {
+    let palette = lent(lists.alloc, &lists.palette)?;
     let filled = front(&palette, row.size(3)).len();
     lists.palette.truncate(filled);
     Ok(filled as u64)

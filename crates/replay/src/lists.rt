@@ -1,4 +1,4 @@
-// The lists that calls are lent and fill, by name.
+// The lists that calls are lent and fill, by name. All are of 64-bit numbers, so that each is set, held and summed alike.
 use crate::row::Row;
 use crate::tell::Stop;
 use crate::words::{Name, Word};
@@ -6,6 +6,7 @@ use std::alloc::Global;
 
 #[derive(Drop)]
 pub(crate) struct Lists {
+    pub(crate) alloc: Global,
     pub(crate) table: Vec<u64>,
     pub(crate) second: Vec<u64>,
     pub(crate) map: Vec<u64>,
@@ -22,6 +23,7 @@ pub(crate) struct Lists {
 impl Lists {
     pub(crate) fn new(alloc: Global) -> Lists {
         Lists {
+            alloc,
             table: Vec::new(alloc),
             second: Vec::new(alloc),
             map: Vec::new(alloc),
@@ -52,7 +54,8 @@ impl Lists {
         }
     }
 
-    pub(crate) fn list_mut(&mut self, name: Name) -> &mut Vec<u64> {
+    // The same, to be changed.
+    fn list_mut(&mut self, name: Name) -> &mut Vec<u64> {
         match name {
             Name::Table => &mut self.table,
             Name::Second => &mut self.second,
@@ -68,7 +71,7 @@ impl Lists {
         }
     }
 
-    // The list that a line names, of as many numbers as there is room for. Under another name there is an empty one.
+    // The list that a line names. A name that no list has is one of no numbers.
     fn named(&self, row: &Row) -> &[u64] {
         match Name::of(row.number(2)) {
             Some(name) => self.list(name),

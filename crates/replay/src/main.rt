@@ -21,13 +21,14 @@ use std::io::Read;
 const TEXT: usize = 1048576;
 
 // Does what a line says, and holds what came to it.
-fn step(alloc: Global, row: &Row, lists: &mut Lists) -> Result<(), Stop> {
+fn step(row: &Row, lists: &mut Lists) -> Result<(), Stop> {
     match Verb::of(row.number(1)) {
         Some(Verb::Case) => Ok(()),
         Some(Verb::Let) => lists.set(row),
         Some(Verb::Is) => lists.hold(row),
         Some(Verb::Sums) => lists.hold_sums(row),
-        Some(Verb::Call(kind)) => calls::make(alloc, kind, row, lists),
+        Some(Verb::Call(kind)) => calls::make(kind, row, lists),
+        // No call has another word, and 0 is no row's length.
         None => row.agree(0, 0, &[]),
     }
 }
@@ -40,7 +41,7 @@ fn replay(alloc: Global, text: &[u8]) -> Result<Ending, AllocError> {
     for line in text.split_inclusive(|b| *b == b'\n') {
         row.read(line);
         lines += 1;
-        match step(alloc, &row, &mut lists) {
+        match step(&row, &mut lists) {
             Ok(()) => (),
             Err(Stop::Differs(difference)) => return Ok(Ending::Differs(difference, lines)),
             Err(Stop::OutOfMemory(e)) => return Err(e),

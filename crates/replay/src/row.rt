@@ -1,6 +1,6 @@
 // A line of the script as a row of numbers: how many there are with this one, and then a number for each word and number
 // that counts. A word is the number that its bytes make, the first the highest.
-ghost use Rattle.std.specs.Prelude.{◌≡◌, ◌+◌, ◌<◌, ◌≤◌, length, MatchOption, vec_len};
+ghost use Rattle.std.specs.Prelude.{◌≡◌, ℕ, ◌+◌, ◌*◌, ◌<◌, ◌≤◌, length, MatchOption, OnOk, slice_index, vec_len};
 ghost use Rattle.replay.specs.Lists.{FirstDifference};
 ghost use Rattle.replay.specs.declared.row.TheConstants.{ROOM};
 
@@ -93,6 +93,7 @@ impl Row {
 
     pub(crate) fn number(&self, place: usize) -> u64
         requires { place < ROOM }
+        ensures { result ≡ slice_index self.now.numbers.items place }
     {
         self.numbers[place]
     }
@@ -103,7 +104,7 @@ impl Row {
         self.number(place) as usize
     }
 
-    // The bins of a call's grid in each dimension.
+    // The sizes of a call's grid.
     pub(crate) fn bins(&self) -> (usize, usize, usize) {
         (self.size(3), self.size(4), self.size(5))
     }
@@ -111,7 +112,8 @@ impl Row {
     // So many numbers from a place on.
     pub(crate) fn numbers(&self, place: usize, n: usize) -> &[u64]
         requires { place + n ≤ ROOM }
-        ensures { length result.now ≡ n }
+        ensures long { length result.now ≡ n }
+        ensures numbers { (i : ℕ) → i < n → slice_index result.now i ≡ slice_index self.now.numbers.items (place + i) }
     {
         &self.numbers[place..place + n]
     }
@@ -119,6 +121,10 @@ impl Row {
     // Holds a number and those that follow it to the last of the row, from a place on.
     pub(crate) fn agree(&self, place: usize, first: u64, others: &[u64]) -> Result<(), Stop>
         requires { place < ROOM }
+        ensures long { OnOk result (place + 1 + length others.now ≡ self.now.len) }
+        ensures first { OnOk result (slice_index self.now.numbers.items place ≡ first) }
+        ensures others { OnOk result (FirstDifference others.now 0 self.now.numbers.items (place + 1)
+            (length others.now) (length others.now)) }
     {
         let end = others.len().saturating_add(place + 1);
         if end != self.len {

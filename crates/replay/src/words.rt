@@ -8,7 +8,7 @@ pub(crate) const BINS: usize = 32768;
 pub(crate) trait Word: Sized {
     fn parse(text: &[u8]) -> Option<Self>;
 
-    // The word of a number, which has no byte 0 before its first.
+    // The word that a number is, if it is one: the number's bytes from the first that is not 0 on.
     fn of(number: u64) -> Option<Self> {
         let bytes = number.to_be_bytes();
         let start = bytes.iter().position(|b| *b != 0).unwrap_or(bytes.len());
