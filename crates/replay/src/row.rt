@@ -34,7 +34,8 @@ fn first_difference(a: &[u64], b: &[u64]) -> Option<usize>
     a.iter().zip(b).position(|(x, y)| *x != *y)
 }
 
-// The room is used for each line anew: behind the end of a row stands what longer ones left.
+// The room is used for each line anew, and how long the row is stands beside it: a line that is too short is read on
+// into what longer ones left there (docs/REPLAY.md, "How it is read").
 #[derive(Drop)]
 pub(crate) struct Row {
     len: usize,

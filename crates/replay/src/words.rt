@@ -1,4 +1,5 @@
-// The words of a script. In a row a word stands as the number that its bytes make, the first the highest.
+// The words of a script. In a row a word stands as the number that its bytes make, the first the highest, and a script
+// may write that number in its place.
 ghost use Rattle.std.specs.Prelude.{◌+◌, ◌*◌, ◌≤◌};
 
 // As many bins as a grid may have here.
