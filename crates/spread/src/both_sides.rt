@@ -11,7 +11,7 @@ ghost use Rattle.spread.specs.Cut.{best_cut, sides_at};
 
 use crate::low_side::less;
 use crate::position::Position;
-use boxes::sides::{Bounds, high_side, low_side};
+use boxes::sides::Bounds;
 use grid::place::Grid;
 use sums::box_sums::{Stats, box_sum, sum_of_bins};
 use sums::source::Source;
@@ -50,7 +50,7 @@ pub(crate) fn sides_by_moments<L: Layout>(
         largework,
         Source::Moments,
         g,
-        low_side(x, position.dimension, position.bin),
+        x.low_side(position.dimension, position.bin),
     );
     BestCut {
         position,
@@ -71,8 +71,8 @@ pub(crate) fn sides_by_bins<L: Layout>(
     requires position_value { best_cut g (laid_view L.layout small.now large.now) x ≡ Some position }
     ensures { result ≡ sides_at g (laid_view L.layout small.now large.now) x position }
 {
-    let low = low_side(x, position.dimension, position.bin);
-    let high = high_side(x, position.dimension, position.bin);
+    let low = x.low_side(position.dimension, position.bin);
+    let high = x.high_side(position.dimension, position.bin);
     BestCut {
         position,
         low: sum_of_bins::<L>(small, large, g, low),
