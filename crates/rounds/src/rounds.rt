@@ -12,7 +12,6 @@ ghost use Rattle.rounds.specs.Loop.{no_item, start_room, room_after, boxes_after
 use boxes::sides::Bounds;
 use grid::place::Grid;
 use heap::heap::{BoxSpread, Heap};
-use spread::position::Position;
 use spread::search::best_cut;
 use spread::spread::spread;
 use sums::box_sums::Stats;
@@ -50,22 +49,16 @@ fn cut_top<L: Layout>(
         ≡ room_after g (laid_view L.layout small.now large.now) heap.old.room heap.old.len x
         (best_cut g (laid_view L.layout small.now large.now) x) }
 {
-    let best = best_cut::<L>(small, large, smallwork, largework, source, g, x);
-    let position = best.position;
-    let Position::At {
-        dimension,
-        bin,
-        score: _,
-    } = position
-    else {
+    let Some(best) = best_cut::<L>(small, large, smallwork, largework, source, g, x) else {
         heap.put_in(BoxSpread {
             bounds: x,
             spread: 0.0,
         });
         return;
     };
-    let low = x.low_side(dimension, bin);
-    let high = x.high_side(dimension, bin);
+    let at = best.position;
+    let low = x.low_side(at.dimension, at.bin);
+    let high = x.high_side(at.dimension, at.bin);
     heap.put_in(with_spread(low, best.low));
     heap.put_in(with_spread(high, best.high));
 }

@@ -20,7 +20,7 @@ starts g = refl
 
 pub all_rounds-rounds-requires-clause-start : goal.all_rounds-rounds-requires-clause-start
 unfolding of_bits
-all_rounds-rounds-requires-clause-start c =
+all_rounds-rounds-requires-clause-start ty c =
     let n = c.new-heap.ensures in
     let e = c.put_in.ensures in (
       omega arith,
@@ -32,7 +32,7 @@ all_rounds-rounds-requires-clause-start c =
 
 pub returns : goal.returns
 unfolding boxes_of
-returns c =
+returns ty c =
     let e = c.all_rounds-rounds.ensures in
     λ i. record {
       boxes = (c.len.ensures ∙ e.boxes) i;
