@@ -6,7 +6,7 @@ use boxes::sides::Bounds;
 use crate::carry::{climb, sink};
 
 // A box with its spread (`CubeVar`).
-#[derive(Clone, Copy, PartialEq)]
+#[derive(Clone, Copy, PartialEq, Default)]
 pub struct BoxSpread {
     pub bounds: Bounds,
     pub spread: f64,

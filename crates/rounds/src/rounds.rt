@@ -65,10 +65,10 @@ fn cut_top(
         });
         return;
     };
-    let low = x.low_side(dimension, bin);
-    let high = x.high_side(dimension, bin);
-    heap.put_in(with_spread(low, best.low));
-    heap.put_in(with_spread(high, best.high));
+    let low = with_spread(x.low_side(dimension, bin), best.low);
+    let high = with_spread(x.high_side(dimension, bin), best.high);
+    heap.put_in(low);
+    heap.put_in(high);
 }
 
 // One round.
@@ -93,7 +93,9 @@ fn round(
 {
     let top = heap.take_out();
     if 0.0 < top.spread {
-        cut_top(layout, small, large, smallwork, largework, source, g, heap, top.bounds);
+        cut_top(
+            layout, small, large, smallwork, largework, source, g, heap, top.bounds,
+        );
     } else {
         heap.put_in(top);
     }

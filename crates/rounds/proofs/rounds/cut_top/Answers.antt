@@ -74,17 +74,17 @@ returns-in_default c =
       room = c.put_in.ensures.room ∙ sym (room_none s.args.g (view s) h.room h.len s.args.x q);
     }
 
-pub with_spread-requires : goal.with_spread-requires
-with_spread-requires c =
-    let k = (goal.at-with_spread-requires c).After-best_cut-best in
+pub with_spread-low-requires : goal.with_spread-low-requires
+with_spread-low-requires c =
+    let k = (goal.at-with_spread-low-requires c).After-best_cut-best in
     let q = c.in-At.is in
-    fits (start k) (low_box (view (start k)) (start k).requires.can_sum.1 (best k q)) c.low_side-low.ensures (the_low k q)
+    fits (start k) (low_box (view (start k)) (start k).requires.can_sum.1 (best k q)) c.low_side.ensures (the_low k q)
 
-pub with_spread-requires-2 : goal.with_spread-requires-2
-with_spread-requires-2 c =
-    let k = (goal.at-with_spread-requires-2 c).After-best_cut-best in
+pub with_spread-high-requires : goal.with_spread-high-requires
+with_spread-high-requires c =
+    let k = (goal.at-with_spread-high-requires c).After-best_cut-best in
     let q = c.in-At.is in
-    fits (start k) (high_box (view (start k)) (start k).requires.can_sum.1 (best k q)) c.high_side-high.ensures
+    fits (start k) (high_box (view (start k)) (start k).requires.can_sum.1 (best k q)) c.high_side.ensures
     (the_high k q)
 
 pub returns : goal.returns
@@ -93,8 +93,8 @@ returns c =
     let s = start k in
     let h = s.args.heap.now in
     let q = c.in-At.is in
-    let low = spread_is s.args.g (view s) c.low_side-low.ensures (the_low k q) c.with_spread.ensures in
-    let high = spread_is s.args.g (view s) c.high_side-high.ensures (the_high k q) c.with_spread-2.ensures in record {
+    let low = spread_is s.args.g (view s) c.low_side.ensures (the_low k q) c.with_spread-low.ensures in
+    let high = spread_is s.args.g (view s) c.high_side.ensures (the_high k q) c.with_spread-high.ensures in record {
       boxes = omega (arith, boxes_cut s.args.g (view s) h.room h.len s.args.x (best k q));
       room = c.put_in-3.ensures.room
           ∙ (λ t. put_in by_spread no_item
