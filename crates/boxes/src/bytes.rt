@@ -1,4 +1,4 @@
-// A box as one number, of six bytes.
+// A box as one number, of six bytes. No crate here packs a box: the law `box_pack` and the edits of both keep these.
 ghost use Rattle.std.specs.Prelude.{◌≡◌};
 ghost use Rattle.boxes.specs.Bytes.{pack_of, box_of};
 

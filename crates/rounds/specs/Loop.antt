@@ -1,5 +1,5 @@
 -- The loop of a cut (Rules, Loop). Definitions only.
-use Rattle.std.specs.Prelude.{false, cond, List, ℕ, zero, suc, ◌+◌, ◌-◌, ◌*◌, ltb, set, replicate, Float}
+use Rattle.std.specs.Prelude.{false, cond, List, ℕ, zero, suc, ◌+◌, ◌-◌, ◌*◌, ltb, set, replicate}
 use Rattle.std.specs.Float.{inf}
 use Rattle.std.specs.Float.Ieee.{lt}
 use Rattle.grid.specs.declared.place.Grid.{Grid}

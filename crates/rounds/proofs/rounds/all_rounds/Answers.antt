@@ -10,7 +10,7 @@ use Rattle.spread.specs.Spread.{zero_of}
 use Rattle.heap.specs.declared.heap.BoxSpread.{BoxSpread}
 use Rattle.boxes.proofs.Whole.{whole_within}
 use Rattle.rounds.proofs.Filled.{of_grid_kept, each_round, start_each}
-use Rattle.rounds.proofs.Fuel.{need_less, come_start, come_full, come_few, come_stop, come_round}
+use Rattle.rounds.proofs.Fuel.{need_less, come_start, come_full, come_stop, come_round}
 use Rattle.rounds.proofs.rounds.all_rounds.Goals as goal
 
 abbrev to_be_cut : BoxSpread → Bool

@@ -1,7 +1,7 @@
 -- `rounds::rounds::cut_top` meets its contract: no position puts the box back, and a position puts in its two sides.
 -- Assumes nothing.
 use mathlib.Core.Path.{◌≡◌, sym, ap, ◌∙◌}
-use Prim.Native.Nat.{ℕ, ◌+◌}
+use Prim.Native.Nat.{ℕ}
 use native.Mathlib.Omega.{arith}
 use lib.Ieee.{Float, of_bits}
 use Rattle.grid.specs.declared.place.Grid.{Grid}

@@ -1,7 +1,6 @@
 -- `rounds::rounds::round` meets its contract: the top is cut or put back.
 -- Assumes nothing.
-use mathlib.Core.Path.{◌≡◌, sym, ap, ◌∙◌}
-use mathlib.Core.Bool.{true, false}
+use mathlib.Core.Path.{sym, ap, ◌∙◌}
 use native.Mathlib.Omega.{arith}
 use lib.Ieee.{of_bits, lt}
 use Rattle.table.specs.Cell.{View}
