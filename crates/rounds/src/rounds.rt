@@ -57,10 +57,10 @@ fn cut_top<L: Layout>(
         return;
     };
     let at = best.position;
-    let low = x.low_side(at.dimension, at.bin);
-    let high = x.high_side(at.dimension, at.bin);
-    heap.put_in(with_spread(low, best.low));
-    heap.put_in(with_spread(high, best.high));
+    let low = with_spread(x.low_side(at.dimension, at.bin), best.low);
+    let high = with_spread(x.high_side(at.dimension, at.bin), best.high);
+    heap.put_in(low);
+    heap.put_in(high);
 }
 
 // One round.

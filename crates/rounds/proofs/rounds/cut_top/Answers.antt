@@ -88,21 +88,21 @@ returns-in_default ty c =
       room = c.put_in.ensures.room ∙ sym (room_none g v h.room h.len c.args.x q);
     }
 
-pub with_spread-requires : goal.with_spread-requires
-with_spread-requires ty c =
-    let k = (goal.at-with_spread-requires ty c).After-best_cut in
+pub with_spread-low-requires : goal.with_spread-low-requires
+with_spread-low-requires ty c =
+    let k = (goal.at-with_spread-low-requires ty c).After-best_cut in
     let b = c.in-Some.best in
     let q = c.in-Some.is in
     let s = start ty k b q in
-    fits ty s (low_box (view ty s) s.requires.can_sum.1 (all ty k b q).0) c.low_side-low.ensures (the_low ty k b q)
+    fits ty s (low_box (view ty s) s.requires.can_sum.1 (all ty k b q).0) c.low_side.ensures (the_low ty k b q)
 
-pub with_spread-requires-2 : goal.with_spread-requires-2
-with_spread-requires-2 ty c =
-    let k = (goal.at-with_spread-requires-2 ty c).After-best_cut in
+pub with_spread-high-requires : goal.with_spread-high-requires
+with_spread-high-requires ty c =
+    let k = (goal.at-with_spread-high-requires ty c).After-best_cut in
     let b = c.in-Some.best in
     let q = c.in-Some.is in
     let s = start ty k b q in
-    fits ty s (high_box (view ty s) s.requires.can_sum.1 (all ty k b q).0) c.high_side-high.ensures (the_high ty k b q)
+    fits ty s (high_box (view ty s) s.requires.can_sum.1 (all ty k b q).0) c.high_side.ensures (the_high ty k b q)
 
 pub returns : goal.returns
 returns ty c =
@@ -113,8 +113,8 @@ returns ty c =
     let v = laid_view ty.L.Layout.layout c.args.small.now c.args.large.now in
     let h = c.args.heap.now in
     let best = (all ty k b q).0 in
-    let low = spread_is g v c.low_side-low.ensures (the_low ty k b q) c.with_spread.ensures in
-    let high = spread_is g v c.high_side-high.ensures (the_high ty k b q) c.with_spread-2.ensures in record {
+    let low = spread_is g v c.low_side.ensures (the_low ty k b q) c.with_spread-low.ensures in
+    let high = spread_is g v c.high_side.ensures (the_high ty k b q) c.with_spread-high.ensures in record {
       boxes = omega (arith, boxes_cut g v h.room h.len c.args.x best);
       room = c.put_in-3.ensures.room
           ∙ (λ t. put_in by_spread no_item
