@@ -21,20 +21,11 @@ one_index g map part old new from index is at one =
     ∙ band_same from 64 (λ i. index) (index_at g map part) old
     (λ i a b. at ∙ sym (same_index g map part from i (run_colour part from one i a b)))
 
-pub equal_colours-requires : goal.equal_colours-requires
-equal_colours-requires c = search rules
-
 pub index_at-index-requires : goal.index_at-index-requires
 index_at-index-requires c = record { look_up = search rules; inside = search rules }
 
-pub fill_block-requires : goal.fill_block-requires
-fill_block-requires c = search rules
-
 pub map_by_fours-requires : goal.map_by_fours-requires
 map_by_fours-requires c = record { look_up = search rules; inside = search rules }
-
-pub shape_of-indices-then-equal_colours : goal.shape_of-indices-then-equal_colours
-shape_of-indices-then-equal_colours c = search rules
 
 pub returns-then-equal_colours : goal.returns-then-equal_colours
 returns-then-equal_colours c =
@@ -43,9 +34,3 @@ returns-then-equal_colours c =
     one_index a.g a.map.now a.part.now a.indices.now _ a.from _
     c.fill_block.ensures c.index_at-index.ensures
     (sym test.equal_colours.ensures ∙ test.if-equal_colours.true)
-
-pub shape_of-indices-else-equal_colours : goal.shape_of-indices-else-equal_colours
-shape_of-indices-else-equal_colours c = search rules
-
-pub returns-else-equal_colours : goal.returns-else-equal_colours
-returns-else-equal_colours c = search rules

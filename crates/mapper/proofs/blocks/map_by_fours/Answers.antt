@@ -12,26 +12,14 @@ use Rattle.mapper.proofs.blocks.map_by_fours.Goals as goal
 -- the buffer is as long as it was
 same : (k : At-loop-k)
     → length k.loop-k.indices ≡ length k.args.indices.now
-same k = ap length k.loop-k.invariant.1 ∙ band_length _ _ _ _
+same k = ap length k.loop-k.invariant ∙ band_length _ _ _ _
 
 pub loop-k-init : goal.loop-k-init
 loop-k-init c = (omega arith, band_empty _ _ _)
 
-pub overflow_mul-k : goal.overflow_mul-k
-overflow_mul-k c = omega arith
-
-pub overflow_add-from : goal.overflow_add-from
-overflow_add-from c = omega arith
-
 pub map_four-requires : goal.map_four-requires
 map_four-requires c =
     let s = c in record { look_up = s.requires.look_up; inside = (omega (arith, s.requires.inside), omega (arith, same (goal.at-map_four-requires c).At-loop-k, s.requires.inside)) }
-
-pub overflow_add-k : goal.overflow_add-k
-overflow_add-k c = omega arith
-
-pub loop-k-smaller : goal.loop-k-smaller
-loop-k-smaller c = omega arith
 
 pub loop-k-preserved : goal.loop-k-preserved
 loop-k-preserved c =
@@ -39,8 +27,8 @@ loop-k-preserved c =
     let l = c.loop-k in
     let more : 4 * l.k + 4 ≡ 4 * (l.k + 1) = omega arith in (
       omega arith,
-      band_more (index_at a.g a.map.now a.part.now) a.indices.now a.from (4 * l.k) 4
-          (4 * (l.k + 1)) l.indices _ l.invariant.1 c.map_four.ensures more,
+      band_more (index_at a.look_up.now.g a.look_up.now.map.now a.part.now) a.indices.now a.from (4 * l.k) 4
+          (4 * (l.k + 1)) l.indices _ l.invariant c.map_four.ensures more,
     )
 
 pub shape_of-indices : goal.shape_of-indices
@@ -50,5 +38,5 @@ pub returns : goal.returns
 returns c =
     let a = c.args in
     let all : 4 * c.loop-k.k ≡ 64 = omega arith in
-    c.loop-k.invariant.1
-    ∙ ap (λ (n : ℕ). write_band a.from n (index_at a.g a.map.now a.part.now) a.indices.now) all
+    c.loop-k.invariant
+    ∙ ap (λ (n : ℕ). write_band a.from n (index_at a.look_up.now.g a.look_up.now.map.now a.part.now) a.indices.now) all

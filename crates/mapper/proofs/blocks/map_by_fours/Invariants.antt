@@ -7,7 +7,4 @@ use Rattle.mapper.proofs.blocks.map_by_fours.Given as goal
 
 abbrev pub invariant-loop-k : goal.invariant-loop-k
 invariant-loop-k l =
-    (l.k ≤ 16) × (l.indices ≡ write_band l.from (4 * l.k) (index_at l.g l.map l.part) l.initial.indices)
-
-abbrev pub decreases-loop-k : goal.decreases-loop-k
-decreases-loop-k l = 16 - l.k
+    l.indices ≡ write_band l.from (4 * l.k) (index_at l.look_up.g l.look_up.map.now l.part) l.initial.indices

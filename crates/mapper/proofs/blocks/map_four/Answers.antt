@@ -20,20 +20,11 @@ counted s = omega arith
 pub index_at-a-requires : goal.index_at-a-requires
 index_at-a-requires c = record { look_up = search rules; inside = search rules }
 
-pub overflow_add-i : goal.overflow_add-i
-overflow_add-i c = search rules
-
 pub index_at-b-requires : goal.index_at-b-requires
 index_at-b-requires c = record { look_up = search rules; inside = search rules }
 
-pub overflow_add-i-2 : goal.overflow_add-i-2
-overflow_add-i-2 c = search rules
-
 pub index_at-c-requires : goal.index_at-c-requires
 index_at-c-requires c = record { look_up = search rules; inside = search rules }
-
-pub overflow_add-i-3 : goal.overflow_add-i-3
-overflow_add-i-3 c = search rules
 
 pub index_at-d-requires : goal.index_at-d-requires
 index_at-d-requires c = record { look_up = search rules; inside = search rules }
@@ -65,6 +56,6 @@ shape_of-indices c = simp length-set
 pub returns : goal.returns
 returns c =
     let a = (start c).args in
-    band_four (index_at a.g a.map.now a.part.now) a.indices.now a.i _ _ _ _
+    band_four (index_at a.look_up.now.g a.look_up.now.map.now a.part.now) a.indices.now a.i _ _ _ _
     c.index_at-a.ensures c.index_at-b.ensures
     c.index_at-c.ensures c.index_at-d.ensures (omega (arith, (start c).requires.inside))

@@ -11,35 +11,23 @@ use Rattle.mapper.proofs.blocks.map_part.Goals as goal
 -- the buffer is as long as it was
 same : (k : At-loop-i)
     → length k.loop-i.indices ≡ length k.args.indices.now
-same k = ap length k.loop-i.invariant.1 ∙ band_length _ _ _ _
+same k = ap length k.loop-i.invariant ∙ band_length _ _ _ _
 
 pub loop-i-init : goal.loop-i-init
 loop-i-init c = (omega arith, band_empty _ _ _)
 
-pub overflow_sub-n : goal.overflow_sub-n
-overflow_sub-n c = omega arith
-
 pub map_block-requires : goal.map_block-requires
 map_block-requires c =
     let s = c in record { look_up = s.requires.look_up; inside = (omega (arith, s.requires.one_each), omega (arith, same (goal.at-map_block-requires c).At-loop-i)) }
-
-pub overflow_add-i : goal.overflow_add-i
-overflow_add-i c = omega arith
-
-pub loop-i-smaller : goal.loop-i-smaller
-loop-i-smaller c = omega arith
 
 pub loop-i-preserved : goal.loop-i-preserved
 loop-i-preserved c =
     let a = c.args in
     let l = c.loop-i in (
       omega arith,
-      front_more (index_at a.g a.map.now a.part.now) a.indices.now l.i 64 l.indices _
-          l.invariant.1 c.map_block.ensures,
+      front_more (index_at a.look_up.now.g a.look_up.now.map.now a.part.now) a.indices.now l.i 64 l.indices _
+          l.invariant c.map_block.ensures,
     )
-
-pub overflow_sub-n-2 : goal.overflow_sub-n-2
-overflow_sub-n-2 c = omega arith
 
 pub map_some-requires : goal.map_some-requires
 map_some-requires c =
@@ -54,5 +42,5 @@ pub returns : goal.returns
 returns c =
     let a = c.args in
     let l = c.loop-i in
-    front_rest (index_at a.g a.map.now a.part.now) a.indices.now l.i l.indices _
-    (omega (arith, l.invariant.0)) l.invariant.1 c.map_some.ensures
+    front_rest (index_at a.look_up.now.g a.look_up.now.map.now a.part.now) a.indices.now l.i l.indices _
+    (omega (arith, l.invariant.0)) l.invariant c.map_some.ensures

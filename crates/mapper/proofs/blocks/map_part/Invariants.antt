@@ -7,7 +7,4 @@ use Rattle.mapper.proofs.blocks.map_part.Given as goal
 
 abbrev pub invariant-loop-i : goal.invariant-loop-i
 invariant-loop-i l =
-    (l.i ≤ l.n) × (l.indices ≡ write_band 0 l.i (index_at l.g l.map l.part) l.initial.indices)
-
-abbrev pub decreases-loop-i : goal.decreases-loop-i
-decreases-loop-i l = l.n - l.i
+    l.indices ≡ write_band 0 l.i (index_at l.look_up.g l.look_up.map.now l.part) l.initial.indices

@@ -12,13 +12,10 @@ use Rattle.mapper.proofs.blocks.map_some.Goals as goal
 -- the buffer is as long as it was
 same : (k : At-loop-k)
     → length k.loop-k.indices ≡ length k.args.indices.now
-same k = ap length k.loop-k.invariant.1 ∙ band_length _ _ _ _
+same k = ap length k.loop-k.invariant ∙ band_length _ _ _ _
 
 pub loop-k-init : goal.loop-k-init
 loop-k-init c = (omega arith, band_empty _ _ _)
-
-pub overflow_add-i : goal.overflow_add-i
-overflow_add-i c = omega arith
 
 pub index_at-requires : goal.index_at-requires
 index_at-requires c = let s = c in record { look_up = s.requires.look_up; inside = omega (arith, s.requires.inside) }
@@ -27,20 +24,14 @@ pub bounds-indices-i : goal.bounds-indices-i
 bounds-indices-i c =
     omega (arith, same (goal.at-bounds-indices-i c).At-loop-k, c.requires.inside)
 
-pub overflow_add-k : goal.overflow_add-k
-overflow_add-k c = omega arith
-
-pub loop-k-smaller : goal.loop-k-smaller
-loop-k-smaller c = omega arith
-
 pub loop-k-preserved : goal.loop-k-preserved
 loop-k-preserved c =
     let s = c in
     let a = s.args in
     let l = c.loop-k in (
       omega arith,
-      band_next (index_at a.g a.map.now a.part.now) a.indices.now a.from l.k _ l.indices
-          l.invariant.1 c.index_at.ensures (omega (arith, s.requires.inside)),
+      band_next (index_at a.look_up.now.g a.look_up.now.map.now a.part.now) a.indices.now a.from l.k _ l.indices
+          l.invariant c.index_at.ensures (omega (arith, s.requires.inside)),
     )
 
 pub shape_of-indices : goal.shape_of-indices
@@ -50,5 +41,5 @@ pub returns : goal.returns
 returns c =
     let a = c.args in
     let all : c.loop-k.k ≡ a.count = omega arith in
-    c.loop-k.invariant.1
-    ∙ ap (λ (n : ℕ). write_band a.from n (index_at a.g a.map.now a.part.now) a.indices.now) all
+    c.loop-k.invariant
+    ∙ ap (λ (n : ℕ). write_band a.from n (index_at a.look_up.now.g a.look_up.now.map.now a.part.now) a.indices.now) all

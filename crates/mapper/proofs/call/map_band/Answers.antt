@@ -9,27 +9,6 @@ use Rattle.band.proofs.Pixels.{part_index}
 use borrow.Author.Rules.{rules}
 use Rattle.mapper.proofs.call.map_band.Goals as goal
 
-pub steps-t1-requires : goal.steps-t1-requires
-steps-t1-requires c = search rules
-
-pub steps-t2-requires : goal.steps-t2-requires
-steps-t2-requires c = search rules
-
-pub overflow_add-end : goal.overflow_add-end
-overflow_add-end c = search rules
-
-pub overflow_mul-from : goal.overflow_mul-from
-overflow_mul-from c = search rules
-
-pub overflow_mul-to : goal.overflow_mul-to
-overflow_mul-to c = search rules
-
-pub slice_bounds-map_part-count : goal.slice_bounds-map_part-count
-slice_bounds-map_part-count c = search rules
-
-pub slice_bounds-map_part-count-2 : goal.slice_bounds-map_part-count-2
-slice_bounds-map_part-count-2 c = search rules
-
 pub map_part-requires : goal.map_part-requires
 map_part-requires c =
     let s = c in
@@ -45,9 +24,6 @@ map_part-requires c =
         mid_len (3 * a.first) (3 * (a.first + a.pixels)) a.frame.now (omega arith),
       );
     }
-
-pub shape_of-indices : goal.shape_of-indices
-shape_of-indices c = search rules
 
 pub returns : goal.returns
 returns c =
