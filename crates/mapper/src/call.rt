@@ -19,7 +19,8 @@ fn map_band(g: Grid, map: &[u8], frame: &[u8], indices: &mut [u8], first: usize,
 {
     let look_up = LookUp::of(g, map);
     let end = first + pixels;
-    map_part(&look_up, &frame[3 * first..3 * end], &mut indices[first..end]);
+    let part = &frame[3 * first..3 * end];
+    map_part(&look_up, part, &mut indices[first..end]);
 }
 
 // The index of each pixel of a band of a frame, into the same band of the index buffer.
@@ -42,8 +43,8 @@ pub fn map(
         first pixels }
 {
     let g = grid_of(b1, b2, b3).ok_or(Refusal::Grid)?;
-    let one_each = indices.len() == frame.len() / 3;
-    band_number(g, map, palette_colours, one_each, frame.len(), first, pixels)?;
+    let fits = indices.len() == frame.len() / 3;
+    band_number(g, map, palette_colours, fits, frame.len(), first, pixels)?;
     map_band(g, map, frame, indices, first, pixels);
     Ok(())
 }

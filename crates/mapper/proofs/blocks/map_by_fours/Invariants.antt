@@ -1,7 +1,7 @@
 -- `mapper::blocks::map_by_fours` meets its contract: after k turns the band of 4 * k places is written.
 -- Assumes nothing.
 use mathlib.Core.Path.{◌≡◌}
-use Prim.Native.Nat.{◌-◌, ◌*◌, ◌≤◌}
+use Prim.Native.Nat.{◌*◌}
 use Rattle.band.specs.Band.{index_at, write_band}
 use Rattle.mapper.proofs.blocks.map_by_fours.Given as goal
 

@@ -1,7 +1,6 @@
 -- `mapper::blocks::map_some` meets its contract: after k pixels the band of k places is written.
 -- Assumes nothing.
 use mathlib.Core.Path.{◌≡◌}
-use Prim.Native.Nat.{◌-◌, ◌≤◌}
 use Rattle.band.specs.Band.{index_at, write_band}
 use Rattle.mapper.proofs.blocks.map_some.Given as goal
 
