@@ -1,4 +1,4 @@
--- `cutter::number::number_on` meets its contract: the refusals in their order.
+-- `cutter::number::check` meets its contract: the refusals in their order.
 -- Assumes nothing.
 use mathlib.Core.Path.{◌≡◌, sym, ap, ◌∙◌}
 use mathlib.Core.Bool.{Bool, true}
@@ -13,8 +13,8 @@ use Rattle.table.proofs.Layouts.{lengths_are, sized_in}
 use Rattle.table.proofs.Total.{unsound_says, total_says}
 use Rattle.cutter.specs.Cut.{Lengths, long_enough}
 use Rattle.cutter.proofs.Refusals.{k_low, k_high, too_short, not_sound, no_total, accepts, lengths_fit_lem}
-use Rattle.cutter.proofs.number.number_on.Goals.{After-long_enough, Else-not-long_enough, In-Total, Start}
-use Rattle.cutter.proofs.number.number_on.Goals as goal
+use Rattle.cutter.proofs.number.check.Goals.{After-long_enough, Else-not-long_enough, In-Total, Start}
+use Rattle.cutter.proofs.number.check.Goals as goal
 
 abbrev lengths : Start → Lengths
 lengths s =
