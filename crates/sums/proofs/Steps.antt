@@ -314,17 +314,6 @@ pub line_start : (g : Grid) (v : View) (r gr : ℕ) → zero_cell ≡ line_cell 
 unfolding line_cell line_sum sum_from
 line_start g v r gr = zero_cell_lem
 
--- where the layout is known
-module _ {l k : Layout} (e : l ≡ k) (g : Grid) (small large smallwork largework : List ℕ) where
-  pub ready_as : (r gr b : ℕ) → Ready l g (laid l small large) (laid l smallwork largework) r gr b
-      → Ready k g (laid k small large) (laid k smallwork largework) r gr b
-  ready_as r gr b h =
-      subst (λ (x : Layout). Ready x g (laid x small large) (laid x smallwork largework) r gr b) e h
-
-  pub before_as : (p : ℕ) → Before k g (laid k small large) (laid k smallwork largework) p
-      → Before l g (laid l small large) (laid l smallwork largework) p
-  before_as p h = subst (λ (x : Layout). Before x g (laid x small large) (laid x smallwork largework) p) (sym e) h
-
 pub before_same : {l : Layout} {g : Grid} {t w : TableIn l} {p : ℕ} → Before l g t w p → {q : ℕ} → p ≡ q → Before l g t w q
 before_same {l} {g} {t} {w} h e = subst (λ (n : ℕ). Before l g t w n) e h
 
