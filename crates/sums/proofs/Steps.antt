@@ -3,7 +3,6 @@
 -- Assumes nothing.
 use mathlib.Core.Path.{◌≡◌, sym, ap, subst, ◌∙◌}
 use mathlib.Core.Bool.{true}
-use mathlib.Core.List.{List}
 use Prim.Native.Nat.{ℕ, suc, ◌+◌, ◌-◌, ◌*◌, ◌^◌, ◌≤◌, ◌<◌}
 use native.Mathlib.Nat.{zero-add, mul-le-mul_right, add-mul, one-mul, suc-mul, lt_trans}
 use native.Mathlib.Decide.{dec_le, ℕ_discrete}
@@ -18,7 +17,7 @@ use Rattle.grid.proofs.Places.{two, three, place_lt, place_along, row_start, pla
 use Rattle.table.specs.declared.cell.Cell.{Cell}
 use Rattle.table.specs.Cell.{View, number_of, cell_of, plus_cell, minus_cell, SumsFit}
 use Rattle.table.specs.Layouts.{Layout}
-use Rattle.table.specs.Layout.{TableIn, laid, SizedIn, view_in, written_in, put_in, CellIn, HeldIn, TableOfIn}
+use Rattle.table.specs.Layout.{TableIn, SizedIn, view_in, written_in, put_in, CellIn, HeldIn, TableOfIn}
 use Rattle.table.specs.Sound.{limit, limit_of, total, sound as sound_for}
 use Rattle.table.proofs.Cells.{number_cell, number_plus, number_minus, cell_by, zero_cell, zero_cell_lem}
 use Rattle.table.proofs.Layouts.{cell_in, cell_of_lem, list_holds_in, holds_list_in, held_in}
