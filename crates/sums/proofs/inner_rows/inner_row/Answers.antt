@@ -39,9 +39,6 @@ pub inner_bin-line-requires-clause-ready : goal.inner_bin-line-requires-clause-r
 inner_bin-line-requires-clause-ready g c =
     row_ready (inside g (goal.at-inner_bin-line-requires-clause-ready g c).In-loop-b) c.loop-b.invariant.1
 
-pub inner_bin-line-requires-clause-line_value : goal.inner_bin-line-requires-clause-line_value
-inner_bin-line-requires-clause-line_value g c = c.loop-b.invariant.0
-
 pub inner_bin-line-requires-clause-r_nonzero : goal.inner_bin-line-requires-clause-r_nonzero
 inner_bin-line-requires-clause-r_nonzero g c =
     let h = c.requires.r_nonzero in

@@ -30,9 +30,6 @@ next_row-requires-clause-ready g c =
       before = before_same l.invariant.0 (sym (row_start c.args.g c.args.r l.gr));
     }
 
-pub next_row-requires-clause-start_value : goal.next_row-requires-clause-start_value
-next_row-requires-clause-start_value g c = c.loop-gr.invariant.1
-
 pub overflow_add-start : goal.overflow_add-start
 overflow_add-start g c =
     let i = inside g (goal.at-overflow_add-start g c).In-loop-gr in
