@@ -1,6 +1,7 @@
 -- An answer tells its refusal: two results with the same number are the same.
 -- Assumes nothing.
 use Rattle.std.specs.Prelude.{Result, Ok, Err, ℕ}
+use Rattle.std.specs.Result.{IsErrAnd}
 use Rattle.std.proofs.Common.{◌≡◌, refl, sym, ap, ◌∙◌, cond, eqb, false}
 use mathlib.Core.Bool.{true≢false}
 use Rattle.basics.specs.declared.refusal.Refusal.{Refusal}
@@ -70,3 +71,8 @@ answer_tells (Ok x) (Ok y) e = refl
 answer_tells (Ok x) (Err s) e = no_answer_0 s e
 answer_tells (Err r) (Ok y) e = no_answer_0 r (sym e)
 answer_tells (Err r) (Err s) e = ap (λ (x : Refusal). Err x) (number_tells r s e)
+
+-- what `?` hands on answers the same
+pub handed_on : (r : Result (Unit {0}) Refusal) (e : Refusal) → IsErrAnd r (λ x. x ≡ e) → answer_of r ≡ number_of e
+handed_on (Ok x) e h = absurd h
+handed_on (Err x) e h = ap number_of h
