@@ -6,7 +6,7 @@ ghost use Rattle.boxes.specs.Box.{min_at, max_at, one_bin, low_side, high_side, 
 use grid::place::Grid;
 
 // A box: min inclusive, max exclusive, in each dimension (`Cube`).
-#[derive(Clone, Copy, PartialEq, Eq)]
+#[derive(Clone, Copy, PartialEq, Eq, Default)]
 pub struct Bounds {
     pub r0: u8,
     pub r1: u8,

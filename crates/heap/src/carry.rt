@@ -1,6 +1,6 @@
 // How a box climbs and a hole sinks in the room of a heap (Rules, Heap): the code carries the box that enters, and
 // writes it once.
-ghost use Rattle.std.specs.Prelude.{◌≡◌, cond, ◌+◌, ◌*◌, ◌<◌, ◌≤◌, get_or};
+ghost use Rattle.std.specs.Prelude.{◌≡◌, ◌+◌, ◌*◌, ◌<◌, ◌≤◌};
 ghost use Rattle.heap.specs.Heap.{child, enter, sink as sink_in};
 ghost use Rattle.heap.specs.Boxes.{by_spread, no_item};
 
@@ -31,7 +31,11 @@ fn child(room: &[BoxSpread; 256], p: usize) -> usize
 {
     let left = 2 * p + 1;
     let right = 2 * p + 2;
-    if room[left].spread <= room[right].spread { right } else { left }
+    if room[left].spread <= room[right].spread {
+        right
+    } else {
+        left
+    }
 }
 
 // Sinks a hole from place 0 among the first `len` places, and answers where it ends.

@@ -1,18 +1,17 @@
-// The heap (Rules, Heap): a room of 256 boxes with their spreads, and how many of its places are in use.
-ghost use Rattle.std.specs.Prelude.{◌≡◌, cond, ◌+◌, ◌-◌, ◌*◌, ◌<◌, ◌≤◌, get_or, length, replicate};
-ghost use Rattle.std.specs.Float.Ieee.{le};
+// The heap (Rules, Heap) of boxes with their spreads.
+ghost use Rattle.std.specs.Prelude.{◌≡◌, ◌+◌, ◌-◌, ◌<◌, ◌≤◌, length, replicate};
 
-use boxes::sides::Bounds;
 use crate::carry::{climb, sink};
+use boxes::sides::Bounds;
 
 // A box with its spread (`CubeVar`).
-#[derive(Clone, Copy, PartialEq)]
+#[derive(Clone, Copy, PartialEq, Default)]
 pub struct BoxSpread {
     pub bounds: Bounds,
     pub spread: f64,
 }
 
-// The places from `len` on keep what stood there.
+// A room of 256 places, of which the first `len` are in use; the others keep what stood there.
 #[derive(Drop)]
 pub struct Heap {
     room: [BoxSpread; 256],
@@ -24,7 +23,7 @@ impl Heap {
     ghost use Rattle.heap.specs.Heap.{item, put_in, take_out};
     ghost use Rattle.heap.specs.Boxes.{by_spread, no_item};
 
-    // A heap without a box, and what stands at its places.
+    // A heap with no place in use, and what stands at all of them.
     pub fn new(x: BoxSpread) -> Heap
         ensures room { result.room ≡ replicate 256 x }
         ensures len { result.len ≡ 0 }
@@ -35,12 +34,14 @@ impl Heap {
         }
     }
 
+    // How many places are in use.
     pub fn len(&self) -> usize
         ensures { result ≡ self.now.len }
     {
         self.len
     }
 
+    // All places, those that are not in use too.
     pub fn room(&self) -> &[BoxSpread; 256]
         ensures room { result.now ≡ self.now.room }
         ensures long { length result.now ≡ 256 }
@@ -48,13 +49,14 @@ impl Heap {
         &self.room
     }
 
+    // The box at place 0.
     pub fn top(&self) -> BoxSpread
         ensures { result ≡ item no_item self.now.room 0 }
     {
         self.room[0]
     }
 
-    // "Put in: append, then climb"
+    // Puts a box in.
     pub fn put_in(&mut self, x: BoxSpread)
         requires { self.old.len < 256 }
         ensures room { self.new.room ≡ put_in by_spread no_item self.old.room self.old.len x }

@@ -56,17 +56,17 @@ module _ {f : Bounds → ℕ} (a : Additive f) (g : Grid) (v : View) where
       (λ off. subst (λ (m : ℕ). over f (put_in by_spread no_item rest (n - 1) top) m ≡ over f h n) (put_back u)
       (put_over f rest (n - 1) top (left_long u) (omega arith) ∙ before))
       (λ on none. put_over f rest (n - 1) (with_zero top.bounds) (left_long u) (omega arith) ∙ before)
-      (λ d i s on q.
-      let low = with_spread g v (low_side top.bounds d i) in
-      let high = with_spread g v (high_side top.bounds d i) in
+      (λ at on q.
+      let low = with_spread g v (low_side top.bounds at.dimension at.bin) in
+      let high = with_spread g v (high_side top.bounds at.dimension at.bin) in
       let put = put_in by_spread no_item rest (n - 1) low in
       let put-long : length put ≡ 256 = put_in_long by_spread no_item rest (n - 1) low (omega (arith, left_long u))
       ∙ left_long u in
       let in_box = (answered g v top.bounds q).1.inside in
-      let both = a.adds top.bounds d i (le_of_lt in_box.0) (le_of_lt in_box.1) in
+      let both = a.adds top.bounds at.dimension at.bin (le_of_lt in_box.0) (le_of_lt in_box.1) in
       subst (λ (m : ℕ). over f (put_in by_spread no_item put (n - 1 + 1) high) m ≡ over f h n) (two_more (n - 1))
       (put_over f put (n - 1 + 1) high put-long (omega arith)
-      ∙ cut (f (low_side top.bounds d i)) (f (high_side top.bounds d i))
+      ∙ cut (f (low_side top.bounds at.dimension at.bin)) (f (high_side top.bounds at.dimension at.bin))
       (put_over f rest (n - 1) low (left_long u) (omega arith)) both))
     where
       top : BoxSpread

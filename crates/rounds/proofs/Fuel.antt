@@ -109,9 +109,9 @@ need_less g v k most h n u l on =
       hot_zero
           top.bounds,
     ))))
-    (λ d i s yes q.
-    let low = with_spread g v (low_side top.bounds d i) in
-    let high = with_spread g v (high_side top.bounds d i) in
+    (λ at yes q.
+    let low = with_spread g v (low_side top.bounds at.dimension at.bin) in
+    let high = with_spread g v (high_side top.bounds at.dimension at.bin) in
     let put = put_in by_spread no_item rest (n - 1) low in
     let put-long : length put ≡ 256 = put_in_long by_spread no_item rest (n - 1) low (omega (arith, left_long u))
     ∙ left_long u in

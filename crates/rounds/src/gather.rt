@@ -8,11 +8,10 @@ ghost use Rattle.rounds.specs.Loop.{places_of, boxes_of};
 use crate::rounds::all_rounds;
 use boxes::sides::Bounds;
 use grid::place::Grid;
+pub use heap::heap::BoxSpread;
 use heap::heap::Heap;
 use sums::source::Source;
 use table::layout::Layout;
-
-pub use heap::heap::BoxSpread;
 
 // The boxes of a cut in order: how many there are, how often the top was taken out, and a place for each box, all zeros
 // past the last.
@@ -23,25 +22,12 @@ pub struct Boxes {
     pub places: [BoxSpread; 256],
 }
 
-// A place without a box.
-const NONE: BoxSpread = BoxSpread {
-    bounds: Bounds {
-        r0: 0,
-        r1: 0,
-        g0: 0,
-        g1: 0,
-        b0: 0,
-        b1: 0,
-    },
-    spread: 0.0,
-};
-
 // The places of a record of the boxes in a heap.
 fn gathered(heap: &Heap) -> [BoxSpread; 256]
     ensures { result ≡ places_of heap.now.room heap.now.len }
 {
     let mut places = *heap.room();
-    places[heap.len()..].fill(NONE);
+    places[heap.len()..].fill(BoxSpread::default());
     places
 }
 
@@ -59,7 +45,7 @@ pub fn cut_boxes<L: Layout>(
         (laid L.layout smallwork.now largework.now) × (k ≤ 256) }
     ensures { result ≡ boxes_of g (laid_view L.layout small.now large.now) k }
 {
-    let mut heap = Heap::new(NONE);
+    let mut heap = Heap::new(BoxSpread::default());
     heap.put_in(BoxSpread {
         bounds: Bounds::whole(g),
         spread: f64::INFINITY,

@@ -12,7 +12,6 @@ ghost use Rattle.rounds.specs.Loop.{no_item, start_room, room_after, boxes_after
 use boxes::sides::Bounds;
 use grid::place::Grid;
 use heap::heap::{BoxSpread, Heap};
-use spread::position::Position;
 use spread::search::best_cut;
 use spread::spread::spread;
 use sums::box_sums::Stats;
@@ -50,24 +49,18 @@ fn cut_top<L: Layout>(
         ≡ room_after g (laid_view L.layout small.now large.now) heap.old.room heap.old.len x
         (best_cut g (laid_view L.layout small.now large.now) x) }
 {
-    let best = best_cut::<L>(small, large, smallwork, largework, source, g, x);
-    let position = best.position;
-    let Position::At {
-        dimension,
-        bin,
-        score: _,
-    } = position
-    else {
+    let Some(best) = best_cut::<L>(small, large, smallwork, largework, source, g, x) else {
         heap.put_in(BoxSpread {
             bounds: x,
             spread: 0.0,
         });
         return;
     };
-    let low = x.low_side(dimension, bin);
-    let high = x.high_side(dimension, bin);
-    heap.put_in(with_spread(low, best.low));
-    heap.put_in(with_spread(high, best.high));
+    let at = best.position;
+    let low = with_spread(x.low_side(at.dimension, at.bin), best.low);
+    let high = with_spread(x.high_side(at.dimension, at.bin), best.high);
+    heap.put_in(low);
+    heap.put_in(high);
 }
 
 // One round.

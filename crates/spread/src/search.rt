@@ -39,7 +39,7 @@ pub fn best_cut<L: Layout>(
     source: Source,
     g: Grid,
     x: Bounds,
-) -> BestCut
+) -> Option<BestCut>
     requires { CanSum L.layout limit source g (laid L.layout small.now large.now)
         (laid L.layout smallwork.now largework.now) × Within g x }
     ensures { result
@@ -57,7 +57,7 @@ pub fn best_cut<L: Layout>(
                 best_by_moments::<L>(small, large, smallwork, largework, g, x, 1, all, w1),
                 best_by_moments::<L>(small, large, smallwork, largework, g, x, 2, all, w2),
             );
-            sides_by_moments::<L>(small, large, smallwork, largework, g, x, best, all)
+            Some(sides_by_moments::<L>(small, large, smallwork, largework, g, x, best?, all))
         }
         Source::Bins => {
             let best = best_of(
@@ -65,7 +65,7 @@ pub fn best_cut<L: Layout>(
                 best_by_bins::<L>(small, large, g, x, 1),
                 best_by_bins::<L>(small, large, g, x, 2),
             );
-            sides_by_bins::<L>(small, large, g, x, best)
+            Some(sides_by_bins::<L>(small, large, g, x, best?))
         }
     }
 }

@@ -1,8 +1,9 @@
 -- `rounds::gather::cut_boxes` meets its contract: the heap is that of the start, then that of the loop's end.
 -- Assumes nothing.
-use mathlib.Core.Path.{◌≡◌, refl, ◌∙◌}
+use mathlib.Core.Path.{◌≡◌, refl, ap, ◌∙◌}
 use mathlib.Core.Bool.{false}
 use native.Mathlib.Omega.{arith}
+use borrow.Author.Rules.{rules}
 use lib.ListN.{replicate}
 use lib.Ieee.{inf, of_bits}
 use Rattle.grid.specs.declared.place.Grid.{Grid}
@@ -20,19 +21,20 @@ starts g = refl
 
 pub all_rounds-rounds-requires-clause-start : goal.all_rounds-rounds-requires-clause-start
 unfolding of_bits
-all_rounds-rounds-requires-clause-start c =
+all_rounds-rounds-requires-clause-start ty c =
+    let none : c.default.result ≡ with_zero no_box = search rules in
     let n = c.new-heap.ensures in
     let e = c.put_in.ensures in (
       omega arith,
       e.room
-          ∙ (λ i. put_in by_spread no_item (n.room i) (n.len i)
+          ∙ (λ i. put_in by_spread no_item ((n.room ∙ ap (replicate 256) none) i) (n.len i)
           (record { bounds = c.whole.ensures i; spread = inf false }))
           ∙ starts c.args.g,
     )
 
 pub returns : goal.returns
 unfolding boxes_of
-returns c =
+returns ty c =
     let e = c.all_rounds-rounds.ensures in
     λ i. record {
       boxes = (c.len.ensures ∙ e.boxes) i;

@@ -1,12 +1,11 @@
 -- `rounds::gather::gathered` meets its contract: the room of the heap, with a place without a box at each place past the
 -- boxes in use.
 -- Assumes nothing.
-use mathlib.Core.Path.{◌≡◌, sym, ap, ◌∙◌}
+use mathlib.Core.Path.{◌≡◌, sym, ◌∙◌}
 use Prim.Native.Nat.{◌-◌}
-use native.Mathlib.Omega.{arith}
 use borrow.Author.Rules.{rules}
 use borrow.Rule.Slice.PartMut.{put_mid}
-use lib.ListN.{length, replicate}
+use lib.ListN.{replicate}
 use lib.Ieee.{of_bits}
 use Rattle.rounds.proofs.Gathering.{no_place, gathered_is}
 use Rattle.rounds.proofs.gather.gathered.Goals as goal

@@ -6,11 +6,11 @@ use Rattle.rounds.proofs.Filled.{Each, OfGrid}
 use Rattle.rounds.proofs.Fuel.{need, ToCome}
 use Rattle.rounds.proofs.rounds.all_rounds.Given as goal
 
-abbrev pub invariant-loop-layout : goal.invariant-loop-layout
-invariant-loop-layout l = record {
+abbrev pub invariant-loop-source : goal.invariant-loop-source
+invariant-loop-source ty l = record {
   of_grid : Each (OfGrid l.g) l.heap.room l.heap.len;
-  to_come : ToCome l.g (laid_view l.layout l.small l.large) l.k l.heap.room l.heap.len l.rounds;
+  to_come : ToCome l.g (laid_view ty.L.Layout.layout l.small l.large) l.k l.heap.room l.heap.len l.rounds;
 }
 
-abbrev pub decreases-loop-layout : goal.decreases-loop-layout
-decreases-loop-layout l = need l.k l.heap.room l.heap.len
+abbrev pub decreases-loop-source : goal.decreases-loop-source
+decreases-loop-source ty l = need l.k l.heap.room l.heap.len

@@ -1,6 +1,7 @@
 -- `boxes::sides::Bounds::first_bin` meets its contract: by the dimension.
 -- Assumes nothing.
 use mathlib.Core.Path.{refl, sym}
+use borrow.Author.Rules.{rules}
 use Rattle.basics.specs.Dimension.{choose}
 use Rattle.grid.proofs.Places.{choose_third}
 use Rattle.boxes.specs.Box.{min_at}
@@ -16,4 +17,4 @@ returns-in-1 c = rw c.in-1.is refl
 
 pub returns-in_default : goal.returns-in_default
 unfolding min_at
-returns-in_default c = sym (choose_third c.args.dimension _ _ _ c.in_default.in_default-own.rest.0.1 c.in_default.in_default-own.rest.1)
+returns-in_default c = sym (choose_third c.args.dimension _ _ _ (search rules) (search rules))
