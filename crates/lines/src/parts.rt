@@ -1,71 +1,74 @@
-// Parts of a line: each is put from place `at` on, and the place behind it is answered.
+// Parts of a line.
 ghost use Rattle.std.specs.Prelude.{◌≡◌, [], ◌∷◌, ◌+◌, ◌%◌, ◌≤◌, ◌<◌, length};
-ghost use Rattle.lines.specs.Text.{decimal_of, field_of, named_of, Put};
+ghost use Rattle.lines.specs.Text.{decimal_of, field_of, named_of};
+ghost use Rattle.lines.specs.Writing.{Writes, HasRoom};
 
-pub(crate) fn byte(out: &mut [u8], at: usize, value: u8) -> usize
-    requires { at < length out.old }
-    ensures { Put out.old at (value ∷ []) out.new result }
-{
-    out[at] = value;
-    at + 1
+// A text that is put into a lent buffer part by part: the next part goes to place `at`.
+#[derive(Drop)]
+pub struct Writer<'a> {
+    pub out: &'a mut [u8],
+    pub at: usize,
 }
 
-// Some bytes.
-pub fn word(out: &mut [u8], at: usize, bytes: &[u8]) -> usize
-    requires { at + length bytes.now ≤ length out.old }
-    ensures { Put out.old at bytes.now out.new result }
-{
-    let mut i = 0;
-    while i < bytes.len() {
-        out[at + i] = bytes[i];
-        i = i + 1;
+impl<'a> Writer<'a> {
+    pub(crate) fn byte(&mut self, value: u8)
+        requires { HasRoom self.old 1 }
+        ensures { Writes self.old (value ∷ []) 1 self.new }
+    {
+        self.out[self.at] = value;
+        self.at += 1;
     }
-    at + i
+
+    // Some bytes.
+    pub fn word(&mut self, bytes: &[u8])
+        requires { HasRoom self.old (length bytes.now) }
+        ensures { Writes self.old bytes.now (length bytes.now) self.new }
+    {
+        let end = self.at + bytes.len();
+        self.out[self.at..end].copy_from_slice(bytes);
+        self.at = end;
+    }
+
+    // The digits of a number, the front ones first.
+    fn digits(&mut self, n: u64)
+        requires { HasRoom self.old (length (decimal_of n)) }
+        ensures { Writes self.old (decimal_of n) (length (decimal_of n)) self.new }
+    {
+        if n >= 10 {
+            self.digits(n / 10);
+        }
+        self.byte(last_digit(n));
+    }
+
+    pub(crate) fn number(&mut self, n: u64)
+        requires { HasRoom self.old 20 }
+        ensures { Writes self.old (decimal_of n) 20 self.new }
+    {
+        self.digits(n);
+    }
+
+    // A number after a space.
+    pub(crate) fn field(&mut self, n: u64)
+        requires { HasRoom self.old 21 }
+        ensures { Writes self.old (field_of n) 21 self.new }
+    {
+        self.byte(b' ');
+        self.number(n);
+    }
+
+    // A number after its name.
+    pub fn named(&mut self, name: &[u8], n: u64)
+        requires { HasRoom self.old (length name.now + 20) }
+        ensures { Writes self.old (named_of name.now n) (length name.now + 20) self.new }
+    {
+        self.word(name);
+        self.number(n);
+    }
 }
 
 // The last digit of a number.
 fn last_digit(n: u64) -> u8
     ensures { result ≡ 48 + n % 10 }
 {
-    48 + (n % 10) as u8
-}
-
-// The digits of a number, the front ones first.
-fn digits(out: &mut [u8], at: usize, n: u64) -> usize
-    requires { at + length (decimal_of n) ≤ length out.old }
-    ensures { Put out.old at (decimal_of n) out.new result }
-{
-    if n < 10 {
-        return byte(out, at, last_digit(n));
-    }
-    let last = digits(out, at, n / 10);
-    byte(out, last, last_digit(n))
-}
-
-pub(crate) fn number(out: &mut [u8], at: usize, n: u64) -> usize
-    requires { at + 20 ≤ length out.old }
-    ensures put { Put out.old at (decimal_of n) out.new result }
-    ensures fits { result ≤ at + 20 }
-{
-    digits(out, at, n)
-}
-
-// A number after a space.
-pub(crate) fn field(out: &mut [u8], at: usize, n: u64) -> usize
-    requires { at + 21 ≤ length out.old }
-    ensures put { Put out.old at (field_of n) out.new result }
-    ensures fits { result ≤ at + 21 }
-{
-    let after = byte(out, at, b' ');
-    number(out, after, n)
-}
-
-// A number after its name.
-pub fn named(out: &mut [u8], at: usize, name: &[u8], n: u64) -> usize
-    requires { at + length name.now + 20 ≤ length out.old }
-    ensures put { Put out.old at (named_of name.now n) out.new result }
-    ensures fits { result ≤ at + length name.now + 20 }
-{
-    let after = word(out, at, name);
-    number(out, after, n)
+    b'0' + (n % 10) as u8
 }
