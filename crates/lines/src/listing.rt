@@ -1,10 +1,11 @@
 // The lines of a cut, and the line of a refusal.
 ghost use Rattle.std.specs.Prelude.{◌≡◌, ◌+◌, ◌*◌, ◌≤◌, ◌<◌, length, sum};
-ghost use Rattle.lines.specs.Text.{head_of, line_of, line_at, total_of, listing_of, refused_of, with_text};
+ghost use Rattle.lines.specs.Text.{head_of, line_of, line_at, total_of, refused_of, with_text};
 ghost use Rattle.lines.specs.Text.{line_room};
 ghost use Rattle.lines.specs.Writing.{Writes, HasRoom};
-ghost use Rattle.lines.specs.Inner.{RoomForLines};
+ghost use Rattle.lines.specs.Inner.{RoomForLines, listing_found};
 
+use crate::found::Found;
 use crate::parts::Writer;
 
 impl<'a> Writer<'a> {
@@ -60,23 +61,17 @@ pub fn total(boxes: usize, counts: &[u32]) -> u64
 }
 
 // Puts the whole listing at the start of a buffer, and answers its length.
-pub(crate) fn listing(
-    boxes: usize,
-    rounds: usize,
-    palette: &[u8],
-    counts: &[u32],
-    out: &mut [u8],
-) -> usize
-    requires { RoomForLines boxes palette.now counts.now out.old }
-    ensures ends { result ≡ length (listing_of boxes rounds palette.now counts.now) }
-    ensures later { out.new
-        ≡ with_text (listing_of boxes rounds palette.now counts.now) out.old }
+pub(crate) fn listing(found: &Found, out: &mut [u8]) -> usize
+    requires { RoomForLines found.now out.old }
+    ensures ends { result ≡ length (listing_found found.now) }
+    ensures later { out.new ≡ with_text (listing_found found.now) out.old }
     ensures fits { result ≤ length out.new }
 {
     let mut text = Writer { out, at: 0 };
-    text.head(boxes as u64, total(boxes, counts), rounds as u64);
-    for i in 0..boxes {
-        text.box_line(i, palette, counts);
+    let total = total(found.boxes, &found.counts);
+    text.head(found.boxes as u64, total, found.rounds as u64);
+    for i in 0..found.boxes {
+        text.box_line(i, &found.palette, &found.counts);
     }
     text.at
 }

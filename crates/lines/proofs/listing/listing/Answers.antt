@@ -17,7 +17,7 @@ pub box_line-requires : goal.box_line-requires
 box_line-requires c =
     let l = c.loop-i.invariant in
     let lent = c.requires in
-    record { room = omega (arith, l.fits, l.long, c.head.ensures.fits, c.head.ensures.long, lent.room, c.loop-i-test.true); there = (omega (arith, lent.colours), omega (arith, lent.counted)) }
+    record { room = omega (arith, l.fits, l.long, c.head.ensures.fits, c.head.ensures.long, lent.room, c.loop-i-test.true); there = (omega (arith, lent.few), omega (arith, lent.few)) }
 
 pub loop-i-preserved : goal.loop-i-preserved
 unfolding lines_of
@@ -27,6 +27,6 @@ loop-i-preserved c =
 pub returns : goal.returns
 unfolding listing_of
 returns c =
-    let turns : c.loop-i.i ≡ c.args.boxes = omega arith in
-    let all = rw (c.total.ensures, turns) at (writes_more c.head.ensures c.loop-i.invariant) in
+    let turns : c.loop-i.i ≡ c.args.found.now.boxes = omega arith in
+    let all = rw (c.total-total.ensures, turns) at (writes_more c.head.ensures c.loop-i.invariant) in
     let both = writes_whole refl all (omega (arith, c.requires.room)) in search rules

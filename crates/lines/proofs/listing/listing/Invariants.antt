@@ -6,4 +6,4 @@ use Rattle.lines.specs.Writing.{Writes}
 use Rattle.lines.proofs.listing.listing.Given as goal
 
 abbrev pub invariant-loop-i : goal.invariant-loop-i
-invariant-loop-i l = Writes l.initial.text (lines_of l.palette l.counts l.i) (line_room * l.i) l.text
+invariant-loop-i l = Writes l.initial.text (lines_of l.found.palette l.found.counts l.i) (line_room * l.i) l.text
