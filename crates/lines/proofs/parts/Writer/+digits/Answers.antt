@@ -15,24 +15,24 @@ digits-requires t c = (
 pub byte-requires : goal.byte-requires
 byte-requires t c =
     elim c.if-n-ge10.branch [
-    then-n-ge10 w ↦
-        rw w.self-is
-        (omega (
-          arith,
-          c.requires,
-          simp length-append at (ap length (decimal_more c.args.n w.if-n-ge10.true)),
-          w.digits.ensures.fits,
-          w.digits.ensures.long,
-        ))
-    | else-n-ge10 w ↦ rw w.self-is (omega (arith, c.requires, ap length (decimal_one c.args.n w.if-n-ge10.false)))
+      | then-n-ge10 w ↦
+          rw w.self-is
+          (omega (
+            arith,
+            c.requires,
+            simp length-append at (ap length (decimal_more c.args.n w.if-n-ge10.true)),
+            w.digits.ensures.fits,
+            w.digits.ensures.long,
+          ))
+      | else-n-ge10 w ↦ rw w.self-is (omega (arith, c.requires, ap length (decimal_one c.args.n w.if-n-ge10.false)))
     ]
 
 pub returns : goal.returns
 returns t c =
     elim c.if-n-ge10.branch [
-    then-n-ge10 w ↦
-        rw (decimal_more c.args.n w.if-n-ge10.true, length-append, ← c.last_digit.ensures)
-        (writes_more w.digits.ensures (rw w.self-is at c.byte.ensures))
-    | else-n-ge10 w ↦
-        rw (decimal_one c.args.n w.if-n-ge10.false, ← c.last_digit.ensures) (rw w.self-is at c.byte.ensures)
+      | then-n-ge10 w ↦
+          rw (decimal_more c.args.n w.if-n-ge10.true, length-append, ← c.last_digit.ensures)
+          (writes_more w.digits.ensures (rw w.self-is at c.byte.ensures))
+      | else-n-ge10 w ↦
+          rw (decimal_one c.args.n w.if-n-ge10.false, ← c.last_digit.ensures) (rw w.self-is at c.byte.ensures)
     ]
