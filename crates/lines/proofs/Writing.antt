@@ -5,7 +5,7 @@ use mathlib.Core.List.{List, [], ◌++◌}
 use Prim.Native.Nat.{ℕ, ◌+◌, ◌≤◌}
 use native.Mathlib.Omega.{arith}
 use lib.ListN.{length}
-use Rattle.lines.specs.declared.parts.Writer.{Writer}
+use Rattle.lines.specs.declared.writer.Writer.{Writer}
 use Rattle.lines.specs.Text.{with_text, Put}
 use Rattle.lines.specs.Writing.{Writes}
 use Rattle.lines.proofs.Putting.{put_none, put_more, put_whole}

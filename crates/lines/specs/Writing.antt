@@ -1,6 +1,6 @@
 -- A text that is put into a buffer part by part. Definitions only.
 use Rattle.std.specs.Prelude.{◌≡◌, List, ℕ, ◌+◌, ◌≤◌, length}
-use Rattle.lines.specs.declared.parts.Writer.{Writer}
+use Rattle.lines.specs.declared.writer.Writer.{Writer}
 use Rattle.lines.specs.Text.{Put}
 
 -- there is room for so many bytes more

@@ -5,5 +5,5 @@
 pub mod batches;
 pub mod found;
 pub mod listing;
-pub mod parts;
 pub mod text;
+pub mod writer;

@@ -93,14 +93,14 @@ use Rattle.terminal.proofs.call.nearest as nearest
 use Rattle.lines.specs.declared.batches.Loaded.{Loaded}
 use Rattle.lines.proofs.batches.empty_table as empty_table_lem
 use Rattle.lines.proofs.batches.load_batch as load-batch
-use Rattle.lines.specs.declared.parts.Writer.{Writer}
+use Rattle.lines.specs.declared.writer.Writer.{Writer}
 use Rattle.lines.specs.Writing.{Writes}
 use Rattle.lines.proofs.found.cut_loaded as cut-loaded
-use Rattle.lines.proofs.parts.Writer.word as word
-use Rattle.lines.proofs.parts.Writer.named as named
-use Rattle.lines.proofs.parts.Writer.head as head
+use Rattle.lines.proofs.writer.Writer.word as word
+use Rattle.lines.proofs.writer.Writer.named as named
+use Rattle.lines.proofs.writer.Writer.head as head
 use Rattle.lines.proofs.listing.total as total
-use Rattle.lines.proofs.parts.Writer.box_line as box-line
+use Rattle.lines.proofs.writer.Writer.box_line as box-line
 use Rattle.lines.proofs.listing.refused as refused
 use Rattle.lines.proofs.text.text as text
 use Rattle.swatches.proofs.text.swatch_text as swatch-text

@@ -7,7 +7,7 @@ ghost use Rattle.swatches.specs.Inner.{swatch_room, swatch_line_room, RoomForSwa
 
 use lines::found::Found;
 use lines::listing::total;
-use lines::parts::Writer;
+use lines::writer::Writer;
 
 // A block in the colour of a number, and back to the terminal's own colours.
 fn swatch(text: &mut Writer<'_>, number: u8)

@@ -4,8 +4,7 @@ use borrow.Author.Rules.{rules}
 use native.Mathlib.Omega.{arith}
 use native.Mathlib.Numerals.{add-one}
 use Rattle.std.proofs.Common.{◌≡◌, refl}
-use Rattle.lines.specs.Text.{lines_of, listing_of, line_room}
-use Rattle.lines.proofs.Putting.{put_none}
+use Rattle.lines.specs.Text.{lines_of, listing_of}
 use Rattle.lines.proofs.Writing.{writes_none, writes_more, writes_within, writes_whole}
 use Rattle.lines.proofs.listing.listing.Goals as goal
 

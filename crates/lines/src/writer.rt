@@ -1,9 +1,9 @@
-// Parts of a line.
-ghost use Rattle.std.specs.Prelude.{◌≡◌, [], ◌∷◌, ◌+◌, ◌%◌, ◌≤◌, ◌<◌, length};
-ghost use Rattle.lines.specs.Text.{decimal_of, field_of, named_of};
+// A text that is put into a lent buffer, part by part and line by line.
+ghost use Rattle.std.specs.Prelude.{◌≡◌, [], ◌∷◌, ◌+◌, ◌*◌, ◌%◌, ◌<◌, length};
+ghost use Rattle.lines.specs.Text.{decimal_of, field_of, named_of, head_of, line_of, line_at, line_room};
 ghost use Rattle.lines.specs.Writing.{Writes, HasRoom};
 
-// A text that is put into a lent buffer part by part: the next part goes to place `at`.
+// A lent buffer, and the place that the next part is put to.
 #[derive(Drop)]
 pub struct Writer<'a> {
     pub out: &'a mut [u8],
@@ -63,6 +63,41 @@ impl<'a> Writer<'a> {
     {
         self.word(name);
         self.number(n);
+    }
+
+    // The first line.
+    pub fn head(&mut self, boxes: u64, total: u64, rounds: u64)
+        requires { HasRoom self.old line_room }
+        ensures { Writes self.old (head_of boxes total rounds) line_room self.new }
+    {
+        self.named(b"boxes ", boxes);
+        self.named(b" total ", total);
+        self.named(b" rounds ", rounds);
+        self.byte(b'\n');
+    }
+
+    fn line(&mut self, index: u64, red: u8, green: u8, blue: u8, count: u32)
+        requires { HasRoom self.old line_room }
+        ensures { Writes self.old (line_of index red green blue count) line_room self.new }
+    {
+        self.number(index);
+        self.field(u64::from(red));
+        self.field(u64::from(green));
+        self.field(u64::from(blue));
+        self.field(u64::from(count));
+        self.byte(b'\n');
+    }
+
+    // The line of box i.
+    pub fn box_line(&mut self, i: usize, palette: &[u8], counts: &[u32])
+        requires room { HasRoom self.old line_room }
+        requires there { (3 * i + 2 < length palette.now) × (i < length counts.now) }
+        ensures { Writes self.old (line_at palette.now counts.now i) line_room self.new }
+    {
+        let red = palette[3 * i];
+        let green = palette[3 * i + 1];
+        let blue = palette[3 * i + 2];
+        self.line(i as u64, red, green, blue, counts[i]);
     }
 }
 

@@ -1,8 +1,8 @@
--- `lines::parts::Writer::field` meets its contract: a space, and the number behind it.
+-- `lines::writer::Writer::field` meets its contract: a space, and the number behind it.
 -- Assumes nothing.
 use Rattle.lines.specs.Text.{field_of}
 use Rattle.lines.proofs.Writing.{writes_more}
-use Rattle.lines.proofs.parts.Writer.field.Goals as goal
+use Rattle.lines.proofs.writer.Writer.field.Goals as goal
 
 pub returns : goal.returns
 unfolding field_of

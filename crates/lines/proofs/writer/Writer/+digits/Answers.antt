@@ -2,9 +2,9 @@
 -- Assumes nothing.
 use Rattle.std.proofs.Common.{length, length-append, ap, arith}
 use Rattle.lines.proofs.Decimal.{decimal_one, decimal_more, tenth}
-use Rattle.lines.proofs.Writing.{writes_more, writes_within}
-use Rattle.lines.proofs.parts.Writer.+digits.Goals as goal
-use Rattle.lines.proofs.parts.Writer.+digits.Goals.{then-n-ge10, else-n-ge10}
+use Rattle.lines.proofs.Writing.{writes_more}
+use Rattle.lines.proofs.writer.Writer.+digits.Goals as goal
+use Rattle.lines.proofs.writer.Writer.+digits.Goals.{then-n-ge10, else-n-ge10}
 
 pub digits-requires : goal.digits-requires
 digits-requires t c = (

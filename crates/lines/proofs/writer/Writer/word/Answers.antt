@@ -1,14 +1,15 @@
--- `lines::parts::Writer::word` meets its contract: the bytes are copied to the place.
+-- `lines::writer::Writer::word` meets its contract: the bytes are copied to the place.
 -- Assumes nothing.
-use mathlib.Core.Path.{◌≡◌, refl, sym, ap, ◌∙◌}
-use mathlib.Core.List.{List, ◌++◌, append_assoc}
-use Prim.Native.Nat.{ℕ, ◌+◌, ◌-◌, ◌≤◌}
+use mathlib.Core.Path.{◌≡◌, refl, ap, ◌∙◌}
+use mathlib.Core.List.{List, append_assoc}
+use Prim.Native.Nat.{ℕ, ◌+◌, ◌≤◌}
+use Rattle.std.proofs.Common.{le_refl}
 use native.Mathlib.Omega.{arith}
 use borrow.Rule.Slice.PartMut.{put_mid}
-use lib.ListN.{length, take, drop}
+use lib.ListN.{length}
 use Rattle.std.proofs.lemmas.List.{drop-drop}
 use lib.Seq.{sets, sets-eq, length-sets}
-use Rattle.lines.proofs.parts.Writer.word.Goals as goal
+use Rattle.lines.proofs.writer.Writer.word.Goals as goal
 
 copied : (a : List ℕ) (at : ℕ) {bytes now : List ℕ} {n : ℕ} → now ≡ bytes → n ≡ length bytes → at + length bytes ≤ length a
     → put_mid at n a now ≡ sets a at bytes
@@ -21,5 +22,5 @@ returns c =
       same = refl;
       put = record { later = later; ends = refl };
       long = ap length later ∙ length-sets c.args.self.now.out.now c.args.self.now.at c.args.bytes.now;
-      fits = omega arith;
+      fits = le_refl _;
     }

@@ -1,9 +1,9 @@
--- `lines::parts::Writer::line` meets its contract: its six parts one behind the other, each with its room.
+-- `lines::writer::Writer::line` meets its contract: its six parts one behind the other, each with its room.
 -- Assumes nothing.
 use native.Mathlib.Omega.{arith}
 use Rattle.lines.specs.Text.{line_of, newline, line_room}
 use Rattle.lines.proofs.Writing.{writes_more, writes_within}
-use Rattle.lines.proofs.parts.Writer.line.Goals as goal
+use Rattle.lines.proofs.writer.Writer.line.Goals as goal
 
 pub returns : goal.returns
 unfolding line_of newline
