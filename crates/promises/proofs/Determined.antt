@@ -111,11 +111,14 @@ use Rattle.terminal.proofs.call.nearest as nearest
 use Rattle.lines.specs.declared.batches.Loaded.{Loaded}
 use Rattle.lines.proofs.batches.empty_table as empty_table_lem
 use Rattle.lines.proofs.batches.load_batch as load-batch
-use Rattle.lines.proofs.parts.word as word
-use Rattle.lines.proofs.parts.named as named
-use Rattle.lines.proofs.listing.head as head
+use Rattle.lines.specs.declared.writer.Writer.{Writer}
+use Rattle.lines.specs.Writing.{Writes}
+use Rattle.lines.proofs.found.cut_loaded as cut-loaded
+use Rattle.lines.proofs.writer.Writer.word as word
+use Rattle.lines.proofs.writer.Writer.named as named
+use Rattle.lines.proofs.writer.Writer.head as head
 use Rattle.lines.proofs.listing.total as total
-use Rattle.lines.proofs.listing.box_line as box-line
+use Rattle.lines.proofs.writer.Writer.box_line as box-line
 use Rattle.lines.proofs.listing.refused as refused
 use Rattle.lines.proofs.text.text as text
 use Rattle.swatches.proofs.text.swatch_text as swatch-text
@@ -509,26 +512,35 @@ pub load_batch_determined : Determines {A = Loaded × List ℕ} 2 load-batch.Kin
     load-batch.Reads.Learnt (λ κs r e. (r, e.0.now))
 load_batch_determined κs a r s x y p q = both (determined p.0 q.0) (determined p.1 q.1)
 
-pub word_determined : Determines {A = ℕ × List ℕ} 2 word.Kinds.ps word.Kinds.r word.Reads.Learnt
-    (λ κs r e. (r, e.0.now))
-word_determined κs a r s x y p q = both (determined p.ends q.ends) (determined p.later q.later)
+-- what a caller sees of a writer: the place and what is in the buffer
+abbrev written : Writer → ℕ × List ℕ
+written w = (w.at, w.out.now)
 
-pub named_determined : Determines {A = ℕ × List ℕ} 2 named.Kinds.ps named.Kinds.r named.Reads.Learnt
-    (λ κs r e. (r, e.0.now))
-named_determined κs a r s x y p q =
-    both (determined p.0.ends q.0.ends) (determined p.0.later q.0.later)
+same_written : {before one two : Writer} {text : List ℕ} {room : ℕ} → Writes before text room one
+    → Writes before text room two → written one ≡ written two
+same_written p q = both (determined p.put.ends q.put.ends) (determined p.put.later q.put.later)
 
-pub head_determined : Determines {A = ℕ × List ℕ} 1 head.Kinds.ps head.Kinds.r head.Reads.Learnt
-    (λ κs r e. (r, e.0.now))
-head_determined κs a r s x y p q = both (determined p.0.ends q.0.ends) (determined p.0.later q.0.later)
+pub cut_loaded_determined : Determines 1 cut-loaded.Kinds.ps cut-loaded.Kinds.r cut-loaded.Reads.Learnt (λ κs r e. r)
+cut_loaded_determined κs a r s x y p q = determined p.0 q.0
+
+pub word_determined : Determines {A = ℕ × List ℕ} 3 word.Kinds.ps word.Kinds.r word.Reads.Learnt
+    (λ κs r e. written e.0.now)
+word_determined κs a r s x y p q = same_written p q
+
+pub named_determined : Determines {A = ℕ × List ℕ} 3 named.Kinds.ps named.Kinds.r named.Reads.Learnt
+    (λ κs r e. written e.0.now)
+named_determined κs a r s x y p q = same_written p q
+
+pub head_determined : Determines {A = ℕ × List ℕ} 2 head.Kinds.ps head.Kinds.r head.Reads.Learnt
+    (λ κs r e. written e.0.now)
+head_determined κs a r s x y p q = same_written p q
 
 pub total_determined : Determines 1 total.Kinds.ps total.Kinds.r total.Reads.Learnt (λ κs r e. r)
 total_determined κs a r s x y p q = determined p q
 
-pub box_line_determined : Determines {A = ℕ × List ℕ} 3 box-line.Kinds.ps box-line.Kinds.r box-line.Reads.Learnt
-    (λ κs r e. (r, e.0.now))
-box_line_determined κs a r s x y p q =
-    both (determined p.0.ends q.0.ends) (determined p.0.later q.0.later)
+pub box_line_determined : Determines {A = ℕ × List ℕ} 4 box-line.Kinds.ps box-line.Kinds.r box-line.Reads.Learnt
+    (λ κs r e. written e.0.now)
+box_line_determined κs a r s x y p q = same_written p q
 
 pub refused_determined : Determines {A = ℕ × List ℕ} 1 refused.Kinds.ps refused.Kinds.r refused.Reads.Learnt
     (λ κs r e. (r, e.1.0.now))

@@ -1,4 +1,4 @@
-use Rattle.lines.proofs.parts.+digits.Given as goal
+use Rattle.lines.proofs.writer.Writer.+digits.Given as goal
 
 -- proposed from what the function passes where it calls itself
 abbrev pub decreases-digits : goal.decreases-digits
