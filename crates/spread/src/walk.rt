@@ -43,10 +43,7 @@ fn stride_of(g: Grid, dimension: u8) -> usize
 fn last_before(end: u8) -> usize
     ensures { result ≡ end - 1 }
 {
-    if end == 0 {
-        return 0;
-    }
-    (end - 1) as usize
+    usize::from(end.saturating_sub(1))
 }
 
 // The place of the last bins before two ends of the other dimensions, at bin 0 of a dimension.
