@@ -3,7 +3,7 @@ ghost use Rattle.std.specs.Prelude.{◌≡◌, ◌≤◌, length};
 ghost use Rattle.basics.specs.Refusal.{answer_of};
 ghost use Rattle.terminal.specs.Nearest.{entries_in, numbers_for, nearest_number, nearest_later};
 
-use crate::planes::Planes;
+use crate::closest::Planes;
 use basics::refusal::Refusal;
 use pixels::colour::colour;
 

@@ -1,8 +1,9 @@
 // The closest of the 240 colours to one colour.
 ghost use Rattle.std.specs.Prelude.{◌≡◌, ◌+◌, ◌≤◌, ◌<◌};
 ghost use Rattle.terminal.specs.Nearest.{difference_of, square_of, distance_of, nearest_of};
+ghost use Rattle.terminal.specs.Inner.{Planes};
 
-use crate::planes::Planes;
+use crate::planes::{colours, plane};
 use pixels::colour::Rgb;
 
 // The difference of two components, whichever is the larger.
@@ -21,7 +22,26 @@ fn square(a: u8, b: u8) -> u32
     u32::from(by * by)
 }
 
+// The three planes of the colours: the reds, the greens and the blues, each in a row.
+#[derive(Drop)]
+pub(crate) struct Planes {
+    reds: [u8; 240],
+    greens: [u8; 240],
+    blues: [u8; 240],
+    ghost filled: { Planes reds greens blues },
+}
+
 impl Planes {
+    // Those of the table.
+    pub(crate) fn of_table() -> Planes {
+        let table = colours();
+        Planes {
+            reds: plane(&table, 0),
+            greens: plane(&table, 1),
+            blues: plane(&table, 2),
+        }
+    }
+
     // The squared distance of a colour from number 16 + k.
     fn distance(&self, x: Rgb, k: usize) -> u32
         requires { k < 240 }

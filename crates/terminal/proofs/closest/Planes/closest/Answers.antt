@@ -1,10 +1,10 @@
--- `terminal::planes::Planes::closest` meets its contract: after k turns the smallest key of the first k numbers is kept.
+-- `terminal::closest::Planes::closest` meets its contract: after k turns the smallest key of the first k numbers is kept.
 -- Assumes nothing.
 use Rattle.std.proofs.Common.{◌≡◌, ap, ◌∙◌, ℕ, ◌+◌, ◌*◌, ◌%◌, ◌-◌, arith}
 use Rattle.terminal.specs.Nearest.{distance_of, least_from, nearest_of}
 use Rattle.terminal.proofs.Lowest.{lowest_is, key_of, key_more}
-use Rattle.terminal.proofs.planes.Planes.closest.Goals.{After-loop-k}
-use Rattle.terminal.proofs.planes.Planes.closest.Goals as goal
+use Rattle.terminal.proofs.closest.Planes.closest.Goals.{After-loop-k}
+use Rattle.terminal.proofs.closest.Planes.closest.Goals as goal
 
 pub loop-k-init : goal.loop-k-init
 unfolding least_from

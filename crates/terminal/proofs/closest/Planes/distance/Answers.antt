@@ -1,8 +1,8 @@
--- `terminal::planes::Planes::distance` meets its contract: the squares of the three components, each read in its plane.
+-- `terminal::closest::Planes::distance` meets its contract: the squares of the three components, each read in its plane.
 -- Assumes nothing.
 use Rattle.std.proofs.Common.{arith}
 use Rattle.terminal.proofs.Laws.{distance_is}
-use Rattle.terminal.proofs.planes.Planes.distance.Goals as goal
+use Rattle.terminal.proofs.closest.Planes.distance.Goals as goal
 
 pub returns : goal.returns
 returns c = (

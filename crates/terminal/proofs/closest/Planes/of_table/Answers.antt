@@ -1,6 +1,6 @@
--- `terminal::planes::Planes::of_table` meets its contract: each plane has its own component.
+-- `terminal::closest::Planes::of_table` meets its contract: each plane has its own component.
 -- Assumes nothing.
-use Rattle.terminal.proofs.planes.Planes.of_table.Goals as goal
+use Rattle.terminal.proofs.closest.Planes.of_table.Goals as goal
 
 pub invariant_of-result : goal.invariant_of-result
 invariant_of-result c = record {
