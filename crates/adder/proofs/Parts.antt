@@ -219,14 +219,6 @@ module _ {l : Layout} {g : Grid} {t : TableIn l} {scale : ℕ} {colours : List �
   held_later at r q {e} more =
       held_more l g (view_in l t) s e i m r (scaled_at scale colours weighted weights) holds (rw q at more)
 
--- a scale and whether weights are given, where they are known, can be said by constants
-pub constants : {l : Layout} {g : Grid} {t : TableIn l} {m n : ℕ} {colours : List ℕ} {a b : Bool} {weights : List ℕ}
-    {at r : ℕ}
-    → m ≡ n → a ≡ b → PartFits l g t m colours a weights at r → PartFits l g t n colours b weights at r
-constants {l} {g} {t} {m} {n} {colours} {a} {b} {weights} {at} {r} e q fits =
-    subst (λ (x : ℕ). PartFits l g t x colours b weights at r) e
-    (subst (λ (x : Bool). PartFits l g t m colours x weights at r) q fits)
-
 -- a table with colours added holds what was there with them loaded
 pub part_held : (l : Layout) (g : Grid) (t : TableIn l) (scale : ℕ) (colours : List ℕ) (weighted : Bool)
     (weights : List ℕ) (i n : ℕ) (e : TableIn l)

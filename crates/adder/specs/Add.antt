@@ -9,7 +9,7 @@ use Rattle.basics.specs.Range.{list_from}
 use Rattle.grid.specs.Grid.{Accepted, bins_of, steps_of}
 use Rattle.table.specs.declared.cell.Cell.{Cell}
 use Rattle.table.specs.Layouts.{Layout}
-use Rattle.table.specs.Layouts.{Wide, Narrow}
+use Rattle.table.specs.Layouts.{Wide}
 use Rattle.table.specs.Cell.{cell_of, plus_cell, SumsFit}
 use Rattle.table.specs.Table.{Table}
 use Rattle.table.specs.Layout.{TableIn, TableOfIn, view_in, written_in, put_in, CellIn, HeldIn}

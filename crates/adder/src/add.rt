@@ -25,10 +25,10 @@ pub fn add_batch<L: Layout>(
     requires scale { IsScale scale }
     ensures answer { result
         ≡ added_to (limit_of L.layout) had
-        (scaled_batch scale colours.now (is_some weights) (given weights)) }
+        (scaled_batch scale colours.now (is_some weights.entry) (given weights.entry)) }
     ensures later { laid L.layout small.new large.new
         ≡ added_later_in L.layout (limit_of L.layout) steps.now.g (laid L.layout small.old large.old) had
-        (scaled_batch scale colours.now (is_some weights) (given weights)) }
+        (scaled_batch scale colours.now (is_some weights.entry) (given weights.entry)) }
 {
     let n = colours.len() / 3;
     let total = batch_total(L::limit(), had, n, weights, scale)?;

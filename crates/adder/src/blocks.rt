@@ -26,7 +26,7 @@ fn add_each<L: Layout>(
         (is_some weights) (given weights) at n }
     ensures { laid L.layout small.new large.new
         ≡ with_part L.layout steps.now.g (laid L.layout small.old large.old) scale colours.now
-        (is_some weights) (given weights) at n }
+        (is_some weights.entry) (given weights.entry) at n }
 {
     for k in 0..n {
         let i = at + k;
@@ -51,7 +51,7 @@ fn add_block<L: Layout>(
     requires whole { 3 * at + 194 < length colours.now }
     ensures { laid L.layout small.new large.new
         ≡ with_part L.layout steps.now.g (laid L.layout small.old large.old) scale colours.now
-        (is_some weights) (given weights) at 64 }
+        (is_some weights.entry) (given weights.entry) at 64 }
 {
     if equal_colours(colours, at) {
         let w = block_weight(weights, scale, at, 64);
@@ -100,7 +100,7 @@ fn add_last<L: Layout>(
     requires few { n ≤ 64 }
     ensures { laid L.layout small.new large.new
         ≡ with_part L.layout steps.now.g (laid L.layout small.old large.old) scale colours.now
-        (is_some weights) (given weights) at n }
+        (is_some weights.entry) (given weights.entry) at n }
 {
     if last_equal(colours, at, n) {
         let w = block_weight(weights, scale, at, n);
@@ -124,7 +124,7 @@ pub(crate) fn add_blocks<L: Layout>(
         (is_some weights) (given weights) 0 n }
     ensures { laid L.layout small.new large.new
         ≡ with_part L.layout steps.now.g (laid L.layout small.old large.old) scale colours.now
-        (is_some weights) (given weights) 0 n }
+        (is_some weights.entry) (given weights.entry) 0 n }
 {
     let mut i = 0;
     while 64 < n - i {

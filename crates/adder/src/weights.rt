@@ -6,13 +6,14 @@ ghost use Rattle.adder.specs.Add.{given};
 ghost use Rattle.adder.specs.Inner.{weights_from, all_weights, held_to};
 
 // The sum of a block of weights.
-fn block_sum(weights: &[u32], at: usize, end: usize) -> u64
-    requires { (at ≤ end) × (end ≤ length weights.now) × (end ≤ at + 4096) }
-    ensures { result ≡ weights_from weights.now at (end - at) }
+fn block_sum(weights: &[u32]) -> u64
+    requires { length weights.now ≤ 4096 }
+    ensures sum { result ≡ all_weights weights.now }
+    ensures small { result ≤ 17592186040320 }
 {
     let mut sum = 0;
-    for i in at..end {
-        sum += weights[i] as u64;
+    for w in weights {
+        sum += u64::from(*w);
     }
     sum
 }
@@ -24,17 +25,11 @@ fn weights_total(most: u64, had: u64, weights: &[u32], scale: u64) -> Option<u64
     ensures { result ≡ held_to most (had + scale * all_weights weights.now) }
 {
     let mut total = had;
-    let mut i = 0;
-    while 4096 < weights.len() - i {
-        total = total + scale * block_sum(weights, i, i + 4096);
+    for block in weights.chunks(4096) {
+        total += scale * block_sum(block);
         if most < total {
             return None;
         }
-        i = i + 4096;
-    }
-    total = total + scale * block_sum(weights, i, weights.len());
-    if most < total {
-        return None;
     }
     Some(total)
 }
@@ -49,7 +44,7 @@ pub(crate) fn batch_total(
     scale: u64,
 ) -> Option<u64>
     requires { (had ≤ most) × (most ≤ limit) × IsScale scale }
-    ensures { result ≡ held_to most (had + scale * cond (is_some weights) (all_weights (given weights)) n) }
+    ensures { result ≡ held_to most (had + scale * cond (is_some weights.entry) (all_weights (given weights.entry)) n) }
 {
     if let Some(weights) = weights {
         return weights_total(most, had, weights, scale);
@@ -63,7 +58,7 @@ pub(crate) fn batch_total(
 // The weight of colour i, multiplied by the scale.
 pub(crate) fn weight_at(weights: Option<&[u32]>, scale: u64, i: usize) -> u64
     requires { (scale ≤ 4096) × (is_some weights ≡ true → i < length (given weights)) }
-    ensures { result ≡ scale * cond (is_some weights) (get_or (given weights) i 0) 1 }
+    ensures { result ≡ scale * cond (is_some weights.entry) (get_or (given weights.entry) i 0) 1 }
 {
     match weights {
         Some(weights) => scale * weights[i] as u64,
@@ -74,10 +69,10 @@ pub(crate) fn weight_at(weights: Option<&[u32]>, scale: u64, i: usize) -> u64
 // The weight of n colours from colour i on, multiplied by the scale.
 pub(crate) fn block_weight(weights: Option<&[u32]>, scale: u64, i: usize, n: usize) -> u64
     requires { (n ≤ 64) × (scale ≤ 4096) × (is_some weights ≡ true → i + n ≤ length (given weights)) }
-    ensures { result ≡ scale * cond (is_some weights) (weights_from (given weights) i n) n }
+    ensures { result ≡ scale * cond (is_some weights.entry) (weights_from (given weights.entry) i n) n }
 {
     match weights {
-        Some(weights) => scale * block_sum(weights, i, i + n),
+        Some(weights) => scale * block_sum(&weights[i..][..n]),
         None => scale * n as u64,
     }
 }

@@ -18,7 +18,7 @@ use Rattle.table.specs.Sound.{limit_of}
 use Rattle.rounds.specs.Loop.{boxes_of}
 use Rattle.sums.specs.declared.source.Source.{Source}
 use Rattle.sums.specs.declared.source.Source.TheVariants.{Bins}
-use Rattle.cutter.specs.declared.call.CutRecord.{CutRecord}
+use Rattle.cutter.specs.Record.{CutRecord}
 use Rattle.cutter.specs.Cut.{BuffersIn, lengths_of, lengths_right, cut_number_on, cut_number_in, CanCut, LengthsFit}
 use Rattle.cutter.specs.Cut.{refused_record, done_record, record_on, cut_record_in, later_on, cut_later_in}
 use Rattle.cutter.proofs.Refusals.{accepts, lengths_fit_lem, fit_lengths, can_cut}

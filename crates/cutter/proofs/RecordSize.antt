@@ -16,7 +16,7 @@ use Rattle.table.specs.Sound.{limit_of}
 use Rattle.rounds.specs.Loop.{boxes_of, places_of}
 use Rattle.rounds.proofs.Filled.{heap_most}
 use Rattle.sums.specs.declared.source.Source.{Source}
-use Rattle.cutter.specs.declared.call.CutRecord.{CutRecord}
+use Rattle.cutter.specs.Record.{CutRecord}
 use Rattle.cutter.specs.Cut.{BuffersIn, lengths_right, cut_number_on, refused_record, done_record, record_on, cut_record_in}
 
 module _ (layout : Layout) (source : Source) (k : ℕ) (least : 1 ≤ k) (most : k ≤ 256) (t : TableIn layout) where

@@ -21,7 +21,7 @@ use Rattle.table.specs.Sound.{limit_of, total, sound}
 use Rattle.sums.specs.declared.source.Source.{Source}
 use Rattle.sums.specs.declared.source.Source.TheVariants.{Moments, Bins}
 use Rattle.rounds.specs.Loop.{boxes_of}
-use Rattle.cutter.specs.declared.call.CutRecord.{CutRecord}
+use Rattle.cutter.specs.Record.{CutRecord}
 use Rattle.cutter.specs.Cut.{Results, BuffersIn, work_fits, long_enough, lengths_right, cut_number_on, cut_number_in}
 use Rattle.cutter.specs.Cut.{refused_record, done_record, record_on, cut_record_in, later_on, cut_later_in}
 use Rattle.cutter.specs.Fronts.{filled}

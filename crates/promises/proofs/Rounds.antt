@@ -13,7 +13,7 @@ use Rattle.table.specs.Table.{view_of}
 use Rattle.rounds.specs.Loop.{heap_of, boxes_of}
 use Rattle.rounds.proofs.Fuel.{few_rounds}
 use Rattle.sums.specs.declared.source.Source.{Source}
-use Rattle.cutter.specs.declared.call.CutRecord.{CutRecord}
+use Rattle.cutter.specs.Record.{CutRecord}
 use Rattle.cutter.specs.Cut.{Buffers, cut_number, refused_record, done_record, cut_record}
 use Rattle.cutter.proofs.Laws.{cut_says, cut_refuses}
 use Rattle.promises.specs.Rounds.{most_rounds}

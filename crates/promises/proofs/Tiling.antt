@@ -33,7 +33,7 @@ use Rattle.boxes.specs.Box.{no_box}
 use Rattle.rounds.specs.Loop.{boxes_of}
 use Rattle.rounds.proofs.Filled.{heap_most}
 use Rattle.sums.specs.declared.source.Source.{Source}
-use Rattle.cutter.specs.declared.call.CutRecord.{CutRecord}
+use Rattle.cutter.specs.Record.{CutRecord}
 use Rattle.cutter.specs.Palette.{count_of, palette_later, counts_later, front_of}
 use Rattle.boxes.specs.Holds.{holds_at}
 use Rattle.cutter.specs.Cut.{LengthsFit, results_on, Buffers, lengths_of, cut_number, done_record, cut_record, list_of}

@@ -1,6 +1,6 @@
 -- The loop of a cut (Rules, Loop). Definitions only.
 use Rattle.std.specs.Prelude.{false, cond, List, ℕ, zero, suc, ◌+◌, ◌-◌, ◌*◌, ltb, set, replicate, Float}
-use Rattle.std.specs.Float.{nan, inf}
+use Rattle.std.specs.Float.{inf}
 use Rattle.std.specs.Float.Ieee.{lt}
 use Rattle.grid.specs.declared.place.Grid.{Grid}
 use Rattle.basics.specs.Range.{list_from}
@@ -13,16 +13,9 @@ use Rattle.spread.specs.declared.position.Position.TheVariants.{At, Nowhere}
 use Rattle.spread.specs.Spread.{zero_of, spread_of}
 use Rattle.spread.specs.Cut.{best_cut}
 use Rattle.heap.specs.Heap.{item, put_in, take_out}
-use Rattle.rounds.specs.declared.gather.BoxSpread.{BoxSpread}
+pub use Rattle.heap.specs.Boxes.{by_spread, no_item}
+use Rattle.heap.specs.declared.heap.BoxSpread.{BoxSpread}
 use Rattle.rounds.specs.declared.gather.Boxes.{Boxes}
-
--- the heap compares boxes by their spreads
-abbrev pub by_spread : BoxSpread → Float
-by_spread x = x.spread
-
--- what a place past the room would have
-abbrev pub no_item : BoxSpread
-no_item = record { bounds = no_box; spread = nan }
 
 -- a box with its own spread
 unfoldable pub with_spread : Grid → View → Bounds → BoxSpread

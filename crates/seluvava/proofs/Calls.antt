@@ -21,7 +21,7 @@ use Rattle.table.specs.Layout.{TableIn, view_in}
 use Rattle.table.specs.Sound.{limit_of, total, sound, unsound_number}
 use Rattle.sums.specs.declared.source.Source.{Source}
 use Rattle.sums.specs.declared.source.Source.TheVariants.{Bins}
-use Rattle.cutter.specs.declared.call.CutRecord.{CutRecord}
+use Rattle.cutter.specs.Record.{CutRecord}
 use Rattle.cutter.specs.Fronts.{filled}
 use Rattle.cutter.specs.Cut.{BuffersIn, lengths_right, cut_number_on, cut_number_in, refused_record, cut_record_in}
 use Rattle.cutter.specs.Cut.{cut_later_in}

@@ -10,8 +10,8 @@ use Rattle.table.specs.Layout.{TableIn, view_in}
 use Rattle.table.specs.Sound.{limit_of}
 use Rattle.boxes.specs.Bytes.{box_bytes}
 use Rattle.sums.specs.declared.source.Source.{Source}
-use Rattle.rounds.specs.declared.gather.BoxSpread.{BoxSpread}
-use Rattle.cutter.specs.declared.call.CutRecord.{CutRecord}
+use Rattle.heap.specs.declared.heap.BoxSpread.{BoxSpread}
+use Rattle.cutter.specs.Record.{CutRecord}
 use Rattle.cutter.specs.Fronts.{filled}
 use Rattle.cutter.specs.Cut.{BuffersIn, Buffers, lengths_right, cut_number_on, cut_record_in, cut_later_in}
 use Rattle.seluvava.specs.declared.cut.CutAnswer.{CutAnswer}

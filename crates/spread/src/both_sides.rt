@@ -11,7 +11,7 @@ ghost use Rattle.spread.specs.Cut.{best_cut, no_cut, cut_at};
 
 use crate::low_side::less;
 use crate::position::Position;
-use boxes::sides::{Bounds, high_side, low_side};
+use boxes::sides::Bounds;
 use grid::place::Grid;
 use sums::box_sums::{Stats, box_sum, sum_of_bins};
 use sums::source::Source;
@@ -72,7 +72,7 @@ pub(crate) fn sides_by_moments<L: Layout>(
         largework,
         Source::Moments,
         g,
-        low_side(x, at.dimension, at.bin),
+        x.low_side(at.dimension, at.bin),
     );
     BestCut {
         position,
@@ -98,7 +98,7 @@ pub(crate) fn sides_by_bins<L: Layout>(
     };
     BestCut {
         position,
-        low: sum_of_bins::<L>(small, large, g, low_side(x, at.dimension, at.bin)),
-        high: sum_of_bins::<L>(small, large, g, high_side(x, at.dimension, at.bin)),
+        low: sum_of_bins::<L>(small, large, g, x.low_side(at.dimension, at.bin)),
+        high: sum_of_bins::<L>(small, large, g, x.high_side(at.dimension, at.bin)),
     }
 }

@@ -7,7 +7,7 @@ ghost use Rattle.spread.specs.Cut.{position_at, best_in};
 ghost use Rattle.spread.specs.Inner.{CutsAt};
 
 use crate::position::{Position, better, position_between};
-use boxes::sides::{Bounds, end_bin, first_bin, high_side, low_side};
+use boxes::sides::Bounds;
 use grid::place::Grid;
 use sums::box_sums::sum_of_bins;
 use table::layout::Layout;
@@ -25,8 +25,8 @@ fn position_by_bins<L: Layout>(
         × CutsAt g (laid_view L.layout small.now large.now) x dimension bin }
     ensures { result ≡ position_at g (laid_view L.layout small.now large.now) x dimension bin }
 {
-    let low = sum_of_bins::<L>(small, large, g, low_side(x, dimension, bin));
-    let high = sum_of_bins::<L>(small, large, g, high_side(x, dimension, bin));
+    let low = sum_of_bins::<L>(small, large, g, x.low_side(dimension, bin));
+    let high = sum_of_bins::<L>(small, large, g, x.high_side(dimension, bin));
     position_between(dimension, bin, low, high)
 }
 
@@ -42,7 +42,7 @@ pub(crate) fn best_by_bins<L: Layout>(
     ensures { result ≡ best_in g (laid_view L.layout small.now large.now) x dimension }
 {
     let mut best = None;
-    for bin in first_bin(x, dimension) + 1..end_bin(x, dimension) {
+    for bin in x.first_bin(dimension) + 1..x.end_bin(dimension) {
         best = better(
             best,
             position_by_bins::<L>(small, large, g, x, dimension, bin),

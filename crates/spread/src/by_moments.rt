@@ -13,7 +13,7 @@ use crate::before::before;
 use crate::low_side::{less, low_side_sums};
 use crate::position::{Position, later_wins, position_between};
 use crate::walk::Walk;
-use boxes::sides::{Bounds, end_bin, first_bin};
+use boxes::sides::Bounds;
 use grid::place::Grid;
 use sums::box_sums::Stats;
 use table::layout::Layout;
@@ -56,8 +56,8 @@ pub(crate) fn best_by_moments<L: Layout>(
     requires walk_value { walk ≡ walk_of g x dimension }
     ensures { result ≡ best_in g (laid_view L.layout small.now large.now) x dimension }
 {
-    let first = first_bin(x, dimension);
-    let end = end_bin(x, dimension);
+    let first = x.first_bin(dimension);
+    let end = x.end_bin(dimension);
     if end - first == 1 {
         return None;
     }

@@ -2,7 +2,6 @@
 -- Assumes nothing.
 use mathlib.Core.Path.{sym}
 use native.Mathlib.Omega.{arith}
-use borrow.Author.Rules.{rules}
 use Rattle.grid.proofs.Places.{Bytes}
 use Rattle.table.proofs.Cells.{cell_is}
 use Rattle.adder.specs.Batch.{share}

@@ -12,10 +12,7 @@ pub steps-s-requires : goal.steps-s-requires
 steps-s-requires c = c.requires.0
 
 pub loop-c-init : goal.loop-c-init
-loop-c-init c = (
-  omega arith,
-  part_none c.steps-s.result c.args.dimension c.args.table.now c.requires.1,
-)
+loop-c-init c = part_none c.steps-s.result c.args.dimension c.args.table.now c.requires.1
 
 pub overflow_mul-table : goal.overflow_mul-table
 overflow_mul-table c = omega (arith, square_byte c.loop-c.c (omega arith))
@@ -33,17 +30,10 @@ overflow_add-table c =
 
 pub loop-c-preserved : goal.loop-c-preserved
 loop-c-preserved c =
-    let s = c in
-    let l = c.loop-c in (
-      omega arith,
-      part_more c.steps-s.result s.args.dimension s.args.table.now l.invariant.1 s.requires.2
-          (omega arith),
-    )
+    part_more c.steps-s.result c.args.dimension c.args.table.now c.loop-c.invariant c.requires.2 (omega arith)
 
 pub returns : goal.returns
 returns c =
-    let t = c in
-    let a = t.args in
+    let a = c.args in
     let ended : c.loop-c.c ≡ 256 = omega arith in
-    part_all t.steps-s.result a.dimension a.table.now a.g t.steps-s.ensures
-    (rw ended at c.loop-c.invariant.1)
+    part_all c.steps-s.result a.dimension a.table.now a.g c.steps-s.ensures (rw ended at c.loop-c.invariant)
