@@ -17,14 +17,17 @@ missing (Some y) e q = cc
 missing None e q = (refl, cc)
 
 -- the exit of a `?` hands on the refusal
-pub exit : {A : Type 0} (d : Result A Refusal) (r : Refusal) → IsErrAnd d (λ (x : Refusal). x ≡ r)
-    → answer_of d ≡ number_of r
-exit d r h =
+pub handed : {A : Type 0} (d : Result A Refusal) (r : Refusal) → IsErrAnd d (λ (x : Refusal). x ≡ r) → d ≡ Err r
+handed d r h =
     let p = err_from_is_err_and d h in
-    ap answer_of p.1 ∙ ap number_of p.2
+    p.1 ∙ ap (λ (x : Refusal). Err x) p.2
 
-pub not_there : {A B : Type 0} (o : Option A) (e : Refusal) (d : Result B Refusal) {r : Refusal} → Err r ≡ ok_or o e
-    → IsErrAnd d (λ (x : Refusal). x ≡ r) → (o ≡ None) × (answer_of d ≡ number_of e)
-not_there o e d {r} q h =
-    let m = missing o e q in
-    (m.0, exit d r h ∙ ap number_of m.1)
+module _ {A B : Type 0} (o : Option A) (e : Refusal) (d : Result B Refusal) {r : Refusal} (q : Err r ≡ ok_or o e)
+    (h : IsErrAnd d (λ (x : Refusal). x ≡ r)) where
+  pub refused_with : (o ≡ None) × (d ≡ Err e)
+  refused_with =
+      let m = missing o e q in
+      (m.0, handed d r h ∙ ap (λ (x : Refusal). Err x) m.1)
+
+  pub not_there : (o ≡ None) × (answer_of d ≡ number_of e)
+  not_there = (refused_with.0, ap answer_of refused_with.1)

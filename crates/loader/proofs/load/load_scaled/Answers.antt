@@ -12,7 +12,6 @@ use lib.Dec.{eqb}
 use Rattle.basics.proofs.Exits.{there, not_there}
 use Rattle.grid.specs.Grid.{grid_of, Accepted, bins_of}
 use Rattle.grid.proofs.Places.{chose}
-use Rattle.table.specs.Layouts.{Layout}
 use Rattle.table.specs.Layout.{TableIn, laid, TableOfIn}
 use Rattle.table.specs.Sound.{limit_of}
 use Rattle.table.proofs.Layouts.{lengths_are, sized_in}
@@ -44,7 +43,7 @@ whole g k =
           λ some.
           elim k.match-weights.branch [
             | in-Some+else-weights-colours w ↦
-              ap (λ (o : Option (Bor (List ℕ))). length (given o)) w.in-Some.is ∙ w.if-weights-colours.false
+                ap (λ (o : Option (Bor (List ℕ))). length (given o)) w.in-Some.is ∙ w.if-weights-colours.false
             | in_default w ↦ absurd (true≢false (sym some ∙ ap is_some w.in_default.is))
           ];
     }
@@ -101,8 +100,7 @@ ended g k e =
     let a = k.args in
     let grid = on_grid g (goal.at-After-add_batch g k).In_ok-g in
     let had = known g (goal.at-After-add_batch g k).In_ok-had in
-    let batch = whole g (goal.at-After-add_batch g k).Joined-weights in
-    (
+    let batch = whole g (goal.at-After-add_batch g k).Joined-weights in (
       sym (number_says a.b1 a.b2 a.b3 grid had batch a.scale
           ∙ ap (λ (x : Option ℕ). (added_answer_in l x).number) (sym k.add_batch.ensures.answer ∙ e)),
       rw k.of-steps.ensures.grid at k.add_batch.ensures.later

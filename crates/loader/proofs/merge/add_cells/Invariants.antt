@@ -1,7 +1,6 @@
 -- `loader::merge::add_cells` meets its contract: after p places the table holds its first p cells with those of the
 -- second added.
 -- Assumes nothing.
-use Rattle.std.proofs.Common.{◌≡◌, length}
 use Rattle.grid.specs.Grid.{bins_of}
 use Rattle.table.specs.Layout.{laid, laid_view}
 use Rattle.table.proofs.Layouts.{HoldsIn}

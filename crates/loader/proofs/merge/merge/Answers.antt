@@ -106,18 +106,18 @@ returns-then-not-fits g c =
     let l = g.L.Layout.layout in
     elim c.then-not-fits.branch [
       | then-not-fits-via-then-not-fits w ↦
-        let both =
-        merge_first_length l a.b1 a.b2 a.b3 (first g j) (second g j) (on_grid g j)
-        (sized g j a.small.now a.large.now c.fits.result c.fits.ensures w.if-not-fits.true) in
-        record { number = both.0; later = both.1 }
+          let both =
+          merge_first_length l a.b1 a.b2 a.b3 (first g j) (second g j) (on_grid g j)
+          (sized g j a.small.now a.large.now c.fits.result c.fits.ensures w.if-not-fits.true) in
+          record { number = both.0; later = both.1 }
       | then-not-fits-via-else-not-fits+then-not-fits-2 w ↦
-        let both =
-        merge_second_length l a.b1 a.b2 a.b3 (first g j) (second g j) (on_grid g j)
-        (sized_in l (first g j) (bins_of c.in_ok-g.g)
-        (sized g j a.small.now a.large.now c.fits.result c.fits.ensures w.if-not-fits.false))
-        (sized g j a.smallsecond.now a.largesecond.now w.fits-else-not-fits.result w.fits-else-not-fits.ensures
-        w.if-not-fits-2.true) in
-        record { number = both.0; later = both.1 }
+          let both =
+          merge_second_length l a.b1 a.b2 a.b3 (first g j) (second g j) (on_grid g j)
+          (sized_in l (first g j) (bins_of c.in_ok-g.g)
+          (sized g j a.small.now a.large.now c.fits.result c.fits.ensures w.if-not-fits.false))
+          (sized g j a.smallsecond.now a.largesecond.now w.fits-else-not-fits.result w.fits-else-not-fits.ensures
+          w.if-not-fits-2.true) in
+          record { number = both.0; later = both.1 }
     ]
 
 pub sound_total-requires : goal.sound_total-requires
