@@ -3,14 +3,15 @@
 -- parameters at exit e. What is lent in a layout is
 -- seen by `lent_lists`: a wide table has no small list.
 -- Assumes nothing.
-use Rattle.std.specs.Prelude.{Option}
+use Rattle.std.specs.Prelude.{Option, Result}
 use mathlib.Core.Path.{◌≡◌, ap}
 use mathlib.Core.List.{List}
 use Prim.Native.Nat.{ℕ}
 use lib.IntN.{ℤ}
 use lib.Ieee.{Float}
 use Rattle.basics.proofs.Determined.{determined}
-use Rattle.basics.proofs.Refusals.{number_tells}
+use Rattle.basics.proofs.Refusals.{number_tells, answer_tells}
+use Rattle.basics.specs.declared.refusal.Refusal.{Refusal}
 use Rattle.basics.proofs.refusal.Refusal.number as refusal-number
 use Rattle.basics.proofs.refusal.answer as answer
 use Rattle.grid.specs.declared.place.Grid.{Grid}
@@ -101,7 +102,8 @@ use Rattle.heap.proofs.heap.Heap.take_out as take_out
 use Rattle.rounds.proofs.gather.cut_boxes as cut-boxes
 use Rattle.cutter.proofs.palette.front as front
 use Rattle.band.proofs.number.band_number as band-number
-use Rattle.band.proofs.look_up.index_at as index_at
+use Rattle.band.proofs.look_up.LookUp.of as look-up-of
+use Rattle.band.proofs.look_up.LookUp.index_at as index_at
 use Rattle.mapper.proofs.call.map as map
 use Rattle.painter.proofs.call.paint as paint
 use Rattle.inputs.proofs.looks.begins_with as begins-with
@@ -469,22 +471,26 @@ pub cut_slowly_determined : Determines {A = CutRecord × Buffers} 5 cut-slowly.K
 cut_slowly_determined κs a r s x y p q = both (determined p.0 q.0) (determined p.1 q.1)
 
 -- ---- band
-pub band_number_determined : Determines 1 band-number.Kinds.ps band-number.Kinds.r band-number.Reads.Learnt
-    (λ κs r e. r)
-band_number_determined κs a r s x y p q = determined p q
+pub band_number_determined : Determines {A = Result (Unit {0}) Refusal} 1 band-number.Kinds.ps band-number.Kinds.r
+    band-number.Reads.Learnt (λ κs r e. r)
+band_number_determined κs a r s x y p q = answer_tells r s (determined p q)
 
-pub index_at_determined : Determines 4 index_at.Kinds.ps index_at.Kinds.r index_at.Reads.Learnt (λ κs r e. r)
+pub look_up_of_determined : Determines {A = Grid × List ℕ} 1 look-up-of.Kinds.ps look-up-of.Kinds.r
+    look-up-of.Reads.Learnt (λ κs r e. (r.g, r.map.now))
+look_up_of_determined κs a r s x y p q = both (determined p.0 q.0) (determined p.1 q.1)
+
+pub index_at_determined : Determines 3 index_at.Kinds.ps index_at.Kinds.r index_at.Reads.Learnt (λ κs r e. r)
 index_at_determined κs a r s x y p q = determined p q
 
 -- ---- mapper
-pub map_determined : Determines {A = ℕ × List ℕ} 3 map.Kinds.ps map.Kinds.r map.Reads.Learnt
+pub map_determined : Determines {A = Result (Unit {0}) Refusal × List ℕ} 3 map.Kinds.ps map.Kinds.r map.Reads.Learnt
     (λ κs r e. (r, e.1.1.1.1.1.1.0.now))
-map_determined κs a r s x y p q = both (determined p.0 q.0) (determined p.1 q.1)
+map_determined κs a r s x y p q = both (answer_tells r s (determined p.0 q.0)) (determined p.1 q.1)
 
 -- ---- painter
-pub paint_determined : Determines {A = ℕ × List ℕ} 3 paint.Kinds.ps paint.Kinds.r paint.Reads.Learnt
+pub paint_determined : Determines {A = Result (Unit {0}) Refusal × List ℕ} 3 paint.Kinds.ps paint.Kinds.r paint.Reads.Learnt
     (λ κs r e. (r, e.1.1.1.1.1.0.now))
-paint_determined κs a r s x y p q = both (determined p.0 q.0) (determined p.1 q.1)
+paint_determined κs a r s x y p q = both (answer_tells r s (determined p.0 q.0)) (determined p.1 q.1)
 
 -- ---- inputs
 pub begins_with_determined : Determines 2 begins-with.Kinds.ps begins-with.Kinds.r begins-with.Reads.Learnt (λ κs r e. r)
@@ -499,9 +505,9 @@ pub frame_number_determined : Determines 0 frame-number.Kinds.ps frame-number.Ki
 frame_number_determined κs a r s x y p q = determined p q
 
 -- ---- terminal
-pub nearest_determined : Determines {A = ℕ × List ℕ} 2 nearest.Kinds.ps nearest.Kinds.r nearest.Reads.Learnt
+pub nearest_determined : Determines {A = Result (Unit {0}) Refusal × List ℕ} 2 nearest.Kinds.ps nearest.Kinds.r nearest.Reads.Learnt
     (λ κs r e. (r, e.1.0.now))
-nearest_determined κs a r s x y p q = both (determined p.0 q.0) (determined p.1 q.1)
+nearest_determined κs a r s x y p q = both (answer_tells r s (determined p.0 q.0)) (determined p.1 q.1)
 
 -- ---- lines
 pub empty_table_determined : Determines 0 empty_table_lem.Kinds.ps empty_table_lem.Kinds.r empty_table_lem.Reads.Learnt
