@@ -8,6 +8,7 @@ use crate::lists::Lists;
 use crate::row::Row;
 use crate::tell::Stop;
 use crate::words::{Kind, Name, Word};
+use basics::refusal::{self, Refusal};
 use loader::load::load;
 use loader::merge::merge;
 use mapper::call::map;
@@ -15,8 +16,8 @@ use painter::call::paint;
 use std::alloc::AllocError;
 
 // What a call answers, as the number that a line has.
-fn number(answer: u8) -> u64 {
-    u64::from(answer)
+fn number(done: Result<(), Refusal>) -> u64 {
+    u64::from(refusal::answer(done))
 }
 
 // Loads the frame with the weights into the list that the line names.
