@@ -8,7 +8,6 @@ use Prim.Native.Nat.{ℕ, ◌≤◌}
 use native.Mathlib.Bridge.{le_prop}
 use mathlib.Core.HLevel.{is_prop→PathP}
 use lib.IntN.{ℤ}
-use lib.Ieee.{Float}
 use Rattle.basics.proofs.Determined.{determined}
 use Rattle.cutter.specs.declared.call.CutRecord.{CutRecord}
 use Rattle.table.specs.declared.layout.Layout.TheVariants.{Narrow}
