@@ -6,9 +6,10 @@
 use Rattle.std.specs.Prelude.{Option, Result}
 use mathlib.Core.Path.{◌≡◌, ap}
 use mathlib.Core.List.{List}
-use Prim.Native.Nat.{ℕ}
+use Prim.Native.Nat.{ℕ, ◌≤◌}
+use native.Mathlib.Bridge.{le_prop}
+use mathlib.Core.HLevel.{is_prop→PathP}
 use lib.IntN.{ℤ}
-use lib.Ieee.{Float}
 use Rattle.basics.proofs.Determined.{determined}
 use Rattle.basics.proofs.Refusals.{number_tells, answer_tells}
 use Rattle.basics.specs.declared.refusal.Refusal.{Refusal}
@@ -93,7 +94,8 @@ use Rattle.boxes.proofs.sides.Bounds.low_side as low-side
 use Rattle.boxes.proofs.sides.Bounds.high_side as high-side
 use Rattle.spread.proofs.search.best_cut as best-cut
 use Rattle.heap.specs.declared.heap.BoxSpread.{BoxSpread}
-use Rattle.heap.proofs.heap.Heap.new as new-heap
+use Rattle.heap.specs.declared.heap.Heap.{Heap}
+use Rattle.heap.proofs.heap.Heap.new as heap-new
 use Rattle.heap.proofs.heap.Heap.len as heap-len
 use Rattle.heap.proofs.heap.Heap.room as heap-room
 use Rattle.heap.proofs.heap.Heap.top as heap-top
@@ -406,27 +408,33 @@ pub best_cut_determined : DeterminesIn {A = Option BestCut} 5 best-cut.Kinds.ps 
 best_cut_determined T laws l d κs a r s x y p q = determined p q
 
 -- ---- heap
-pub new_determined : Determines {A = List BoxSpread × ℕ} 0 new-heap.Kinds.ps new-heap.Kinds.r new-heap.Reads.Learnt
-    (λ κs r e. (r.room, r.len))
-new_determined κs a r s x y p q = both (determined p.0 q.0) (determined p.1 q.1)
+-- two heaps are one where they have the same room and as many places in use
+same_heap : {x y : Heap} → x.room ≡ y.room → x.len ≡ y.len → x ≡ y
+same_heap {x} {y} p q = λ i. record {
+  room = p i;
+  len = q i;
+  in_room = is_prop→PathP (λ j. q j ≤ 256) (λ j. le_prop) x.in_room y.in_room i;
+}
 
-pub len_determined : Determines 1 heap-len.Kinds.ps heap-len.Kinds.r heap-len.Reads.Learnt (λ κs r e. r)
-len_determined κs a r s x y p q = determined p q
+pub heap_new_determined : Determines 0 heap-new.Kinds.ps heap-new.Kinds.r heap-new.Reads.Learnt (λ κs r e. r)
+heap_new_determined κs a r s x y p q = same_heap (determined p.0 q.0) (determined p.1 q.1)
 
-pub room_determined : Determines 1 heap-room.Kinds.ps heap-room.Kinds.r heap-room.Reads.Learnt (λ κs r e. r.now)
-room_determined κs a r s x y p q = determined p.0 q.0
+pub heap_len_determined : Determines 1 heap-len.Kinds.ps heap-len.Kinds.r heap-len.Reads.Learnt (λ κs r e. r)
+heap_len_determined κs a r s x y p q = determined p q
 
-pub top_determined : Determines 1 heap-top.Kinds.ps heap-top.Kinds.r heap-top.Reads.Learnt (λ κs r e. r)
-top_determined κs a r s x y p q = determined p q
+pub heap_room_determined : Determines 1 heap-room.Kinds.ps heap-room.Kinds.r heap-room.Reads.Learnt (λ κs r e. r.now)
+heap_room_determined κs a r s x y p q = determined p.0 q.0
 
-pub put_in_determined : Determines {A = List BoxSpread × ℕ} 1 put_in.Kinds.ps put_in.Kinds.r put_in.Reads.Learnt
-    (λ κs r e. (e.0.now.room, e.0.now.len))
-put_in_determined κs a r s x y p q = both (determined p.0 q.0) (determined p.1 q.1)
+pub heap_top_determined : Determines 1 heap-top.Kinds.ps heap-top.Kinds.r heap-top.Reads.Learnt (λ κs r e. r)
+heap_top_determined κs a r s x y p q = determined p q
 
-pub take_out_determined : Determines {A = BoxSpread × List BoxSpread × ℕ} 1 take_out.Kinds.ps take_out.Kinds.r
-    take_out.Reads.Learnt (λ κs r e. (r, e.0.now.room, e.0.now.len))
+pub put_in_determined : Determines 1 put_in.Kinds.ps put_in.Kinds.r put_in.Reads.Learnt (λ κs r e. e.0.now)
+put_in_determined κs a r s x y p q = same_heap (determined p.0 q.0) (determined p.1 q.1)
+
+pub take_out_determined : Determines {A = BoxSpread × Heap} 1 take_out.Kinds.ps take_out.Kinds.r take_out.Reads.Learnt
+    (λ κs r e. (r, e.0.now))
 take_out_determined κs a r s x y p q =
-    λ i. (determined p.0 q.0 i, determined p.1.0 q.1.0 i, determined p.1.1 q.1.1 i)
+    both (determined p.0 q.0) (same_heap {x = x.0.now} {y = y.0.now} (determined p.1.0 q.1.0) (determined p.1.1 q.1.1))
 
 -- ---- rounds
 pub cut_boxes_determined : DeterminesIn {A = Boxes} 5 cut-boxes.Kinds.ps cut-boxes.Kinds.r cut-boxes.Reads.Learnt
