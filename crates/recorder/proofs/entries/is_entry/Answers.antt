@@ -4,6 +4,7 @@
 use mathlib.Core.Path.{◌≡◌, refl}
 use mathlib.Core.Bool.{Bool, true, false, ◌&&◌, ◌||◌}
 use Prim.Native.Nat.{ℕ, ◌+◌, ◌*◌}
+use native.Mathlib.Omega.{arith}
 use borrow.Author.Tests.{ne_eqb}
 use lib.Dec.{eqb}
 use lib.ListN.{get_or}
@@ -29,4 +30,8 @@ returns-in-1 c = rw c.in-1.is refl
 
 pub returns-in_default : goal.returns-in_default
 unfolding is_entry kind_at
-returns-in_default c = let h = c.in_default in ?
+returns-in_default c =
+    let kind = get_or c.args.entries.now (3 * c.args.i) 0 in
+    let not_0 : kind ≡ 0 → ⊥ = λ e. omega arith in
+    let not_1 : kind ≡ 1 → ⊥ = λ e. omega arith in
+    simp (ne_eqb kind 0 not_0, ne_eqb kind 1 not_1)
