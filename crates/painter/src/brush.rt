@@ -34,7 +34,7 @@ impl<'a> Brush<'a> {
         requires { 3 * i + 2 < length part.now }
         ensures { result ≡ get_or self.now.packed (index_at self.now.look_up.g self.now.look_up.map.now part.now i) 0 }
     {
-        let index = self.look_up.index_at(part, i) as usize;
+        let index = usize::from(self.look_up.index_at(part, i));
         self.packed[index]
     }
 }
