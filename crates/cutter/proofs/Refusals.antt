@@ -37,36 +37,6 @@ pub fit_moments : {sized : Bool} → sized ≡ true → work_fits Moments sized 
 unfolding work_fits
 fit_moments e = e
 
--- ---- the lengths
-module _ (source : Source) (g : Grid) (k : ℕ) (table : Bool) (l : Lengths) where
-  pub table_wrong : table ≡ false → long_enough source g k table l ≡ false
-  unfolding long_enough
-  table_wrong n = simp n
-
-  module _ (t : table ≡ true) where
-    pub work_wrong : work_fits source l.work ≡ false → long_enough source g k table l ≡ false
-    unfolding long_enough
-    work_wrong n = simp (t, n)
-
-    module _ (w : work_fits source l.work ≡ true) where
-      pub palette_short : l.palette < 3 * k → long_enough source g k table l ≡ false
-      unfolding long_enough
-      palette_short n = simp (t, w, lt-leb _ _ n)
-
-      module _ (p : 3 * k ≤ l.palette) where
-        pub counts_short : l.counts < k → long_enough source g k table l ≡ false
-        unfolding long_enough
-        counts_short n = simp (t, w, le-leb _ _ p, lt-leb _ _ n)
-
-        module _ (c : k ≤ l.counts) where
-          pub remainders_short : l.remainders < 3 * k → long_enough source g k table l ≡ false
-          unfolding long_enough
-          remainders_short n = simp (t, w, le-leb _ _ p, le-leb _ _ c, lt-leb _ _ n)
-
-          pub only_map : 3 * k ≤ l.remainders → long_enough source g k table l ≡ eqb l.map (bins_of g)
-          unfolding long_enough
-          only_map r = simp (t, w, le-leb _ _ p, le-leb _ _ c, le-leb _ _ r)
-
 -- ---- the chain
 module _ (limit : ℕ) (g : Grid) (k : ℕ) (fit : Bool) (v : View) where
   pub k_low : k < 1 → cut_number_on limit g k fit v ≡ 2
@@ -118,10 +88,15 @@ lengths_fit_lem e =
       map = eqb-true _ _ five.1;
     }
 
+module _ (source : Source) (g : Grid) (k : ℕ) (table : Bool) (l : Lengths) where
+  pub only_map : table ≡ true → work_fits source l.work ≡ true → 3 * k ≤ l.palette → k ≤ l.counts → 3 * k ≤ l.remainders
+      → long_enough source g k table l ≡ eqb l.map (bins_of g)
+  unfolding long_enough
+  only_map t w p c r = simp (t, w, le-leb _ _ p, le-leb _ _ c, le-leb _ _ r)
+
 pub fit_lengths : {source : Source} {g : Grid} {k : ℕ} {table : Bool} {l : Lengths} → LengthsFit source g k table l
     → long_enough source g k table l ≡ true
-fit_lengths {source} {g} {k} {table} {l} f =
-    only_map source g k table l f.sized f.work f.palette f.counts f.remainders ∙ eq-eqb _ _ f.map
+fit_lengths f = only_map _ _ _ _ _ f.sized f.work f.palette f.counts f.remainders ∙ eq-eqb _ _ f.map
 
 pub can_cut : {limit : ℕ} {g : Grid} {k : ℕ} {fit : Bool} {v : View} → cut_number_on limit g k fit v ≡ 0
     → CanCut limit g k v × (fit ≡ true)

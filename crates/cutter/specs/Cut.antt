@@ -7,8 +7,7 @@ use Rattle.basics.specs.declared.refusal.Refusal.{Refusal}
 use Rattle.basics.specs.Refusal.{number_of}
 use Rattle.grid.specs.Grid.{grid_of, grid_answer, on_grid, number_on, bins_of}
 use Rattle.table.specs.Cell.{View}
-use Rattle.table.specs.Layouts.{Layout}
-use Rattle.table.specs.Layouts.{Wide}
+use Rattle.table.specs.Layouts.{Layout, Wide}
 use Rattle.table.specs.Table.{Table}
 use Rattle.table.specs.Layout.{TableIn, laid, is_sized_in, view_in, written_in}
 use Rattle.table.specs.Sound.{limit_of, total, sound, unsound_number}

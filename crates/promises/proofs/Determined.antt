@@ -3,14 +3,16 @@
 -- parameters at exit e. What is lent in a layout is
 -- seen by `lent_lists`: a wide table has no small list.
 -- Assumes nothing.
-use Rattle.std.specs.Prelude.{Option}
+use Rattle.std.specs.Prelude.{Option, Result}
 use mathlib.Core.Path.{◌≡◌, ap}
 use mathlib.Core.List.{List}
-use Prim.Native.Nat.{ℕ}
+use Prim.Native.Nat.{ℕ, ◌≤◌}
+use native.Mathlib.Bridge.{le_prop}
+use mathlib.Core.HLevel.{is_prop→PathP}
 use lib.IntN.{ℤ}
-use lib.Ieee.{Float}
 use Rattle.basics.proofs.Determined.{determined}
-use Rattle.basics.proofs.Refusals.{number_tells}
+use Rattle.basics.proofs.Refusals.{number_tells, answer_tells}
+use Rattle.basics.specs.declared.refusal.Refusal.{Refusal}
 use Rattle.basics.proofs.refusal.Refusal.number as refusal-number
 use Rattle.basics.proofs.refusal.answer as answer
 use Rattle.grid.specs.declared.place.Grid.{Grid}
@@ -92,7 +94,8 @@ use Rattle.boxes.proofs.sides.Bounds.low_side as low-side
 use Rattle.boxes.proofs.sides.Bounds.high_side as high-side
 use Rattle.spread.proofs.search.best_cut as best-cut
 use Rattle.heap.specs.declared.heap.BoxSpread.{BoxSpread}
-use Rattle.heap.proofs.heap.Heap.new as new-heap
+use Rattle.heap.specs.declared.heap.Heap.{Heap}
+use Rattle.heap.proofs.heap.Heap.new as heap-new
 use Rattle.heap.proofs.heap.Heap.len as heap-len
 use Rattle.heap.proofs.heap.Heap.room as heap-room
 use Rattle.heap.proofs.heap.Heap.top as heap-top
@@ -101,7 +104,8 @@ use Rattle.heap.proofs.heap.Heap.take_out as take_out
 use Rattle.rounds.proofs.gather.cut_boxes as cut-boxes
 use Rattle.cutter.proofs.palette.front as front
 use Rattle.band.proofs.number.band_number as band-number
-use Rattle.band.proofs.look_up.index_at as index_at
+use Rattle.band.proofs.look_up.LookUp.of as look-up-of
+use Rattle.band.proofs.look_up.LookUp.index_at as index_at
 use Rattle.mapper.proofs.call.map as map
 use Rattle.painter.proofs.call.paint as paint
 use Rattle.inputs.proofs.looks.begins_with as begins-with
@@ -404,27 +408,33 @@ pub best_cut_determined : DeterminesIn {A = Option BestCut} 5 best-cut.Kinds.ps 
 best_cut_determined T laws l d κs a r s x y p q = determined p q
 
 -- ---- heap
-pub new_determined : Determines {A = List BoxSpread × ℕ} 0 new-heap.Kinds.ps new-heap.Kinds.r new-heap.Reads.Learnt
-    (λ κs r e. (r.room, r.len))
-new_determined κs a r s x y p q = both (determined p.0 q.0) (determined p.1 q.1)
+-- two heaps are one where they have the same room and as many places in use
+same_heap : {x y : Heap} → x.room ≡ y.room → x.len ≡ y.len → x ≡ y
+same_heap {x} {y} p q = λ i. record {
+  room = p i;
+  len = q i;
+  in_room = is_prop→PathP (λ j. q j ≤ 256) (λ j. le_prop) x.in_room y.in_room i;
+}
 
-pub len_determined : Determines 1 heap-len.Kinds.ps heap-len.Kinds.r heap-len.Reads.Learnt (λ κs r e. r)
-len_determined κs a r s x y p q = determined p q
+pub heap_new_determined : Determines 0 heap-new.Kinds.ps heap-new.Kinds.r heap-new.Reads.Learnt (λ κs r e. r)
+heap_new_determined κs a r s x y p q = same_heap (determined p.0 q.0) (determined p.1 q.1)
 
-pub room_determined : Determines 1 heap-room.Kinds.ps heap-room.Kinds.r heap-room.Reads.Learnt (λ κs r e. r.now)
-room_determined κs a r s x y p q = determined p.0 q.0
+pub heap_len_determined : Determines 1 heap-len.Kinds.ps heap-len.Kinds.r heap-len.Reads.Learnt (λ κs r e. r)
+heap_len_determined κs a r s x y p q = determined p q
 
-pub top_determined : Determines 1 heap-top.Kinds.ps heap-top.Kinds.r heap-top.Reads.Learnt (λ κs r e. r)
-top_determined κs a r s x y p q = determined p q
+pub heap_room_determined : Determines 1 heap-room.Kinds.ps heap-room.Kinds.r heap-room.Reads.Learnt (λ κs r e. r.now)
+heap_room_determined κs a r s x y p q = determined p.0 q.0
 
-pub put_in_determined : Determines {A = List BoxSpread × ℕ} 1 put_in.Kinds.ps put_in.Kinds.r put_in.Reads.Learnt
-    (λ κs r e. (e.0.now.room, e.0.now.len))
-put_in_determined κs a r s x y p q = both (determined p.0 q.0) (determined p.1 q.1)
+pub heap_top_determined : Determines 1 heap-top.Kinds.ps heap-top.Kinds.r heap-top.Reads.Learnt (λ κs r e. r)
+heap_top_determined κs a r s x y p q = determined p q
 
-pub take_out_determined : Determines {A = BoxSpread × List BoxSpread × ℕ} 1 take_out.Kinds.ps take_out.Kinds.r
-    take_out.Reads.Learnt (λ κs r e. (r, e.0.now.room, e.0.now.len))
+pub put_in_determined : Determines 1 put_in.Kinds.ps put_in.Kinds.r put_in.Reads.Learnt (λ κs r e. e.0.now)
+put_in_determined κs a r s x y p q = same_heap (determined p.0 q.0) (determined p.1 q.1)
+
+pub take_out_determined : Determines {A = BoxSpread × Heap} 1 take_out.Kinds.ps take_out.Kinds.r take_out.Reads.Learnt
+    (λ κs r e. (r, e.0.now))
 take_out_determined κs a r s x y p q =
-    λ i. (determined p.0 q.0 i, determined p.1.0 q.1.0 i, determined p.1.1 q.1.1 i)
+    both (determined p.0 q.0) (same_heap {x = x.0.now} {y = y.0.now} (determined p.1.0 q.1.0) (determined p.1.1 q.1.1))
 
 -- ---- rounds
 pub cut_boxes_determined : DeterminesIn {A = Boxes} 5 cut-boxes.Kinds.ps cut-boxes.Kinds.r cut-boxes.Reads.Learnt
@@ -469,22 +479,26 @@ pub cut_slowly_determined : Determines {A = CutRecord × Buffers} 5 cut-slowly.K
 cut_slowly_determined κs a r s x y p q = both (determined p.0 q.0) (determined p.1 q.1)
 
 -- ---- band
-pub band_number_determined : Determines 1 band-number.Kinds.ps band-number.Kinds.r band-number.Reads.Learnt
-    (λ κs r e. r)
-band_number_determined κs a r s x y p q = determined p q
+pub band_number_determined : Determines {A = Result (Unit {0}) Refusal} 1 band-number.Kinds.ps band-number.Kinds.r
+    band-number.Reads.Learnt (λ κs r e. r)
+band_number_determined κs a r s x y p q = answer_tells r s (determined p q)
 
-pub index_at_determined : Determines 4 index_at.Kinds.ps index_at.Kinds.r index_at.Reads.Learnt (λ κs r e. r)
+pub look_up_of_determined : Determines {A = Grid × List ℕ} 1 look-up-of.Kinds.ps look-up-of.Kinds.r
+    look-up-of.Reads.Learnt (λ κs r e. (r.g, r.map.now))
+look_up_of_determined κs a r s x y p q = both (determined p.0 q.0) (determined p.1 q.1)
+
+pub index_at_determined : Determines 3 index_at.Kinds.ps index_at.Kinds.r index_at.Reads.Learnt (λ κs r e. r)
 index_at_determined κs a r s x y p q = determined p q
 
 -- ---- mapper
-pub map_determined : Determines {A = ℕ × List ℕ} 3 map.Kinds.ps map.Kinds.r map.Reads.Learnt
+pub map_determined : Determines {A = Result (Unit {0}) Refusal × List ℕ} 3 map.Kinds.ps map.Kinds.r map.Reads.Learnt
     (λ κs r e. (r, e.1.1.1.1.1.1.0.now))
-map_determined κs a r s x y p q = both (determined p.0 q.0) (determined p.1 q.1)
+map_determined κs a r s x y p q = both (answer_tells r s (determined p.0 q.0)) (determined p.1 q.1)
 
 -- ---- painter
-pub paint_determined : Determines {A = ℕ × List ℕ} 3 paint.Kinds.ps paint.Kinds.r paint.Reads.Learnt
+pub paint_determined : Determines {A = Result (Unit {0}) Refusal × List ℕ} 3 paint.Kinds.ps paint.Kinds.r paint.Reads.Learnt
     (λ κs r e. (r, e.1.1.1.1.1.0.now))
-paint_determined κs a r s x y p q = both (determined p.0 q.0) (determined p.1 q.1)
+paint_determined κs a r s x y p q = both (answer_tells r s (determined p.0 q.0)) (determined p.1 q.1)
 
 -- ---- inputs
 pub begins_with_determined : Determines 2 begins-with.Kinds.ps begins-with.Kinds.r begins-with.Reads.Learnt (λ κs r e. r)
@@ -499,9 +513,9 @@ pub frame_number_determined : Determines 0 frame-number.Kinds.ps frame-number.Ki
 frame_number_determined κs a r s x y p q = determined p q
 
 -- ---- terminal
-pub nearest_determined : Determines {A = ℕ × List ℕ} 2 nearest.Kinds.ps nearest.Kinds.r nearest.Reads.Learnt
+pub nearest_determined : Determines {A = Result (Unit {0}) Refusal × List ℕ} 2 nearest.Kinds.ps nearest.Kinds.r nearest.Reads.Learnt
     (λ κs r e. (r, e.1.0.now))
-nearest_determined κs a r s x y p q = both (determined p.0 q.0) (determined p.1 q.1)
+nearest_determined κs a r s x y p q = both (answer_tells r s (determined p.0 q.0)) (determined p.1 q.1)
 
 -- ---- lines
 pub empty_table_determined : Determines 0 empty_table_lem.Kinds.ps empty_table_lem.Kinds.r empty_table_lem.Reads.Learnt

@@ -1,7 +1,6 @@
 -- `cutter::map::fill_plane` meets its contract: after each row the rows so far are filled.
 -- Assumes nothing.
 use mathlib.Core.Path.{◌≡◌, ap, ◌∙◌}
-use Prim.Native.Nat.{◌≤◌, ◌<◌}
 use native.Mathlib.Omega.{arith}
 use lib.ListN.{length}
 use Rattle.basics.specs.Dimension.{choose}

@@ -1,7 +1,6 @@
 -- `cutter::map::fill_plane` meets its contract: after each row the rows so far are filled.
 -- Assumes nothing.
 use mathlib.Core.Path.{◌≡◌}
-use Prim.Native.Nat.{◌≤◌}
 use Rattle.boxes.specs.Box.{low_side}
 use Rattle.boxes.specs.Holds.{holds_at, slice}
 use Rattle.cutter.specs.Inner.{fill_where}

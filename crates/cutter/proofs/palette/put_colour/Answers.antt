@@ -1,14 +1,8 @@
 -- `cutter::palette::put_colour` meets its contract: three means, written where they stand.
 -- Assumes nothing.
-use native.Mathlib.Omega.{arith}
-use borrow.Author.Rules.{rules}
-use lib.ListN.{length-set}
 use Rattle.cutter.specs.Inner.{stats_colour}
 use Rattle.cutter.proofs.Colours.{three_bytes}
 use Rattle.cutter.proofs.palette.put_colour.Goals as goal
-
-pub bounds-palette-at-2 : goal.bounds-palette-at-2
-bounds-palette-at-2 c = simp length-set (omega arith)
 
 pub returns : goal.returns
 unfolding stats_colour
