@@ -73,14 +73,8 @@ fn last_equal(colours: &[u8], at: usize, n: usize) -> bool
     requires { at + n ≤ length colours.now / 3 }
     ensures { result ≡ last_equal colours.now at n }
 {
-    if n == 0 {
-        return false;
-    }
     let end = at + n;
-    if end < 65 {
-        return false;
-    }
-    equal_colours(colours, end - 65)
+    n != 0 && 64 < end && equal_colours(colours, end - 65)
 }
 
 // Adds the last colours of a batch, at most 64: at once where they are seen to be equal, else each by itself. A replay
@@ -127,6 +121,7 @@ pub(crate) fn add_blocks<L: Layout>(
         (is_some weights.entry) (given weights.entry) 0 n }
 {
     let mut i = 0;
+    // No range: how many whole blocks leave 1 to 64 colours is (n - 1) / 64, and 0 of none, which says it less plainly.
     while 64 < n - i {
         add_block::<L>(steps, small, large, colours, weights, scale, i);
         i += 64;

@@ -31,9 +31,9 @@ fn share_of(x: Rgb, w: u64, squares: u64) -> Cell
 {
     Cell {
         weight: w,
-        sum1: w * (x.c1 as u64),
-        sum2: w * (x.c2 as u64),
-        sum3: w * (x.c3 as u64),
+        sum1: w * u64::from(x.c1),
+        sum2: w * u64::from(x.c2),
+        sum3: w * u64::from(x.c3),
         squares: w * squares,
     }
 }

@@ -47,9 +47,9 @@ impl Steps {
     pub(crate) fn look_up(&self, x: Rgb) -> u64
         ensures { result ≡ colour_place self.now.g x + 4294967296 * squares_of x }
     {
-        let i1 = x.c1 as usize;
-        let i2 = 256 + x.c2 as usize;
-        let i3 = 512 + x.c3 as usize;
+        let i1 = usize::from(x.c1);
+        let i2 = 256 + usize::from(x.c2);
+        let i3 = 512 + usize::from(x.c3);
         self.numbers[i1] + self.numbers[i2] + self.numbers[i3]
     }
 }

@@ -61,7 +61,7 @@ pub(crate) fn weight_at(weights: Option<&[u32]>, scale: u64, i: usize) -> u64
     ensures { result ≡ scale * cond (is_some weights.entry) (get_or (given weights.entry) i 0) 1 }
 {
     match weights {
-        Some(weights) => scale * weights[i] as u64,
+        Some(weights) => scale * u64::from(weights[i]),
         None => scale,
     }
 }

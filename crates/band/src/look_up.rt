@@ -39,8 +39,8 @@ impl<'a> LookUp<'a> {
     fn index_of(&self, x: Rgb) -> u8
         ensures { result ≡ get_or self.now.map.now (colour_place self.now.g x) 0 }
     {
-        let i1 = x.c1 as usize;
-        let i2 = x.c2 as usize;
+        let i1 = usize::from(x.c1);
+        let i2 = usize::from(x.c2);
         let p = self.t1[i1] + self.t2[i2] + bin_of(self.g.shift3, x.c3);
         self.map[p]
     }

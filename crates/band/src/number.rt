@@ -50,7 +50,7 @@ pub fn band_number(
     {
         return Err(Refusal::Length);
     }
-    if palette_colours <= largest(map) as usize {
+    if palette_colours <= usize::from(largest(map)) {
         return Err(Refusal::MapEntry);
     }
     Ok(())

@@ -10,13 +10,8 @@ pub fn to_front(space: &mut [u8], from: usize, filled: usize) -> usize
     ensures number { result ≡ filled - from }
     ensures later { space.new ≡ moved_up from filled space.old }
 {
-    let n = filled - from;
-    let mut i = 0;
-    while i < n {
-        space[i] = space[from + i];
-        i = i + 1;
-    }
-    n
+    space.copy_within(from..filled, 0);
+    filled - from
 }
 
 // The answer to a PPM by its header, by how many bytes followed it, and by the lowest refusal of their loads.

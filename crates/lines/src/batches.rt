@@ -8,8 +8,7 @@ use loader::load::load;
 pub fn empty_table() -> [u64; 2560]
     ensures { result ≡ empty_table }
 {
-    let zeros = [0; 2560];
-    zeros
+    [0; 2560]
 }
 
 // The lower of two answers, where 0 is no refusal.

@@ -2,7 +2,7 @@
 ghost use Rattle.std.specs.Prelude.{◌≡◌, ◌≤◌, length, drop};
 ghost use Rattle.ppm.specs.Header.{is_magic, is_side, image_of, header_of};
 
-use crate::fields::{Found, field, is_blank};
+use crate::fields::{field, is_blank};
 
 // An image: its width and height in pixels, and the place of its first pixel's byte in the file.
 #[derive(Clone, Copy)]
@@ -76,13 +76,13 @@ pub fn read_header(file: &[u8]) -> Header
     if !is_magic(file) {
         return Header::Malformed;
     }
-    let Found::Read(width) = field(file, 2) else {
+    let Some(width) = field(file, 2) else {
         return Header::Malformed;
     };
-    let Found::Read(height) = field(file, width.end) else {
+    let Some(height) = field(file, width.end) else {
         return Header::Malformed;
     };
-    let Found::Read(maximum) = field(file, height.end) else {
+    let Some(maximum) = field(file, height.end) else {
         return Header::Malformed;
     };
     image(file, width.value, height.value, maximum.value, maximum.end)

@@ -8,15 +8,17 @@ use crate::lists::Lists;
 use crate::row::Row;
 use crate::tell::Stop;
 use crate::words::{Kind, Name, Word};
+use basics::refusal::{self, Refusal};
 use loader::load::load;
 use loader::merge::merge;
 use mapper::call::map;
 use painter::call::paint;
 use std::alloc::AllocError;
+use table::layout::Wide;
 
 // What a call answers, as the number that a line has.
-fn number(answer: u8) -> u64 {
-    u64::from(answer)
+fn number(done: Result<(), Refusal>) -> u64 {
+    u64::from(refusal::answer(done))
 }
 
 // Loads the frame with the weights into the list that the line names.
@@ -25,7 +27,12 @@ fn load_frame(row: &Row, lists: &mut Lists) -> Result<u64, AllocError> {
     let frame = lent(lists.alloc, &lists.frame)?;
     let weights = lent(lists.alloc, &lists.weights)?;
     let table = lists.named_mut(row);
-    Ok(number(load(b1, b2, b3, table, &frame, row.number(6) == 1, &weights)))
+    let weights = if row.number(6) == 1 {
+        Some(weights.as_slice())
+    } else {
+        None
+    };
+    Ok(number(load::<Wide>(b1, b2, b3, &mut [], table, &frame, weights)))
 }
 
 // Adds the second table to the list that the line names, which may be that table.
@@ -33,7 +40,7 @@ fn merge_second(row: &Row, lists: &mut Lists) -> Result<u64, AllocError> {
     let (b1, b2, b3) = row.bins();
     let second = lists.second.clone()?;
     let table = lists.named_mut(row);
-    Ok(number(merge(b1, b2, b3, table, &second)))
+    Ok(number(merge::<Wide>(b1, b2, b3, &mut [], table, &[], &second)))
 }
 
 // Maps a band of the frame into the indices.

@@ -50,8 +50,7 @@ pub fn cut_boxes<L: Layout>(
         bounds: Bounds::whole(g),
         spread: f64::INFINITY,
     });
-    let rounds = all_rounds::<L>(small, large, smallwork, largework, source, g, k, &mut heap,
-    );
+    let rounds = all_rounds::<L>(small, large, smallwork, largework, source, g, k, &mut heap);
     Boxes {
         boxes: heap.len(),
         rounds,

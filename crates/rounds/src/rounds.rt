@@ -84,7 +84,9 @@ fn round<L: Layout>(
 {
     let top = heap.take_out();
     if 0.0 < top.spread {
-        cut_top::<L>(small, large, smallwork, largework, source, g, heap, top.bounds);
+        cut_top::<L>(
+            small, large, smallwork, largework, source, g, heap, top.bounds,
+        );
     } else {
         heap.put_in(top);
     }

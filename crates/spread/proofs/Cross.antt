@@ -30,12 +30,6 @@ use Rattle.sums.proofs.Corners.{cell_stats}
 use Rattle.spread.specs.Inner.{outer_of, inner_of, start_of, HasRecord, minus_stats, combined_stats, CanCombine}
 use Rattle.spread.proofs.Sides.{Exact, Less, stats_less}
 
-pub outer_rest : (d : ℕ) → (d ≡ 0 → ⊥) → outer_of d ≡ 0
-unfolding outer_of choose
-outer_rest zero n = absurd (n refl)
-outer_rest (suc zero) n = refl
-outer_rest (suc (suc d)) n = refl
-
 -- ---- runs of bins: those below n in dimension d, and a run in each of the two others
 pub cross_sum : Grid → View → ℕ → ℕ → ℕ → ℕ → ℕ → ℕ → ℕ → ℕ
 cross_sum g v d n a m c k j =

@@ -15,6 +15,7 @@ pub struct Position {
 }
 
 // The position between two sides, unless one of them is empty.
+#[tactic(auto, unfolding(crate::specs::Cut::position_of))]
 pub fn position_between(dimension: u8, bin: u8, low: Stats, high: Stats) -> Option<Position>
     requires { Plain low × Plain high }
     ensures { result ≡ position_of dimension bin low high }
@@ -30,6 +31,7 @@ pub fn position_between(dimension: u8, bin: u8, low: Stats, high: Stats) -> Opti
 }
 
 // Whether the later of two positions wins.
+#[tactic(auto, unfolding(crate::specs::Cut::later_wins))]
 pub(crate) fn later_wins(earlier: Option<Position>, later: Option<Position>) -> bool
     ensures { result ≡ later_wins earlier later }
 {
@@ -41,6 +43,7 @@ pub(crate) fn later_wins(earlier: Option<Position>, later: Option<Position>) -> 
 }
 
 // Of two positions the later where it wins, else the earlier.
+#[tactic(auto, unfolding(crate::specs::Cut::better))]
 pub fn better(earlier: Option<Position>, later: Option<Position>) -> Option<Position>
     ensures { result ≡ better_of earlier later }
 {

@@ -29,8 +29,8 @@ fn best_of(
 }
 
 // The best position of a box, or that it has none, with its two sides (`cut`), from where sums come from. Either search
-// is asked three times, so that the compiler leaves each a function of its own, and each walk is found here, where the
-// dimension is a constant.
+// is asked three times, so that the compiler leaves the two apart, and each walk is found here, where the dimension is a
+// constant.
 pub fn best_cut<L: Layout>(
     small: &[u32],
     large: &[u64],

@@ -7,6 +7,7 @@ use boxes::sides::Bounds;
 use sums::box_sums::{Stats, in_float};
 
 // Q/n.
+#[tactic(auto, unfolding(crate::specs::Spread::quotient_of))]
 fn quotient(s: Stats) -> f64
     requires { Plain s }
     ensures { result ≡ quotient_of s }
@@ -19,6 +20,7 @@ fn quotient(s: Stats) -> f64
 }
 
 // The spread of a box (`variance`).
+#[tactic(auto, unfolding(crate::specs::Spread::spread_of))]
 pub fn spread(x: Bounds, s: Stats) -> f64
     requires { Ordered x × Plain s }
     ensures { result ≡ spread_of x s }
@@ -30,6 +32,7 @@ pub fn spread(x: Bounds, s: Stats) -> f64
 }
 
 // The score of a position, from the statistics of its two sides.
+#[tactic(auto, unfolding(crate::specs::Spread::score_of))]
 pub fn score(low: Stats, high: Stats) -> f64
     requires { Plain low × Plain high }
     ensures { result ≡ score_of low high }

@@ -5,7 +5,7 @@ ghost use Rattle.table.specs.Layout.{laid, laid_view};
 ghost use Rattle.sums.specs.Inner.{moment_cell, line_cell, Before, Ready, with_moment};
 
 use crate::join::joined;
-use grid::place::Grid;
+use grid::place::{Grid, place};
 use table::cell::{Cell, ZEROS, plus};
 use table::layout::Layout;
 
@@ -65,8 +65,8 @@ fn inner_bin<L: Layout>(
     sum
 }
 
-// Writes the moments of such a row, given its first place, which is handed on from row to row, so that the compiler moves
-// its pointers on by it.
+// Writes the moments of such a row. It finds its first place itself: with the place handed on from row to row, the compiler
+// made a longer loop in the narrow layout.
 pub(crate) fn inner_row<L: Layout>(
     small: &[u32],
     large: &[u64],
@@ -75,14 +75,14 @@ pub(crate) fn inner_row<L: Layout>(
     g: Grid,
     r: usize,
     gr: usize,
-    start: usize,
 )
     requires ready { Ready L.layout g (laid L.layout small.now large.now)
         (laid L.layout smallwork.old largework.old) r gr 0 }
-    requires r_nonzero { (0 < r) × (0 < gr) × (start ≡ place_of g r gr 0) }
+    requires r_nonzero { (0 < r) × (0 < gr) }
     ensures { Before L.layout g (laid L.layout small.now large.now)
         (laid L.layout smallwork.new largework.new) (place_of g r gr 0 + g.size3) }
 {
+    let start = place(g, r, gr, 0);
     let mut line = ZEROS;
     for b in 0..g.size3 {
         line = inner_bin::<L>(

@@ -10,7 +10,7 @@ use crate::inner_rows::inner_row;
 use grid::place::Grid;
 use table::layout::Layout;
 
-// Writes the moments of a row of bins, given its first place: at the edge by one loop, elsewhere by another.
+// Writes the moments of a row of bins: at the edge by one loop, elsewhere by another.
 fn next_row<L: Layout>(
     small: &[u32],
     large: &[u64],
@@ -19,22 +19,20 @@ fn next_row<L: Layout>(
     g: Grid,
     r: usize,
     gr: usize,
-    start: usize,
 )
-    requires ready { Ready L.layout g (laid L.layout small.now large.now)
+    requires { Ready L.layout g (laid L.layout small.now large.now)
         (laid L.layout smallwork.old largework.old) r gr 0 }
-    requires start_value { start ≡ place_of g r gr 0 }
     ensures { Before L.layout g (laid L.layout small.now large.now)
         (laid L.layout smallwork.new largework.new) (place_of g r gr 0 + g.size3) }
 {
     if r == 0 || gr == 0 {
         edge_row::<L>(small, large, smallwork, largework, g, r, gr);
     } else {
-        inner_row::<L>(small, large, smallwork, largework, g, r, gr, start);
+        inner_row::<L>(small, large, smallwork, largework, g, r, gr);
     }
 }
 
-// Writes the moments of a plane of rows, given its first place.
+// Writes the moments of a plane of rows.
 fn next_plane<L: Layout>(
     small: &[u32],
     large: &[u64],
@@ -42,18 +40,14 @@ fn next_plane<L: Layout>(
     largework: &mut [u64],
     g: Grid,
     r: usize,
-    first: usize,
 )
-    requires ready { Ready L.layout g (laid L.layout small.now large.now)
+    requires { Ready L.layout g (laid L.layout small.now large.now)
         (laid L.layout smallwork.old largework.old) r 0 0 }
-    requires first_value { first ≡ place_of g r 0 0 }
     ensures { Before L.layout g (laid L.layout small.now large.now)
         (laid L.layout smallwork.new largework.new) (place_of g r 0 0 + g.size2 * g.size3) }
 {
-    let mut start = first;
     for gr in 0..g.size2 {
-        next_row::<L>(small, large, smallwork, largework, g, r, gr, start);
-        start += g.size3;
+        next_row::<L>(small, large, smallwork, largework, g, r, gr);
     }
 }
 
@@ -70,9 +64,7 @@ pub fn moments<L: Layout>(
     ensures { laid L.layout smallwork.new largework.new
         ≡ written_in L.layout (bins_of g) (moments_of g (laid_view L.layout small.now large.now)) }
 {
-    let mut first = 0;
     for r in 0..g.size1 {
-        next_plane::<L>(small, large, smallwork, largework, g, r, first);
-        first += g.size2 * g.size3;
+        next_plane::<L>(small, large, smallwork, largework, g, r);
     }
 }

@@ -19,17 +19,17 @@ is_bytes s =
 pub overflow_mul-result : goal.overflow_mul-result
 overflow_mul-result c =
     let s = c in
-    omega (arith, times_high 4294967295 255 s.args.w s.args.x.c1 s.requires.0 (omega arith))
+    rw c.from.ensures (omega (arith, times_high 4294967295 255 s.args.w s.args.x.c1 s.requires.0 (omega arith)))
 
 pub overflow_mul-result-2 : goal.overflow_mul-result-2
 overflow_mul-result-2 c =
     let s = c in
-    omega (arith, times_high 4294967295 255 s.args.w s.args.x.c2 s.requires.0 (omega arith))
+    rw c.from-2.ensures (omega (arith, times_high 4294967295 255 s.args.w s.args.x.c2 s.requires.0 (omega arith)))
 
 pub overflow_mul-result-3 : goal.overflow_mul-result-3
 overflow_mul-result-3 c =
     let s = c in
-    omega (arith, times_high 4294967295 255 s.args.w s.args.x.c3 s.requires.0 (omega arith))
+    rw c.from-3.ensures (omega (arith, times_high 4294967295 255 s.args.w s.args.x.c3 s.requires.0 (omega arith)))
 
 pub overflow_mul-result-4 : goal.overflow_mul-result-4
 overflow_mul-result-4 c =
@@ -44,4 +44,4 @@ pub returns : goal.returns
 unfolding share squares_of
 returns c =
     let s = c in
-    rw s.requires.1 (sym (cell_is (share (record { colour = s.args.x; weight = s.args.w }))))
+    rw (c.from.ensures, c.from-2.ensures, c.from-3.ensures, s.requires.1) (sym (cell_is (share (record { colour = s.args.x; weight = s.args.w }))))

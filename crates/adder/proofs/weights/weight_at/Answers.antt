@@ -9,13 +9,14 @@ bounds-weights-i c = let r = rw c.in-Some.is at c.requires.1 in r refl
 
 pub overflow_mul-result : goal.overflow_mul-result
 overflow_mul-result c =
-    omega (
+    rw c.from.ensures
+    (omega (
       arith,
       times_high 4096 4294967295 c.args.scale (get_or c.in-Some.weights.now c.args.i 0) c.requires.0 (omega arith),
-    )
+    ))
 
 pub returns-in-Some : goal.returns-in-Some
-returns-in-Some c = rw c.in-Some.is refl
+returns-in-Some c = rw (c.in-Some.is, c.from.ensures) refl
 
 pub returns-in-None : goal.returns-in-None
 returns-in-None c = rw c.in-None.is (sym (mul-one c.args.scale))

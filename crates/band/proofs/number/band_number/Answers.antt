@@ -1,6 +1,6 @@
 -- `band::number::band_number` meets its contract: the refusals in their order.
 -- Assumes nothing.
-use Rattle.std.proofs.Common.{sym, ◌∙◌}
+use Rattle.std.proofs.Common.{sym, ◌∙◌, ap, ℕ, ltb}
 use borrow.Author.Tests.{eq-eqb, ne_eqb, le-leb, lt-leb, lt-ltb, le-ltb, ltb-false, not-true, not-false}
 use Rattle.basics.specs.Answer.{refuse}
 use Rattle.band.specs.Band.{band_number}
@@ -23,9 +23,9 @@ returns-then-map-bins c =
       | then-map-bins-via-else-map-bins+else-palette_colours-lt1+else-palette_colours-gt256+else-not-fits+then-reaches_past w ↦ sym (simp (eq-eqb _ _ c.if-bytes-ne0.false, eq-eqb _ _ (w.if-map-bins.false ∙ c.bins.ensures), le-leb _ _ w.if-palette_colours-lt1.false, le-leb _ _ w.if-palette_colours-gt256.false, not-false c.args.fits w.if-not-fits.false-raw, sym w.reaches_past.ensures ∙ w.if-reaches_past.true))
     ]
 
-pub returns-then-palette_colours-largest : goal.returns-then-palette_colours-largest
+pub returns-then-palette_colours-from : goal.returns-then-palette_colours-from
 unfolding band_number refuse
-returns-then-palette_colours-largest c =
+returns-then-palette_colours-from c =
     sym (simp (
       eq-eqb _ _ c.if-bytes-ne0.false,
       eq-eqb _ _ (c.if-map-bins.false ∙ c.bins.ensures),
@@ -34,7 +34,8 @@ returns-then-palette_colours-largest c =
       not-false c.args.fits c.if-not-fits.false-raw,
       sym c.reaches_past.ensures ∙ c.if-reaches_past.false,
       sym (c.largest.ensures _ c.if-palette_colours-lt1.false)
-          ∙ le-ltb _ _ c.if-palette_colours-largest.true,
+          ∙ ap (λ (n : ℕ). ltb n c.args.palette_colours) (sym c.from.ensures)
+          ∙ le-ltb _ _ c.if-palette_colours-from.true,
     ))
 
 pub returns : goal.returns
@@ -47,5 +48,7 @@ returns c =
       few = c.if-palette_colours-gt256.false;
       is_fit = not-false c.args.fits c.if-not-fits.false-raw;
       inside = ltb-false _ _ (sym c.reaches_past.ensures ∙ c.if-reaches_past.false);
-      below = sym (c.largest.ensures _ c.if-palette_colours-lt1.false) ∙ lt-ltb _ _ c.if-palette_colours-largest.false;
+      below = sym (c.largest.ensures _ c.if-palette_colours-lt1.false)
+          ∙ ap (λ (n : ℕ). ltb n c.args.palette_colours) (sym c.from.ensures)
+          ∙ lt-ltb _ _ c.if-palette_colours-from.false;
     }))

@@ -2,7 +2,6 @@
 -- Assumes nothing.
 use mathlib.Core.Path.{refl}
 use native.Mathlib.Omega.{arith}
-use borrow.Author.Rules.{rules}
 use lib.Pow.{shr_le}
 use Rattle.grid.specs.Size.{bin_of}
 use Rattle.grid.proofs.dimension.bin_of.Goals as goal

@@ -4,7 +4,6 @@
 use Rattle.std.specs.Prelude.{None, Option, Some}
 use mathlib.Core.Path.{◌≡◌, refl, sym, ◌∙◌}
 use Prim.Native.Nat.{ℕ}
-use borrow.Author.Rules.{rules}
 use Rattle.grid.specs.Grid.{grid_of, grid_with}
 use Rattle.grid.specs.Size.{shift_of}
 use Rattle.grid.proofs.place.grid_of.Goals as goal

@@ -2,23 +2,13 @@
 -- Assumes nothing.
 use native.Mathlib.Omega.{arith}
 use Rattle.inputs.proofs.Answers.{few, is_malformed, is_maximum, is_other, is_whole}
-use borrow.Author.Rules.{rules}
 use Rattle.inputs.proofs.frames.frame_number.Goals as goal
-
-pub enum_known-header : goal.enum_known-header
-enum_known-header c = search rules
 
 pub overflow_mul-pixels : goal.overflow_mul-pixels
 overflow_mul-pixels c = omega (arith, few c.requires c.in-Image.is)
 
 pub overflow_mul-pixels-in-Image : goal.overflow_mul-pixels-in-Image
 overflow_mul-pixels-in-Image c = omega (arith, few c.requires c.in-Image.is)
-
-pub enum_told-1 : goal.enum_told-1
-enum_told-1 c = search rules
-
-pub enum_told-in-Malformed : goal.enum_told-in-Malformed
-enum_told-in-Malformed c = search rules
 
 pub returns-then-bytes-pixels : goal.returns-then-bytes-pixels
 returns-then-bytes-pixels c =

@@ -30,29 +30,17 @@ returns-then-file-end c =
     let a = s.args in
     sym (image_cut a.file.now a.width a.height a.maximum a.end s.requires (λ h. omega (arith, c.if-file-end.true)))
 
-pub bounds-file-end : goal.bounds-file-end
-bounds-file-end c = search rules
-
-pub is_blank-requires : goal.is_blank-requires
-is_blank-requires c = search rules
-
 pub returns-then-not-is_blank : goal.returns-then-not-is_blank
 returns-then-not-is_blank c =
     let a = c.args in
     sym (image_no_blank a.file.now a.width a.height a.maximum a.end (omega arith)
     (sym c.is_blank.ensures ∙ c.if-not-is_blank.true))
 
-pub is_side-requires : goal.is_side-requires
-is_side-requires c = search rules
-
 pub returns-then-not-is_side : goal.returns-then-not-is_side
 returns-then-not-is_side c =
     let f = (goal.at-returns-then-not-is_side c).Else-not-is_blank in
     let a = (start f).args in
     sym (image_no_width a.file.now a.width a.height a.maximum a.end (omega arith) (blank f) (sym c.is_side.ensures ∙ c.if-not-is_side.true))
-
-pub is_side-requires-2 : goal.is_side-requires-2
-is_side-requires-2 c = search rules
 
 pub returns-then-not-is_side-2 : goal.returns-then-not-is_side-2
 returns-then-not-is_side-2 c =
@@ -69,9 +57,6 @@ returns-then-maximum-ne255 c =
     let a = (start f).args in
     sym (image_maximum a.file.now a.width a.height a.maximum a.end (omega arith) (blank f) (wide e)
     (high (goal.at-returns-then-maximum-ne255 c).Else-not-is_side-2) c.if-maximum-ne255.true)
-
-pub overflow_add-result : goal.overflow_add-result
-overflow_add-result c = search rules
 
 pub returns : goal.returns
 returns c =

@@ -9,14 +9,8 @@ use Rattle.ppm.proofs.header.is_magic.Goals as goal
 pub returns-then-file-lt2 : goal.returns-then-file-lt2
 returns-then-file-lt2 c = sym (magic_short c.args.file.now c.if-file-lt2.true)
 
-pub bounds-file-0 : goal.bounds-file-0
-bounds-file-0 c = search rules
-
 pub returns-then-file-ne80 : goal.returns-then-file-ne80
 returns-then-file-ne80 c = sym (magic_other c.args.file.now c.if-file-ne80.true)
-
-pub bounds-file-1 : goal.bounds-file-1
-bounds-file-1 c = search rules
 
 pub returns : goal.returns
 returns c =

@@ -1,8 +1,7 @@
 -- `rounds::rounds::cut_top` meets its contract: no position puts the box back, and a position puts in its two sides.
 -- Assumes nothing.
-use Rattle.std.specs.Prelude.{Option, Some, None}
-use Rattle.std.proofs.lemmas.Option.{none-some, same_Some}
-use mathlib.Core.Path.{◌≡◌, refl, sym, ap, ◌∙◌}
+use Rattle.std.specs.Prelude.{Some}
+use mathlib.Core.Path.{◌≡◌, sym, ap, ◌∙◌}
 use native.Mathlib.Omega.{arith}
 use lib.Ieee.{of_bits}
 use Rattle.grid.specs.declared.place.Grid.{Grid}
@@ -12,16 +11,15 @@ use Rattle.boxes.specs.declared.sides.Bounds.{Bounds}
 use Rattle.boxes.specs.Box.{low_side, high_side, Ordered, Within}
 use Rattle.sums.specs.declared.box_sums.Stats.{Stats}
 use Rattle.sums.specs.Box.{stats_of}
-use Rattle.spread.specs.declared.position.Position.{Position}
 use Rattle.spread.specs.declared.both_sides.BestCut.{BestCut}
 use Rattle.spread.specs.Spread.{spread_of, Plain}
-use Rattle.spread.specs.Cut.{best_cut, sides_at, cut_at}
+use Rattle.spread.specs.Cut.{best_cut}
 use Rattle.spread.proofs.Choose.{plain_stats}
 use Rattle.heap.specs.declared.heap.BoxSpread.{BoxSpread}
 use Rattle.heap.specs.Heap.{put_in}
 use Rattle.rounds.specs.Loop.{by_spread, no_item, with_spread}
 use Rattle.boxes.proofs.Within.{within_ordered}
-use Rattle.spread.proofs.Cases.{low_box, high_box}
+use Rattle.spread.proofs.Cases.{position_in, cut_position, cut_low, cut_high, low_box, high_box}
 use Rattle.rounds.proofs.OneRound.{boxes_none, room_none, boxes_cut, room_cut}
 use Rattle.rounds.proofs.rounds.cut_top.Given.{Over}
 use Rattle.rounds.proofs.rounds.cut_top.Goals.{After-best_cut, Start}
@@ -29,22 +27,6 @@ use Rattle.rounds.proofs.rounds.cut_top.Goals as goal
 
 abbrev view : (ty : Over) → Start ty → View
 view ty s = laid_view ty.L.Layout.layout s.args.small.now s.args.large.now
-
--- what a search tells of the best position: that there is none, or which it is, with its two sides
-none_found : (g : Grid) (v : View) (x : Bounds) (p : Option Position) → cut_at g v x p ≡ None → p ≡ None
-unfolding cut_at
-none_found g v x None e = refl
-none_found g v x (Some p) e = absurd (none-some _ (sym e))
-
-found : (g : Grid) (v : View) (x : Bounds) (p : Option Position) (b : BestCut) → cut_at g v x p ≡ Some b
-    → (p ≡ Some b.position) × (b ≡ sides_at g v x b.position)
-unfolding cut_at sides_at
-found g v x None b e = absurd (none-some _ e)
-found g v x (Some p) b e =
-    let is = same_Some _ _ e in (
-      ap (λ (c : BestCut). Some c.position) is,
-      sym is ∙ ap (sides_at g v x) (ap (λ (c : BestCut). c.position) is),
-    )
 
 -- a box with the spread that its statistics give
 spread_is : (g : Grid) (v : View) {x y : Bounds} {r : Stats} {z : BoxSpread} → y ≡ x → r ≡ stats_of g v x
@@ -63,19 +45,17 @@ module _ (ty : Over) (k : After-best_cut ty) (b : BestCut) (q : k.best_cut.resul
   abbrev start : Start ty
   start = (goal.at-After-best_cut ty k).Start
 
-  all : (best_cut start.args.g (view ty start) start.args.x ≡ Some b.position)
-      × (b ≡ sides_at start.args.g (view ty start) start.args.x b.position)
-  all =
-      found start.args.g (view ty start) start.args.x (best_cut start.args.g (view ty start) start.args.x) b
-      (sym k.best_cut.ensures ∙ q)
+  best : best_cut start.args.g (view ty start) start.args.x ≡ Some b.position
+  best =
+      sym (cut_position start.args.g (view ty start) start.args.x
+      (best_cut start.args.g (view ty start) start.args.x))
+      ∙ ap position_in (sym k.best_cut.ensures ∙ q)
 
   the_low : b.low ≡ stats_of start.args.g (view ty start) (low_side start.args.x b.position.dimension b.position.bin)
-  unfolding sides_at
-  the_low = ap (λ (c : BestCut). c.low) all.1
+  the_low = cut_low start.args.g (view ty start) start.args.x best (sym k.best_cut.ensures ∙ q)
 
   the_high : b.high ≡ stats_of start.args.g (view ty start) (high_side start.args.x b.position.dimension b.position.bin)
-  unfolding sides_at
-  the_high = ap (λ (c : BestCut). c.high) all.1
+  the_high = cut_high start.args.g (view ty start) start.args.x best (sym k.best_cut.ensures ∙ q)
 
 pub returns-in_default : goal.returns-in_default
 unfolding of_bits
@@ -83,7 +63,10 @@ returns-in_default ty c =
     let g = c.args.g in
     let v = laid_view ty.L.Layout.layout c.args.small.now c.args.large.now in
     let h = c.args.heap.now in
-    let q = none_found g v c.args.x (best_cut g v c.args.x) (sym c.best_cut.ensures ∙ c.in_default.is) in record {
+    let q =
+    sym (cut_position g v c.args.x (best_cut g v c.args.x)) ∙ ap position_in (sym c.best_cut.ensures ∙ c.in_default.is)
+    in
+    record {
       boxes = c.put_in.ensures.len ∙ sym (boxes_none g v h.room h.len c.args.x q);
       room = c.put_in.ensures.room ∙ sym (room_none g v h.room h.len c.args.x q);
     }
@@ -94,7 +77,7 @@ with_spread-low-requires ty c =
     let b = c.in-Some.best in
     let q = c.in-Some.is in
     let s = start ty k b q in
-    fits ty s (low_box (view ty s) s.requires.can_sum.1 (all ty k b q).0) c.low_side.ensures (the_low ty k b q)
+    fits ty s (low_box (view ty s) s.requires.can_sum.1 (best ty k b q)) c.low_side.ensures (the_low ty k b q)
 
 pub with_spread-high-requires : goal.with_spread-high-requires
 with_spread-high-requires ty c =
@@ -102,7 +85,7 @@ with_spread-high-requires ty c =
     let b = c.in-Some.best in
     let q = c.in-Some.is in
     let s = start ty k b q in
-    fits ty s (high_box (view ty s) s.requires.can_sum.1 (all ty k b q).0) c.high_side.ensures (the_high ty k b q)
+    fits ty s (high_box (view ty s) s.requires.can_sum.1 (best ty k b q)) c.high_side.ensures (the_high ty k b q)
 
 pub returns : goal.returns
 returns ty c =
@@ -112,7 +95,7 @@ returns ty c =
     let g = c.args.g in
     let v = laid_view ty.L.Layout.layout c.args.small.now c.args.large.now in
     let h = c.args.heap.now in
-    let best = (all ty k b q).0 in
+    let best = best ty k b q in
     let low = spread_is g v c.low_side.ensures (the_low ty k b q) c.with_spread-low.ensures in
     let high = spread_is g v c.high_side.ensures (the_high ty k b q) c.with_spread-high.ensures in record {
       boxes = omega (arith, boxes_cut g v h.room h.len c.args.x best);

@@ -26,9 +26,6 @@ pub edge_bin-line-requires-clause-ready : goal.edge_bin-line-requires-clause-rea
 edge_bin-line-requires-clause-ready g c =
     row_ready (inside g (goal.at-edge_bin-line-requires-clause-ready g c).In-loop-b) c.loop-b.invariant.1
 
-pub edge_bin-line-requires-clause-line_value : goal.edge_bin-line-requires-clause-line_value
-edge_bin-line-requires-clause-line_value g c = c.loop-b.invariant.0
-
 pub loop-b-preserved : goal.loop-b-preserved
 loop-b-preserved g c =
     let l = c.loop-b in

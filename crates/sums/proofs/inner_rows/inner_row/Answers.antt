@@ -22,7 +22,7 @@ overflow_add-start g c =
     let i = c.requires.ready.inside in
     omega (
       arith,
-      c.requires.r_nonzero.2,
+      c.place-start.ensures,
       place_lt i,
       bins_high i.accepted,
       size_high (three i.accepted),
@@ -39,14 +39,11 @@ pub inner_bin-line-requires-clause-ready : goal.inner_bin-line-requires-clause-r
 inner_bin-line-requires-clause-ready g c =
     row_ready (inside g (goal.at-inner_bin-line-requires-clause-ready g c).In-loop-b) c.loop-b.invariant.1
 
-pub inner_bin-line-requires-clause-line_value : goal.inner_bin-line-requires-clause-line_value
-inner_bin-line-requires-clause-line_value g c = c.loop-b.invariant.0
-
 pub inner_bin-line-requires-clause-r_nonzero : goal.inner_bin-line-requires-clause-r_nonzero
 inner_bin-line-requires-clause-r_nonzero g c =
     let h = c.requires.r_nonzero in
     let b = c.loop-b.b in
-    (h.0, h.1, ap (λ (n : ℕ). n + b) h.2 ∙ place_along c.args.g c.args.r c.args.gr b)
+    (h.0, h.1, ap (λ (n : ℕ). n + b) c.place-start.ensures ∙ place_along c.args.g c.args.r c.args.gr b)
 
 pub loop-b-preserved : goal.loop-b-preserved
 loop-b-preserved g c =

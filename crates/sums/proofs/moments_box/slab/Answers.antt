@@ -5,7 +5,7 @@ use Rattle.table.specs.Layout.{laid_view}
 use Rattle.sums.specs.Inner.{bin_cell}
 use Rattle.bins.specs.Sum.{bin_sum}
 use Rattle.bins.proofs.Runs.{second_from}
-use Rattle.sums.proofs.Corners.{from_least, from_is, from_start, row_inside, row_is, row_fits, fewer_rows}
+use Rattle.sums.proofs.Corners.{from_least, from_is, row_is, row_fits, fewer_rows}
 use Rattle.sums.proofs.moments_box.slab.Given.{Over}
 use Rattle.sums.proofs.moments_box.slab.Goals.{Start}
 use Rattle.sums.proofs.moments_box.slab.Goals as goal
@@ -21,9 +21,6 @@ split g s a e j h =
     second_from s.args.g (laid_view g.L.Layout.layout s.args.small.now s.args.large.now) 0 s.args.r a e s.args.x.b0
     (s.args.x.b1 - s.args.x.b0) j h
 
-pub place-requires : goal.place-requires
-place-requires g c = row_inside c.requires.corner.0
-
 pub overflow_add-last : goal.overflow_add-last
 overflow_add-last g c =
     omega (arith, row_fits c.requires.corner.0 c.requires.plane_value c.place.ensures)
@@ -31,16 +28,6 @@ overflow_add-last g c =
 pub bins_from-upper-requires-clause-row_value : goal.bins_from-upper-requires-clause-row_value
 bins_from-upper-requires-clause-row_value g c =
     row_is c.requires.corner.0 c.requires.plane_value c.place.ensures
-
-pub returns-then-g0-eq0 : goal.returns-then-g0-eq0
-unfolding bin_cell
-returns-then-g0-eq0 g c =
-    let s = (goal.at-returns-then-g0-eq0 g c).Start in
-    from_start (rows g s) (split g s) c.requires.corner.1 c.bins_from-upper.ensures c.if-g0-eq0.true
-
-pub place-requires-2 : goal.place-requires-2
-place-requires-2 g c =
-    row_inside (fewer_rows c.requires.corner.0 c.requires.corner.1 (omega (arith, c.if-g0-eq0.false)))
 
 pub overflow_add-before : goal.overflow_add-before
 overflow_add-before g c =

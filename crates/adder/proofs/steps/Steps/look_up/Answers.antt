@@ -14,13 +14,17 @@ pub overflow_add-result : goal.overflow_add-result
 overflow_add-result c =
     let t = c.args.self.now.filled in
     let b = is_bytes (goal.at-overflow_add-result c).Start in
-    omega (arith, looked_up t b, place_small t b, squares_small b)
+    rw (c.from-i1.ensures, c.from-i2.ensures)
+    (omega (arith, looked_up t b, place_small t b, squares_small b))
 
 pub overflow_add-result-2 : goal.overflow_add-result-2
 overflow_add-result-2 c =
     let t = c.args.self.now.filled in
     let b = is_bytes (goal.at-overflow_add-result-2 c).Start in
-    omega (arith, looked_up t b, place_small t b, squares_small b)
+    rw (c.from-i1.ensures, c.from-i2.ensures, c.from-i3.ensures)
+    (omega (arith, looked_up t b, place_small t b, squares_small b))
 
 pub returns : goal.returns
-returns c = looked_up c.args.self.now.filled (is_bytes (goal.at-returns c).Start)
+returns c =
+    rw (c.from-i1.ensures, c.from-i2.ensures, c.from-i3.ensures)
+    (looked_up c.args.self.now.filled (is_bytes (goal.at-returns c).Start))
