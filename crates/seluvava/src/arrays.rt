@@ -22,9 +22,7 @@ pub(crate) fn check_room(
 ) -> Result<(), Refusal>
     ensures { answer_of result ≡ room_number b1 b2 b3 k boxes spreads }
 {
-    if grid_of(b1, b2, b3).is_none() {
-        return Err(Refusal::Grid);
-    }
+    grid_of(b1, b2, b3).ok_or(Refusal::Grid)?;
     if k < 1 || 256 < k {
         return Err(Refusal::BoxCount);
     }

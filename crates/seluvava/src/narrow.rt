@@ -14,7 +14,7 @@ use basics::refusal::answer;
 use loader::load::load;
 use loader::merge::merge;
 use sums::source::Source;
-use table::layout::Narrow;
+use table::layout;
 use widen::call::widen;
 
 // Adds a batch of colours to a narrow table.
@@ -36,7 +36,7 @@ pub fn seluvava_narrow_load(
         weighted weights.now }
 {
     let weights = if weighted { Some(weights) } else { None };
-    answer(load::<Narrow>(b1, b2, b3, sums, squares, colours, weights))
+    answer(load::<layout::Narrow>(b1, b2, b3, sums, squares, colours, weights))
 }
 
 // Adds a second narrow table into a first.
@@ -56,7 +56,7 @@ pub fn seluvava_narrow_merge(
         ≡ merge_later_in Narrow b1 b2 b3 (narrow_table sums.old squares.old)
         (narrow_table secondsums.now secondsquares.now) }
 {
-    answer(merge::<Narrow>(b1, b2, b3, sums, squares, secondsums, secondsquares))
+    answer(merge::<layout::Narrow>(b1, b2, b3, sums, squares, secondsums, secondsquares))
 }
 
 // Cuts a narrow table into at most k boxes; all but the tables is as for a wide one.
@@ -92,7 +92,7 @@ pub fn seluvava_narrow_cut(
         counts.old remainders.old map.old)
         boxes.old spreads.old) }
 {
-    cut_and_write::<Narrow>(
+    cut_and_write::<layout::Narrow>(
         Source::Moments,
         b1,
         b2,
@@ -144,7 +144,7 @@ pub fn seluvava_narrow_cut_slowly(
 {
     let mut smallwork = [0u32; 0];
     let mut largework = [0u64; 0];
-    cut_and_write::<Narrow>(
+    cut_and_write::<layout::Narrow>(
         Source::Bins,
         b1,
         b2,
