@@ -233,4 +233,5 @@ pub filled : (f : ℕ → ℕ) (old new : List ℕ) (a k x : ℕ) → a + k ≤ 
 filled f old new a k x fits is at =
     let long = part_length a k old fits in
     part_back a k f old new fits (ap length is ∙ length-replicate _ x ∙ long)
-    (λ i h. ap (λ (t : List ℕ). get_or t i 0) is ∙ get_or-replicate _ i x 0 (rw long h) ∙ at (a + i) (omega arith) (omega arith))
+    (λ i h. ap (λ (t : List ℕ). get_or t i 0) is ∙ get_or-replicate _ i x 0 (rw long h)
+    ∙ at (a + i) (omega arith) (omega arith))

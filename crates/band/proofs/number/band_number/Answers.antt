@@ -5,7 +5,11 @@ use borrow.Author.Tests.{eq-eqb, ne_eqb, le-leb, lt-leb, lt-ltb, le-ltb, ltb-fal
 use Rattle.basics.specs.Answer.{refuse}
 use Rattle.band.specs.Band.{band_number}
 use Rattle.band.proofs.Numbers.{band_accepted}
-use Rattle.band.proofs.number.band_number.Goals.{then-map-bins-via-then-map-bins, then-map-bins-via-else-map-bins+then-palette_colours-lt1, then-map-bins-via-else-map-bins+else-palette_colours-lt1+then-palette_colours-gt256, then-map-bins-via-else-map-bins+else-palette_colours-lt1+else-palette_colours-gt256+then-not-fits, then-map-bins-via-else-map-bins+else-palette_colours-lt1+else-palette_colours-gt256+else-not-fits+then-reaches_past}
+use Rattle.band.proofs.number.band_number.Goals.{then-map-bins-via-then-map-bins}
+use Rattle.band.proofs.number.band_number.Goals.{then-map-bins-via-else-map-bins+then-palette_colours-lt1}
+use Rattle.band.proofs.number.band_number.Goals.{then-map-bins-via-else-map-bins+else-palette_colours-lt1+then-palette_colours-gt256}
+use Rattle.band.proofs.number.band_number.Goals.{then-map-bins-via-else-map-bins+else-palette_colours-lt1+else-palette_colours-gt256+then-not-fits}
+use Rattle.band.proofs.number.band_number.Goals.{then-map-bins-via-else-map-bins+else-palette_colours-lt1+else-palette_colours-gt256+else-not-fits+then-reaches_past}
 use Rattle.band.proofs.number.band_number.Goals as goal
 
 pub returns-then-bytes-ne0 : goal.returns-then-bytes-ne0
@@ -16,11 +20,41 @@ pub returns-then-map-bins : goal.returns-then-map-bins
 unfolding band_number refuse
 returns-then-map-bins c =
     elim c.then-map-bins.branch [
-      | then-map-bins-via-then-map-bins w ↦ sym (simp (eq-eqb _ _ c.if-bytes-ne0.false, ne_eqb _ _ (λ e. w.if-map-bins.true (e ∙ sym c.bins.ensures))))
-      | then-map-bins-via-else-map-bins+then-palette_colours-lt1 w ↦ sym (simp (eq-eqb _ _ c.if-bytes-ne0.false, eq-eqb _ _ (w.if-map-bins.false ∙ c.bins.ensures), lt-leb _ _ w.if-palette_colours-lt1.true))
-      | then-map-bins-via-else-map-bins+else-palette_colours-lt1+then-palette_colours-gt256 w ↦ sym (simp (eq-eqb _ _ c.if-bytes-ne0.false, eq-eqb _ _ (w.if-map-bins.false ∙ c.bins.ensures), le-leb _ _ w.if-palette_colours-lt1.false, lt-leb _ _ w.if-palette_colours-gt256.true))
-      | then-map-bins-via-else-map-bins+else-palette_colours-lt1+else-palette_colours-gt256+then-not-fits w ↦ sym (simp (eq-eqb _ _ c.if-bytes-ne0.false, eq-eqb _ _ (w.if-map-bins.false ∙ c.bins.ensures), le-leb _ _ w.if-palette_colours-lt1.false, le-leb _ _ w.if-palette_colours-gt256.false, not-true c.args.fits w.if-not-fits.true-raw))
-      | then-map-bins-via-else-map-bins+else-palette_colours-lt1+else-palette_colours-gt256+else-not-fits+then-reaches_past w ↦ sym (simp (eq-eqb _ _ c.if-bytes-ne0.false, eq-eqb _ _ (w.if-map-bins.false ∙ c.bins.ensures), le-leb _ _ w.if-palette_colours-lt1.false, le-leb _ _ w.if-palette_colours-gt256.false, not-false c.args.fits w.if-not-fits.false-raw, sym w.reaches_past.ensures ∙ w.if-reaches_past.true))
+      | then-map-bins-via-then-map-bins w ↦
+          sym (simp (
+            eq-eqb _ _ c.if-bytes-ne0.false,
+            ne_eqb _ _ (λ e. w.if-map-bins.true (e ∙ sym c.bins.ensures)),
+          ))
+      | then-map-bins-via-else-map-bins+then-palette_colours-lt1 w ↦
+          sym (simp (
+            eq-eqb _ _ c.if-bytes-ne0.false,
+            eq-eqb _ _ (w.if-map-bins.false ∙ c.bins.ensures),
+            lt-leb _ _ w.if-palette_colours-lt1.true,
+          ))
+      | then-map-bins-via-else-map-bins+else-palette_colours-lt1+then-palette_colours-gt256 w ↦
+          sym (simp (
+            eq-eqb _ _ c.if-bytes-ne0.false,
+            eq-eqb _ _ (w.if-map-bins.false ∙ c.bins.ensures),
+            le-leb _ _ w.if-palette_colours-lt1.false,
+            lt-leb _ _ w.if-palette_colours-gt256.true,
+          ))
+      | then-map-bins-via-else-map-bins+else-palette_colours-lt1+else-palette_colours-gt256+then-not-fits w ↦
+          sym (simp (
+            eq-eqb _ _ c.if-bytes-ne0.false,
+            eq-eqb _ _ (w.if-map-bins.false ∙ c.bins.ensures),
+            le-leb _ _ w.if-palette_colours-lt1.false,
+            le-leb _ _ w.if-palette_colours-gt256.false,
+            not-true c.args.fits w.if-not-fits.true-raw,
+          ))
+      | then-map-bins-via-else-map-bins+else-palette_colours-lt1+else-palette_colours-gt256+else-not-fits+then-reaches_past w ↦
+          sym (simp (
+            eq-eqb _ _ c.if-bytes-ne0.false,
+            eq-eqb _ _ (w.if-map-bins.false ∙ c.bins.ensures),
+            le-leb _ _ w.if-palette_colours-lt1.false,
+            le-leb _ _ w.if-palette_colours-gt256.false,
+            not-false c.args.fits w.if-not-fits.false-raw,
+            sym w.reaches_past.ensures ∙ w.if-reaches_past.true,
+          ))
     ]
 
 pub returns-then-palette_colours-from : goal.returns-then-palette_colours-from

@@ -15,14 +15,16 @@ map_four-requires c = (omega (arith, c.requires), omega (arith, c.requires))
 pub loop-k-preserved : goal.loop-k-preserved
 loop-k-preserved c =
     let a = c.args in
+    let m = a.look_up.now in
     let l = c.loop-k in
     let more : 4 * l.k + 4 ≡ 4 * (l.k + 1) = omega arith in
-    band_more (index_at a.look_up.now.g a.look_up.now.map.now a.part.now) a.indices.now a.from (4 * l.k) 4
+    band_more (index_at m.g m.map.now a.part.now) a.indices.now a.from (4 * l.k) 4
     (4 * (l.k + 1)) l.indices _ l.invariant c.map_four.ensures more
 
 pub returns : goal.returns
 returns c =
     let a = c.args in
+    let m = a.look_up.now in
     let all : 4 * c.loop-k.k ≡ 64 = omega arith in
     c.loop-k.invariant
-    ∙ ap (λ (n : ℕ). write_band a.from n (index_at a.look_up.now.g a.look_up.now.map.now a.part.now) a.indices.now) all
+    ∙ ap (λ (n : ℕ). write_band a.from n (index_at m.g m.map.now a.part.now) a.indices.now) all

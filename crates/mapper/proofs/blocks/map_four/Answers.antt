@@ -18,6 +18,7 @@ bounds-indices-i-4 c = simp length-set (omega (arith, c.requires))
 pub returns : goal.returns
 returns c =
     let a = c.args in
-    band_four (index_at a.look_up.now.g a.look_up.now.map.now a.part.now) a.indices.now a.i _ _ _ _
+    let m = a.look_up.now in
+    band_four (index_at m.g m.map.now a.part.now) a.indices.now a.i _ _ _ _
     c.index_at-a.ensures c.index_at-b.ensures
     c.index_at-c.ensures c.index_at-d.ensures (omega (arith, c.requires))

@@ -12,13 +12,15 @@ loop-k-init c = band_empty _ _ _
 pub loop-k-preserved : goal.loop-k-preserved
 loop-k-preserved c =
     let a = c.args in
+    let m = a.look_up.now in
     let l = c.loop-k in
-    band_next (index_at a.look_up.now.g a.look_up.now.map.now a.part.now) a.indices.now a.from l.k _ l.indices
+    band_next (index_at m.g m.map.now a.part.now) a.indices.now a.from l.k _ l.indices
     l.invariant c.index_at.ensures (omega (arith, c.requires))
 
 pub returns : goal.returns
 returns c =
     let a = c.args in
+    let m = a.look_up.now in
     let all : c.loop-k.k ≡ a.count = omega arith in
     c.loop-k.invariant
-    ∙ ap (λ (n : ℕ). write_band a.from n (index_at a.look_up.now.g a.look_up.now.map.now a.part.now) a.indices.now) all
+    ∙ ap (λ (n : ℕ). write_band a.from n (index_at m.g m.map.now a.part.now) a.indices.now) all

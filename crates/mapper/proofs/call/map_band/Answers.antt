@@ -10,7 +10,9 @@ use Rattle.mapper.proofs.call.map_band.Goals as goal
 pub returns : goal.returns
 returns c =
     let a = c.args in
+    let m = c.of-look_up in
+    let k = 3 * (a.first + a.pixels) - 3 * a.first in
     part_written a.first a.pixels _ _ _ a.indices.now _ c.requires.inside.1
     (part_length a.first a.pixels a.indices.now c.requires.inside.1) c.map_part.ensures
-    (λ i h. (λ t. index_at (c.of-look_up.ensures.grid t) (c.of-look_up.ensures.map t) (take (3 * (a.first + a.pixels) - 3 * a.first) (drop (3 * a.first) a.frame.now)) i) ∙ part_index a.g a.map.now a.frame.now a.first (3 * (a.first + a.pixels) - 3 * a.first) i
-    (omega arith))
+    (λ i h. (λ t. index_at (m.ensures.grid t) (m.ensures.map t) (take k (drop (3 * a.first) a.frame.now)) i)
+    ∙ part_index a.g a.map.now a.frame.now a.first k i (omega arith))

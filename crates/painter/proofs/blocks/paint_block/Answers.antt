@@ -8,7 +8,8 @@ use Rattle.painter.proofs.blocks.paint_block.Goals as goal
 pub returns-then-equal_colours : goal.returns-then-equal_colours
 returns-then-equal_colours c =
     let a = c.args in
+    let b = a.brush.now in
     let part = a.part.now in
     c.fill_pixels.ensures
-    ∙ run_alike a.brush.now.look_up.g a.brush.now.look_up.map.now a.brush.now.packed part a.first 64 _ c.painted-v.ensures
+    ∙ run_alike b.look_up.g b.look_up.map.now b.packed part a.first 64 _ c.painted-v.ensures
     (run_colour part a.first (sym c.equal_colours.ensures ∙ c.if-equal_colours.true))

@@ -16,10 +16,11 @@ paint_block-requires c = omega (arith, c.requires, c.saturating_sub-blocks.ensur
 pub loop-block-preserved : goal.loop-block-preserved
 loop-block-preserved c =
     let a = c.args in
+    let b = a.brush.now in
     let l = c.loop-block in
     let more : 64 * l.block + 64 ≡ 64 * (l.block + 1) = omega arith in
-    painted_on a.brush.now.look_up.g a.brush.now.look_up.map.now a.brush.now.packed a.part.now l.part _ (64 * l.block) 64 l.invariant c.paint_block.ensures
-    ∙ ap (painted_for a.brush.now.look_up.g a.brush.now.look_up.map.now a.brush.now.packed a.part.now 0) more
+    painted_on b.look_up.g b.look_up.map.now b.packed a.part.now l.part _ (64 * l.block) 64 l.invariant c.paint_block.ensures
+    ∙ ap (painted_for b.look_up.g b.look_up.map.now b.packed a.part.now 0) more
 
 pub paint_some-requires : goal.paint_some-requires
 paint_some-requires c = omega (arith, c.requires, c.saturating_sub-blocks.ensures)
@@ -27,6 +28,7 @@ paint_some-requires c = omega (arith, c.requires, c.saturating_sub-blocks.ensure
 pub returns : goal.returns
 returns c =
     let a = c.args in
+    let b = a.brush.now in
     let all : c.loop-block.block ≡ c.saturating_sub-blocks.result / 64 = omega arith in
-    painted_rest a.brush.now.look_up.g a.brush.now.look_up.map.now a.brush.now.packed a.part.now c.loop-block.part _ (64 * (c.saturating_sub-blocks.result / 64)) c.requires
+    painted_rest b.look_up.g b.look_up.map.now b.packed a.part.now c.loop-block.part _ (64 * (c.saturating_sub-blocks.result / 64)) c.requires
     (omega (arith, c.saturating_sub-blocks.ensures)) (rw all at c.loop-block.invariant) c.paint_some.ensures

@@ -13,13 +13,15 @@ loop-k-init c = band_empty _ _ _
 pub loop-k-preserved : goal.loop-k-preserved
 loop-k-preserved c =
     let a = c.args in
+    let b = a.brush.now in
     let l = c.loop-k in
     c.put_packed.ensures
-    ∙ painted_next a.brush.now.look_up.g a.brush.now.look_up.map.now a.brush.now.packed a.part.now a.first l.k _ l.part l.invariant c.painted-v.ensures
+    ∙ painted_next b.look_up.g b.look_up.map.now b.packed a.part.now a.first l.k _ l.part l.invariant c.painted-v.ensures
 
 pub returns : goal.returns
 returns c =
     let a = c.args in
+    let b = a.brush.now in
     let l = c.loop-k in
     let all : l.k ≡ a.pixels = omega arith in
-    l.invariant ∙ ap (painted_for a.brush.now.look_up.g a.brush.now.look_up.map.now a.brush.now.packed a.part.now a.first) all
+    l.invariant ∙ ap (painted_for b.look_up.g b.look_up.map.now b.packed a.part.now a.first) all

@@ -33,21 +33,25 @@ place_is s p q e =
     ))
 
 inside : (s : Start) → colour_place s.args.self.now.g s.args.x < length s.args.self.now.map.now
-inside s = omega (arith, colour_place_lt s.args.self.now.ready.of_grid.accepted (bytes s), s.args.self.now.ready.of_grid.lent)
+inside s =
+    let of_grid = s.args.self.now.ready.of_grid in omega (arith, colour_place_lt of_grid.accepted (bytes s), of_grid.lent)
 
 -- and it is small
 small : (s : Start) → colour_place s.args.self.now.g s.args.x < 2 ^ 64
 small s = omega (arith, inside s)
 
 pub overflow_add-p : goal.overflow_add-p
-overflow_add-p c = let s = (goal.at-overflow_add-p c).Start in omega (arith, place_is s c.from-i1.ensures c.from-i2.ensures refl, small s)
+overflow_add-p c =
+    let s = (goal.at-overflow_add-p c).Start in
+    omega (arith, place_is s c.from-i1.ensures c.from-i2.ensures refl, small s)
 
 pub bin_of-requires : goal.bin_of-requires
 bin_of-requires c = omega (arith, (three c.args.self.now.ready.of_grid.accepted).few)
 
 pub overflow_add-p-2 : goal.overflow_add-p-2
 overflow_add-p-2 c =
-    let s = (goal.at-overflow_add-p-2 c).Start in omega (arith, place_is s c.from-i1.ensures c.from-i2.ensures c.bin_of.ensures, small s)
+    let s = (goal.at-overflow_add-p-2 c).Start in
+    omega (arith, place_is s c.from-i1.ensures c.from-i2.ensures c.bin_of.ensures, small s)
 
 pub bounds-self-p : goal.bounds-self-p
 bounds-self-p c =
