@@ -10,7 +10,14 @@ use loader::load::load;
 use table::layout::Wide;
 
 // Loads the pixels of an image whose header was read.
-fn load_frame(b1: usize, b2: usize, b3: usize, table: &mut [u64], file: &[u8], f: Frame) -> Result<(), Refusal>
+fn load_frame(
+    b1: usize,
+    b2: usize,
+    b3: usize,
+    table: &mut [u64],
+    file: &[u8],
+    f: Frame,
+) -> Result<(), Refusal>
     requires { InFile (length file.now) f }
     ensures number { answer_of result ≡ frame_number b1 b2 b3 table.old file.now f }
     ensures later { table.new ≡ frame_later b1 b2 b3 table.old file.now f }
@@ -24,7 +31,13 @@ fn load_frame(b1: usize, b2: usize, b3: usize, table: &mut [u64], file: &[u8], f
 }
 
 // Adds the pixels of a PPM to a table.
-pub fn load_ppm(b1: usize, b2: usize, b3: usize, table: &mut [u64], file: &[u8]) -> Result<(), Refusal>
+pub fn load_ppm(
+    b1: usize,
+    b2: usize,
+    b3: usize,
+    table: &mut [u64],
+    file: &[u8],
+) -> Result<(), Refusal>
     ensures number { answer_of result ≡ ppm_number b1 b2 b3 table.old file.now }
     ensures later { table.new ≡ ppm_later b1 b2 b3 table.old file.now }
 {

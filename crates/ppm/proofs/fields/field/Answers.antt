@@ -28,10 +28,10 @@ returns-then-file-end c =
     let g = gap_there (has_blank false rest) (behind f (after_gap false rest)) c.in_ok-end.ensures in
     elim c.then-file-end.branch [
       | then-file-end-via-then-file-end w ↦
-        field_cut f c.args.at c.requires g.1 (λ h. omega (arith, w.if-file-end.true))
+          field_cut f c.args.at c.requires g.1 (λ h. omega (arith, w.if-file-end.true))
       | then-file-end-via-else-file-end+then-not-is_digit w ↦
-        field_no_digit f c.args.at c.requires g.1 (omega (arith, w.if-file-end.false))
-            (sym w.is_digit.ensures ∙ w.if-not-is_digit.true)
+          field_no_digit f c.args.at c.requires g.1 (omega (arith, w.if-file-end.false))
+          (sym w.is_digit.ensures ∙ w.if-not-is_digit.true)
     ]
 
 pub returns : goal.returns
