@@ -2,7 +2,6 @@
 -- Assumes nothing.
 use mathlib.Core.Path.{sym, ◌∙◌}
 use mathlib.Core.Bool.{true≢false}
-use native.Mathlib.Omega.{arith}
 use borrow.Author.Tests.{eq-eqb, eqb-true, lt-leb}
 use Rattle.ppm.proofs.Headers.{magic_short, magic_other, magic_is}
 use Rattle.ppm.proofs.header.is_magic.Goals.{then-file-ge2, else-file-ge2}
