@@ -23,22 +23,14 @@ pub enum Header {
 fn is_magic(file: &[u8]) -> bool
     ensures { result ≡ is_magic file.now }
 {
-    if file.len() < 2 {
-        return false;
-    }
-    if file[0] != b'P' {
-        return false;
-    }
-    file[1] == b'6'
+    2 <= file.len() && file[0] == b'P' && file[1] == b'6'
 }
 
+#[tactic(auto, unfolding(crate::specs::Header::is_side))]
 fn is_side(n: usize) -> bool
     ensures { result ≡ is_side n }
 {
-    if n < 1 {
-        return false;
-    }
-    n <= 65535
+    1 <= n && n <= 65535
 }
 
 // What three numbers say, the last of which ends at a place.
@@ -47,16 +39,7 @@ fn image(file: &[u8], width: usize, height: usize, maximum: usize, end: usize) -
     ensures { result
         ≡ image_of (length file.now) width height maximum (drop end file.now) }
 {
-    if file.len() <= end {
-        return Header::Malformed;
-    }
-    if !is_blank(file[end]) {
-        return Header::Malformed;
-    }
-    if !is_side(width) {
-        return Header::Malformed;
-    }
-    if !is_side(height) {
+    if file.len() <= end || !is_blank(file[end]) || !is_side(width) || !is_side(height) {
         return Header::Malformed;
     }
     if maximum != 255 {

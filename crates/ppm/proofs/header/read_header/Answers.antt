@@ -8,7 +8,6 @@ use lib.ListN.{drop}
 use Rattle.ppm.specs.Header.{is_magic}
 use Rattle.ppm.proofs.Tails.{tail_drop}
 use Rattle.ppm.proofs.Headers.{Reads, magic_long, field_read, field_none, no_magic, no_width, no_height, no_maximum, all_fields}
-use borrow.Author.Rules.{rules}
 use Rattle.ppm.proofs.header.read_header.Goals.{Else-not-is_magic, In-Some, In-Some-field, In-Some-field-2}
 use Rattle.ppm.proofs.header.read_header.Goals as goal
 

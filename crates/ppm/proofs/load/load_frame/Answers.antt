@@ -7,7 +7,6 @@ use Prim.Native.Nat.{ℕ}
 use native.Mathlib.Omega.{arith}
 use Rattle.loader.specs.Load.{load_number, load_later}
 use Rattle.ppm.proofs.Calls.{all_left, few_bytes, other_length, frame_loads}
-use borrow.Author.Rules.{rules}
 use Rattle.ppm.proofs.load.load_frame.Goals as goal
 
 pub overflow_mul-f : goal.overflow_mul-f

@@ -2,7 +2,6 @@
 -- Assumes nothing.
 use mathlib.Core.Path.{sym, ◌∙◌}
 use Rattle.ppm.proofs.Calls.{in_file, malformed, other_maximum, image}
-use borrow.Author.Rules.{rules}
 use Rattle.ppm.proofs.load.load_ppm.Goals as goal
 
 pub load_frame-requires : goal.load_frame-requires
