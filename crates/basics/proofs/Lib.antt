@@ -3,3 +3,4 @@ pub mod Lists
 pub mod Ends
 pub mod Determined
 pub mod Compare
+pub mod Refusals

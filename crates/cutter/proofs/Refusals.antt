@@ -1,5 +1,6 @@
 -- The answer to a cut, test by test, and what a cut that nothing refuses is given.
 -- Assumes nothing.
+use Rattle.std.specs.Prelude.{None, Some}
 use mathlib.Core.Path.{◌≡◌, refl, ◌∙◌}
 use mathlib.Core.Bool.{Bool, true, false, ◌&&◌}
 use Prim.Native.Nat.{ℕ, ◌*◌, ◌≤◌, ◌<◌}
@@ -7,17 +8,16 @@ use native.Mathlib.Omega.{arith}
 use borrow.Author.Tests.{eq-eqb, ne_eqb, le-leb, lt-leb, leb-true, eqb-true, eqb-false, not-false}
 use lib.Dec.{eqb}
 use Rattle.grid.specs.declared.place.Grid.{Grid}
-use Rattle.grid.specs.declared.place.Chosen.TheVariants as chosen
 use Rattle.basics.specs.Answer.{refuse, when_done}
 use Rattle.grid.specs.Grid.{grid_of, grid_answer, on_grid, bins_of}
 use Rattle.basics.proofs.Range.{and_left, and_right}
 use Rattle.basics.proofs.Ends.{refused_keeps, passed}
 use Rattle.table.specs.Cell.{View}
-use Rattle.table.specs.declared.layout.Layout.{Layout}
+use Rattle.table.specs.Layouts.{Layout}
 use Rattle.table.specs.Layout.{TableIn, view_in}
 use Rattle.table.specs.Sound.{limit_of, total, sound}
 use Rattle.rounds.specs.Loop.{boxes_of}
-use Rattle.cutter.specs.declared.call.CutRecord.{CutRecord}
+use Rattle.cutter.specs.Record.{CutRecord}
 use Rattle.sums.specs.declared.source.Source.{Source}
 use Rattle.sums.specs.declared.source.Source.TheVariants.{Moments}
 use Rattle.cutter.specs.Cut.{BuffersIn, Lengths, work_fits, lengths_right, long_enough, cut_number_on, CanCut}
@@ -145,11 +145,11 @@ module _ (layout : Layout) (source : Source) (b1 b2 b3 k : ℕ) (t : TableIn lay
   abbrev Ends : CutRecord → BuffersIn layout → Type 0
   Ends r e = (r ≡ cut_record_in layout source b1 b2 b3 k t b) × (e ≡ cut_later_in layout source b1 b2 b3 k t b)
 
-  pub cut_no_grid : grid_of b1 b2 b3 ≡ chosen.Refused → {r : CutRecord} → r ≡ refused_record 1 → Ends r b
+  pub cut_no_grid : grid_of b1 b2 b3 ≡ None → {r : CutRecord} → r ≡ refused_record 1 → Ends r b
   unfolding cut_record_in cut_later_in on_grid grid_answer
   cut_no_grid e q = (q ∙ rw e refl, rw e refl)
 
-  module _ {g : Grid} (e : grid_of b1 b2 b3 ≡ chosen.Accepted g) where
+  module _ {g : Grid} (e : grid_of b1 b2 b3 ≡ Some g) where
     pub cut_refused : {n : ℕ} → n ≡ cut_number_on (limit_of layout) g k (lengths_right layout source g k t b) (view_in layout t) → (n ≡ 0 → ⊥)
         → {r : CutRecord}
         → r ≡ refused_record n → Ends r b

@@ -7,7 +7,7 @@ use native.Mathlib.Omega.{arith}
 use lib.ListN.{replicate}
 use Rattle.basics.specs.Answer.{when_done}
 use Rattle.table.proofs.Tables.{wide_empty}
-use Rattle.cutter.specs.declared.call.CutRecord.{CutRecord}
+use Rattle.cutter.specs.Record.{CutRecord}
 use Rattle.sums.specs.declared.source.Source.TheVariants.{Moments}
 use Rattle.cutter.specs.Cut.{Buffers, buffers, cut_record, cut_later}
 use Rattle.std.specs.Prelude.{Result, Ok, Err}

@@ -9,11 +9,12 @@ use lib.ListN.{length}
 use Rattle.grid.specs.declared.place.Grid.{Grid}
 use Rattle.basics.specs.Answer.{refuse, when_done}
 use Rattle.grid.specs.Grid.{grid_of, on_grid, number_on, bins_of}
-use Rattle.table.specs.declared.layout.Layout.{Layout}
+use Rattle.table.specs.Layouts.{Layout}
 use Rattle.table.specs.Layout.{TableIn, is_sized_in, view_in, written_in}
 use Rattle.table.specs.Sound.{limit_of, total, sound, unsound_number}
 use Rattle.adder.specs.Batch.{weight_of, loaded, batch_of, scaled_weights}
-use Rattle.adder.specs.Add.{scaled_batch, passed_number}
+use Rattle.adder.specs.Add.{scaled_batch}
+use Rattle.table.specs.Sound.{passed_number}
 use Rattle.loader.specs.Load.{load_number_on, load_number_in, load_later_in}
 use Rattle.adder.proofs.Scaled.{scaled_pairs, once_batch}
 

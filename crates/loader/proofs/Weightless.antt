@@ -17,8 +17,8 @@ use Rattle.basics.specs.Range.{sum_from, list_from}
 use Rattle.grid.specs.Grid.{grid_of, on_grid, number_on, bins_of, colour_place}
 use Rattle.pixels.specs.Colour.{colour_at}
 use Rattle.basics.proofs.Range.{sum_same, sum_append, sum_shift}
-use Rattle.table.specs.declared.layout.Layout.{Layout}
-use Rattle.table.specs.declared.layout.Layout.TheVariants.{Wide}
+use Rattle.table.specs.Layouts.{Layout}
+use Rattle.table.specs.Layouts.{Wide}
 use Rattle.table.specs.Table.{Table}
 use Rattle.table.specs.Layout.{TableIn, is_sized_in, view_in, written_in}
 use Rattle.table.specs.Sound.{limit_of, total, sound, unsound_number}

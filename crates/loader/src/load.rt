@@ -12,8 +12,8 @@ use table::layout::{Layout, lengths_fit};
 use table::sound::{SoundTotal, total_in};
 
 // The answer when a total would pass a layout's limit.
-pub(crate) fn passed_number(layout: Layout) -> u8
-    ensures { result ≡ passed_number layout }
+pub(crate) fn passed_number<L: Layout>(layout: Layout) -> u8
+    ensures { result ≡ passed_number L.layout }
 {
     match layout {
         Layout::Wide => 7,
@@ -22,8 +22,7 @@ pub(crate) fn passed_number(layout: Layout) -> u8
 }
 
 // Adds a batch of colours to a table, each weight multiplied by a scale.
-pub fn load_scaled_in(
-    layout: Layout,
+pub fn load_scaled_in<L: Layout>(
     scale: u64,
     b1: usize,
     b2: usize,
@@ -36,11 +35,11 @@ pub fn load_scaled_in(
 ) -> u8
     requires { IsScale scale }
     ensures number { result
-        ≡ load_number_in layout b1 b2 b3 (laid layout small.old large.old)
+        ≡ load_number_in L.layout b1 b2 b3 (laid L.layout small.old large.old)
         colours.now true
         (scaled_weights scale (length colours.now / 3) weighted weights.now) }
-    ensures later { laid layout small.new large.new
-        ≡ load_later_in layout b1 b2 b3 (laid layout small.old large.old)
+    ensures later { laid L.layout small.new large.new
+        ≡ load_later_in L.layout b1 b2 b3 (laid L.layout small.old large.old)
         colours.now true
         (scaled_weights scale (length colours.now / 3) weighted weights.now) }
 {
@@ -55,7 +54,7 @@ pub fn load_scaled_in(
             return 4;
         }
     }
-    if !lengths_fit(layout, small.len(), large.len(), g) {
+    if !L::fits(small.len(), large.len(), g) {
         return 5;
     }
     let SoundTotal::Total(had) = total_in(layout, small, large, g) else {
@@ -106,8 +105,7 @@ pub fn load_scaled(
 }
 
 // Adds a batch of colours to a table, in either layout.
-pub fn load_in(
-    layout: Layout,
+pub fn load_in<L: Layout>(
     b1: usize,
     b2: usize,
     b3: usize,
@@ -118,14 +116,13 @@ pub fn load_in(
     weights: &[u32],
 ) -> u8
     ensures number { result
-        ≡ load_number_in layout b1 b2 b3 (laid layout small.old large.old)
+        ≡ load_number_in L.layout b1 b2 b3 (laid L.layout small.old large.old)
         colours.now weighted weights.now }
-    ensures later { laid layout small.new large.new
-        ≡ load_later_in layout b1 b2 b3 (laid layout small.old large.old)
+    ensures later { laid L.layout small.new large.new
+        ≡ load_later_in L.layout b1 b2 b3 (laid L.layout small.old large.old)
         colours.now weighted weights.now }
 {
-    load_scaled_in(
-        layout, 1, b1, b2, b3, small, large, colours, weighted, weights,
+    load_scaled_in::<L>(1, b1, b2, b3, small, large, colours, weighted, weights,
     )
 }
 

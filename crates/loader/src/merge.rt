@@ -12,33 +12,31 @@ use table::layout::{Layout, cell_in, lengths_fit};
 use table::sound::{SoundTotal, limit_of, total_in};
 
 // Adds the cells of a second table to those of a first.
-fn add_cells(
-    layout: Layout,
+fn add_cells<L: Layout>(
     g: Grid,
     small: &mut [u32],
     large: &mut [u64],
     smallsecond: &[u32],
     largesecond: &[u64],
 )
-    requires { MergeFits layout g (laid layout small.old large.old)
-        (laid layout smallsecond.now largesecond.now) }
-    ensures { laid layout small.new large.new
-        ≡ written_in layout (bins_of g)
-        (merged (laid_view layout small.old large.old)
-        (laid_view layout smallsecond.now largesecond.now)) }
+    requires { MergeFits L.layout g (laid L.layout small.old large.old)
+        (laid L.layout smallsecond.now largesecond.now) }
+    ensures { laid L.layout small.new large.new
+        ≡ written_in L.layout (bins_of g)
+        (merged (laid_view L.layout small.old large.old)
+        (laid_view L.layout smallsecond.now largesecond.now)) }
 {
     let n = bins(g);
     let mut p = 0;
     while p < n {
-        let c = cell_in(layout, smallsecond, largesecond, p);
+        let c = L::cell(smallsecond, largesecond, p);
         add_at(layout, small, large, p, c);
-        p = p + 1;
+        p += 1;
     }
 }
 
 // Adds a second table into a first, in either layout.
-pub fn merge_in(
-    layout: Layout,
+pub fn merge_in<L: Layout>(
     b1: usize,
     b2: usize,
     b3: usize,
@@ -48,19 +46,19 @@ pub fn merge_in(
     largesecond: &[u64],
 ) -> u8
     ensures number { result
-        ≡ merge_number_in layout b1 b2 b3 (laid layout small.old large.old)
-        (laid layout smallsecond.now largesecond.now) }
-    ensures later { laid layout small.new large.new
-        ≡ merge_later_in layout b1 b2 b3 (laid layout small.old large.old)
-        (laid layout smallsecond.now largesecond.now) }
+        ≡ merge_number_in L.layout b1 b2 b3 (laid L.layout small.old large.old)
+        (laid L.layout smallsecond.now largesecond.now) }
+    ensures later { laid L.layout small.new large.new
+        ≡ merge_later_in L.layout b1 b2 b3 (laid L.layout small.old large.old)
+        (laid L.layout smallsecond.now largesecond.now) }
 {
     let Chosen::Accepted(g) = grid_of(b1, b2, b3) else {
         return 1;
     };
-    if !lengths_fit(layout, small.len(), large.len(), g) {
+    if !L::fits(small.len(), large.len(), g) {
         return 5;
     }
-    if !lengths_fit(layout, smallsecond.len(), largesecond.len(), g) {
+    if !L::fits(smallsecond.len(), largesecond.len(), g) {
         return 5;
     }
     let SoundTotal::Total(had) = total_in(layout, small, large, g) else {
@@ -69,10 +67,10 @@ pub fn merge_in(
     let SoundTotal::Total(more) = total_in(layout, smallsecond, largesecond, g) else {
         return 6;
     };
-    if limit_of(layout) - had < more {
+    if L::limit() - had < more {
         return passed_number(layout);
     }
-    add_cells(layout, g, small, large, smallsecond, largesecond);
+    add_cells::<L>(g, small, large, smallsecond, largesecond);
     0
 }
 

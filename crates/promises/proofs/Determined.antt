@@ -2,14 +2,15 @@
 -- contract allows are equal. `Learnt` is what a contract tells its caller of the arguments a, the result r and the
 -- parameters at exit e. What is lent in a layout is seen by `lent_lists`: a wide table has no small list.
 -- Assumes nothing.
+use Rattle.std.specs.Prelude.{Option}
 use mathlib.Core.Path.{◌≡◌, ap}
 use mathlib.Core.List.{List}
 use Prim.Native.Nat.{ℕ}
 use lib.IntN.{ℤ}
 use lib.Ieee.{Float}
 use Rattle.basics.proofs.Determined.{determined}
-use Rattle.cutter.specs.declared.call.CutRecord.{CutRecord}
-use Rattle.table.specs.declared.layout.Layout.TheVariants.{Narrow}
+use Rattle.cutter.specs.Record.{CutRecord}
+use Rattle.table.specs.Layouts.{Narrow}
 use Rattle.table.specs.Narrow.{NarrowTable, narrow_table}
 use Rattle.cutter.specs.Cut.{Results, Buffers, buffers, no_work, buffers_in, no_work_in}
 use Rattle.promises.specs.Layouts.{lists_in, lent_lists, DeterminesBy}
@@ -37,7 +38,6 @@ use Rattle.table.proofs.sound.keeps_bounds as keeps-bounds
 use Rattle.table.proofs.sound.limit_of as limit-of
 use Rattle.table.proofs.sound.total_in as total-in
 use Rattle.table.proofs.sound.sound_total as sound-total
-use Rattle.adder.specs.declared.add.Added.{Added}
 use Rattle.adder.proofs.shares.add_at as add_at
 use Rattle.adder.proofs.steps.fill_steps as fill-steps
 use Rattle.adder.proofs.add.add_batch_in as add-batch-in
@@ -69,17 +69,22 @@ use Rattle.spread.proofs.spread.spread as spread
 use Rattle.spread.proofs.spread.score as score
 use Rattle.spread.proofs.position.position_between as position-between
 use Rattle.spread.proofs.position.better as better
-use Rattle.boxes.proofs.sides.first_bin as first-bin
-use Rattle.boxes.proofs.sides.end_bin as end-bin
-use Rattle.boxes.proofs.sides.is_one_bin as is-one-bin
-use Rattle.boxes.proofs.sides.whole as whole
+use Rattle.boxes.proofs.sides.Bounds.first_bin as first-bin
+use Rattle.boxes.proofs.sides.Bounds.end_bin as end-bin
+use Rattle.boxes.proofs.sides.Bounds.is_one_bin as is-one-bin
+use Rattle.boxes.proofs.sides.Bounds.whole as whole
 use Rattle.boxes.proofs.bytes.packed as packed
 use Rattle.boxes.proofs.bytes.unpacked as unpacked
-use Rattle.boxes.proofs.sides.low_side as low-side
-use Rattle.boxes.proofs.sides.high_side as high-side
+use Rattle.boxes.proofs.sides.Bounds.low_side as low-side
+use Rattle.boxes.proofs.sides.Bounds.high_side as high-side
 use Rattle.spread.proofs.search.best_cut as best-cut
-use Rattle.heap.proofs.arrays.put_in as put_in
-use Rattle.heap.proofs.arrays.take_out as take_out
+use Rattle.heap.specs.declared.heap.BoxSpread.{BoxSpread}
+use Rattle.heap.proofs.heap.Heap.new as new-heap
+use Rattle.heap.proofs.heap.Heap.len as heap-len
+use Rattle.heap.proofs.heap.Heap.room as heap-room
+use Rattle.heap.proofs.heap.Heap.top as heap-top
+use Rattle.heap.proofs.heap.Heap.put_in as put_in
+use Rattle.heap.proofs.heap.Heap.take_out as take_out
 use Rattle.rounds.proofs.gather.cut_boxes as cut-boxes
 use Rattle.cutter.proofs.palette.front as front
 use Rattle.band.proofs.number.band_number as band-number
@@ -251,12 +256,12 @@ pub fill_steps_determined : Determines 1 fill-steps.Kinds.ps fill-steps.Kinds.r 
     (λ κs r e. e.0.now)
 fill_steps_determined κs a r s x y p q = determined p q
 
-pub add_batch_in_determined : DeterminesBy {A = Added × (List ℕ × List ℕ)} 5 add-batch-in.Kinds.ps
+pub add_batch_in_determined : DeterminesBy {A = Option ℕ × (List ℕ × List ℕ)} 5 add-batch-in.Kinds.ps
     add-batch-in.Kinds.r add-batch-in.Reads.Learnt (λ κs a r e. (r, lent_lists a.0 e.1.1.0.now e.1.1.1.0.now))
 add_batch_in_determined κs a r s x y p q =
     both (determined p.0 q.0) (ap (lists_in a.0) (determined p.1 q.1))
 
-pub add_batch_determined : Determines {A = Added × List ℕ} 4 add-batch.Kinds.ps add-batch.Kinds.r add-batch.Reads.Learnt
+pub add_batch_determined : Determines {A = Option ℕ × List ℕ} 4 add-batch.Kinds.ps add-batch.Kinds.r add-batch.Reads.Learnt
     (λ κs r e. (r, e.1.0.now))
 add_batch_determined κs a r s x y p q = both (determined p.0 q.0) (determined p.1 q.1)
 
@@ -369,13 +374,26 @@ pub best_cut_determined : Determines 4 best-cut.Kinds.ps best-cut.Kinds.r best-c
 best_cut_determined κs a r s x y p q = determined p q
 
 -- ---- heap
-pub put_in_determined : Determines {A = List Float × List ℕ} 2 put_in.Kinds.ps put_in.Kinds.r put_in.Reads.Learnt
-    (λ κs r e. (e.0.now, e.1.0.now))
+pub new_determined : Determines {A = List BoxSpread × ℕ} 0 new-heap.Kinds.ps new-heap.Kinds.r new-heap.Reads.Learnt
+    (λ κs r e. (r.room, r.len))
+new_determined κs a r s x y p q = both (determined p.0 q.0) (determined p.1 q.1)
+
+pub len_determined : Determines 1 heap-len.Kinds.ps heap-len.Kinds.r heap-len.Reads.Learnt (λ κs r e. r)
+len_determined κs a r s x y p q = determined p q
+
+pub room_determined : Determines 1 heap-room.Kinds.ps heap-room.Kinds.r heap-room.Reads.Learnt (λ κs r e. r.now)
+room_determined κs a r s x y p q = determined p.0 q.0
+
+pub top_determined : Determines 1 heap-top.Kinds.ps heap-top.Kinds.r heap-top.Reads.Learnt (λ κs r e. r)
+top_determined κs a r s x y p q = determined p q
+
+pub put_in_determined : Determines {A = List BoxSpread × ℕ} 1 put_in.Kinds.ps put_in.Kinds.r put_in.Reads.Learnt
+    (λ κs r e. (e.0.now.room, e.0.now.len))
 put_in_determined κs a r s x y p q = both (determined p.0 q.0) (determined p.1 q.1)
 
-pub take_out_determined : Determines {A = List Float × List ℕ} 2 take_out.Kinds.ps take_out.Kinds.r
-    take_out.Reads.Learnt (λ κs r e. (e.0.now, e.1.0.now))
-take_out_determined κs a r s x y p q = both (determined p.0 q.0) (determined p.1 q.1)
+pub take_out_determined : Determines {A = BoxSpread × List BoxSpread × ℕ} 1 take_out.Kinds.ps take_out.Kinds.r
+    take_out.Reads.Learnt (λ κs r e. (r, e.0.now.room, e.0.now.len))
+take_out_determined κs a r s x y p q = λ i. (determined p.0 q.0 i, determined p.1 q.1 i, determined p.2 q.2 i)
 
 -- ---- rounds
 pub cut_boxes_determined : Determines 4 cut-boxes.Kinds.ps cut-boxes.Kinds.r cut-boxes.Reads.Learnt (λ κs r e. r)

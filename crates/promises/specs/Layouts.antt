@@ -3,8 +3,8 @@ use Rattle.std.specs.Prelude.{◌≡◌, List, [], ℕ}
 use contract.Lifetimes.{Lfts}
 use denote.Triple.Clauses.{AtExit}
 use borrow.Fn.Kinds.{ParamKind, ResultKind, Dens, res_t, ended_of, Out}
-use Rattle.table.specs.declared.layout.Layout.{Layout}
-use Rattle.table.specs.declared.layout.Layout.TheVariants.{Wide, Narrow}
+use Rattle.table.specs.Layouts.{Layout}
+use Rattle.table.specs.Layouts.{Wide, Narrow}
 use Rattle.table.specs.Layout.{TableIn, laid}
 
 -- the lists that a table is in: of a wide one the large list alone, since a small one is no part of it

@@ -12,7 +12,7 @@ use Rattle.grid.specs.Grid.{size_at, place_of, stride_at, Accepted, Inside}
 use Rattle.grid.proofs.Size.{size_low}
 use Rattle.grid.proofs.Places.{one, two, three, place_lt, bins_high}
 use Rattle.table.specs.Cell.{View, number_of, cell_of}
-use Rattle.table.specs.declared.layout.Layout.{Layout}
+use Rattle.table.specs.Layouts.{Layout}
 use Rattle.table.specs.Layout.{TableIn, view_in}
 use Rattle.boxes.specs.declared.sides.Bounds.{Bounds}
 use Rattle.boxes.specs.Box.{min_at, max_at, low_side, high_side, slab_to, Within}

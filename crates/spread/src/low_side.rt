@@ -35,8 +35,7 @@ pub(crate) fn combined(corner: Stats, left: Stats, above: Stats, diagonal: Stats
 
 // The statistics of the low side of a position: what lies before the bin, less what lies before the box. The table, the
 // box and the position are named by the contract alone.
-pub(crate) fn low_side_sums(
-    layout: Layout,
+pub(crate) fn low_side_sums<L: Layout>(
     small: &[u32],
     large: &[u64],
     g: Grid,
@@ -46,9 +45,9 @@ pub(crate) fn low_side_sums(
     before: Stats,
     base: Stats,
 ) -> Stats
-    requires { Slabs g (laid_view layout small.now large.now) x dimension bin before base }
+    requires { Slabs g (laid_view L.layout small.now large.now) x dimension bin before base }
     ensures { result
-        ≡ stats_of g (laid_view layout small.now large.now) (low_side x dimension bin) }
+        ≡ stats_of g (laid_view L.layout small.now large.now) (low_side x dimension bin) }
 {
     less(before, base)
 }

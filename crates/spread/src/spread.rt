@@ -3,7 +3,7 @@ ghost use Rattle.std.specs.Prelude.{◌≡◌};
 ghost use Rattle.boxes.specs.Box.{Ordered};
 ghost use Rattle.spread.specs.Spread.{quotient_of, spread_of, score_of, Plain};
 
-use boxes::sides::{Bounds, is_one_bin};
+use boxes::sides::Bounds;
 use sums::box_sums::{Stats, in_float};
 
 // Q/n.
@@ -23,7 +23,7 @@ pub fn spread(x: Bounds, s: Stats) -> f64
     requires { Ordered x × Plain s }
     ensures { result ≡ spread_of x s }
 {
-    if is_one_bin(x) {
+    if x.is_one_bin() {
         return 0.0;
     }
     s.squares - quotient(s)

@@ -4,7 +4,7 @@ ghost use Rattle.grid.specs.Grid.{size_at, stride_at, Accepted};
 ghost use Rattle.boxes.specs.Box.{Within};
 ghost use Rattle.spread.specs.Inner.{outer_of, inner_of, start_of, walk_of};
 
-use boxes::sides::{Bounds, end_bin, first_bin};
+use boxes::sides::Bounds;
 use grid::place::{Grid, place};
 
 // The two other dimensions, in order.
@@ -80,10 +80,10 @@ pub(crate) fn walk_of(g: Grid, x: Bounds, dimension: u8) -> Walk
     requires { Within g x }
     ensures { result ≡ walk_of g x dimension }
 {
-    let outer = first_bin(x, outer_of(dimension));
-    let inner = first_bin(x, inner_of(dimension));
-    let outer_end = end_bin(x, outer_of(dimension));
-    let inner_end = end_bin(x, inner_of(dimension));
+    let outer = x.first_bin(outer_of(dimension));
+    let inner = x.first_bin(inner_of(dimension));
+    let outer_end = x.end_bin(outer_of(dimension));
+    let inner_end = x.end_bin(inner_of(dimension));
     Walk {
         step: stride_of(g, dimension),
         outer,

@@ -17,7 +17,7 @@ use Rattle.grid.proofs.Size.{size_low}
 use Rattle.grid.proofs.Places.{two, three, place_lt, place_along, row_start, plane_start}
 use Rattle.table.specs.declared.cell.Cell.{Cell}
 use Rattle.table.specs.Cell.{View, number_of, cell_of, plus_cell, minus_cell, SumsFit}
-use Rattle.table.specs.declared.layout.Layout.{Layout}
+use Rattle.table.specs.Layouts.{Layout}
 use Rattle.table.specs.Layout.{TableIn, laid, SizedIn, view_in, written_in, put_in, CellIn, HeldIn, TableOfIn}
 use Rattle.table.specs.Sound.{limit, limit_of, total, sound as sound_for}
 use Rattle.table.proofs.Cells.{number_cell, number_plus, number_minus, cell_by, zero_cell, zero_cell_lem}

@@ -3,7 +3,7 @@
 use mathlib.Core.Path.{◌≡◌, ap, ◌∙◌}
 use mathlib.Core.List.{List}
 use Prim.Native.Nat.{ℕ}
-use Rattle.cutter.specs.declared.call.CutRecord.{CutRecord}
+use Rattle.cutter.specs.Record.{CutRecord}
 use Rattle.sums.specs.declared.source.Source.TheVariants.{Moments}
 use Rattle.cutter.specs.Cut.{cut_record}
 use Rattle.lines.specs.Text.{refused_of}

@@ -3,7 +3,6 @@
 use mathlib.Core.Path.{refl, sym, ◌∙◌}
 use Prim.Native.Nat.{◌+◌}
 use native.Mathlib.Omega.{arith}
-use borrow.Author.Rules.{rules}
 use borrow.Author.Tests.{lt-ltb, le-ltb}
 use Rattle.adder.specs.Inner.{last_equal}
 use Rattle.adder.proofs.blocks.last_equal.Goals as goal
@@ -11,9 +10,6 @@ use Rattle.adder.proofs.blocks.last_equal.Goals as goal
 pub returns-then-n-eq0 : goal.returns-then-n-eq0
 unfolding last_equal
 returns-then-n-eq0 c = rw c.if-n-eq0.true refl
-
-pub overflow_add-end : goal.overflow_add-end
-overflow_add-end c = search rules
 
 pub returns-then-end-lt65 : goal.returns-then-end-lt65
 unfolding last_equal
@@ -23,9 +19,6 @@ returns-then-end-lt65 c =
       lt-ltb 0 a.n (omega (arith, c.if-n-eq0.false)),
       le-ltb 64 (a.at + a.n) (omega (arith, c.if-end-lt65.true)),
     ))
-
-pub equal_colours-requires : goal.equal_colours-requires
-equal_colours-requires c = search rules
 
 pub returns : goal.returns
 unfolding last_equal

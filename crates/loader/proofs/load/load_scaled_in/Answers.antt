@@ -1,6 +1,7 @@
 -- `loader::load::load_scaled_in` meets its contract: the refusals in their order, and then the batch is added.
 -- Assumes nothing.
 -- where the call stood: on entry, once the grid is accepted, once the weights pair, and once the length is right
+use Rattle.std.specs.Prelude.{Option, Some}
 use mathlib.Core.List.{List}
 use mathlib.Core.Bool.{true, false, true≢false, not, ◌&&◌}
 use mathlib.Core.Path.{◌≡◌, refl, sym, ap, ◌∙◌}
@@ -8,7 +9,6 @@ use Prim.Native.Nat.{ℕ, ◌/◌}
 use borrow.Author.Rules.{rules}
 use lib.ListN.{length}
 use lib.Dec.{eqb}
-use Rattle.grid.specs.declared.place.Chosen.TheVariants as chosen
 use Rattle.grid.specs.declared.place.Grid.{Grid}
 use Rattle.grid.specs.Grid.{grid_of, Accepted, bins_of}
 use Rattle.grid.proofs.Places.{chose}
@@ -16,7 +16,6 @@ use Rattle.table.specs.Layout.{TableIn, laid, TableOfIn}
 use Rattle.table.specs.Sound.{limit_of}
 use Rattle.table.proofs.Layouts.{lengths_are, sized_in}
 use Rattle.table.proofs.Total.{unsound_says, total_says}
-use Rattle.adder.specs.declared.add.Added.{Added}
 use Rattle.adder.specs.Batch.{scaled_weights}
 use Rattle.adder.specs.Add.{KnownIn, Whole, added_answer_in}
 use Rattle.loader.specs.Load.{load_number_in, load_later_in}
@@ -44,7 +43,7 @@ abbrev grid : In-Accepted → Grid
 grid k = k.in-Accepted.g
 
 on_grid : (k : In-Accepted) → let a = (entry k).args in
-    grid_of a.b1 a.b2 a.b3 ≡ chosen.Accepted (grid k)
+    grid_of a.b1 a.b2 a.b3 ≡ Some (grid k)
 on_grid k = sym k.grid_of.ensures ∙ k.in-Accepted.is
 
 accepted : (k : In-Accepted) → Accepted (grid k)
@@ -125,7 +124,7 @@ Ends k n =
     × (laid a.layout k.add_batch_in.new.small k.add_batch_in.new.large
     ≡ load_later_in a.layout a.b1 a.b2 a.b3 (lent (entry b)) a.colours.now true (scaled b))
 
-ended : (k : After-add_batch_in) {r : Added} → k.add_batch_in.result ≡ r →
+ended : (k : After-add_batch_in) {r : Option ℕ} → k.add_batch_in.result ≡ r →
     let l = (entry (on (with_weights (with_length (before_adding k))))).args.layout in
     Ends k (added_answer_in l r).number
 ended k e =
@@ -133,7 +132,7 @@ ended k e =
     let w = with_weights (with_length l) in
     let a = (entry (on w)).args in (
       sym (number_says a.b1 a.b2 a.b3 (on_grid (on w)) (known l) (whole w) a.scale
-          ∙ ap (λ (x : Added). (added_answer_in a.layout x).number) (sym k.add_batch_in.ensures.answer ∙ e)),
+          ∙ ap (λ (x : Option ℕ). (added_answer_in a.layout x).number) (sym k.add_batch_in.ensures.answer ∙ e)),
       k.add_batch_in.ensures.later
           ∙ sym (later_says a.b1 a.b2 a.b3 (on_grid (on w)) (known l) (whole w) a.scale),
     )

@@ -2,16 +2,16 @@
 -- Assumes nothing.
 -- where the call stood: on entry, once the grid is accepted, once the lengths are right, and once the first table is
 -- sound
+use Rattle.std.specs.Prelude.{Some}
 use mathlib.Core.Bool.{true}
 use mathlib.Core.Path.{◌≡◌, sym, ◌∙◌}
 use Prim.Native.Nat.{ℕ, ◌≤◌}
 use native.Mathlib.Omega.{arith}
 use borrow.Author.Rules.{rules}
-use Rattle.grid.specs.declared.place.Chosen.TheVariants as chosen
 use Rattle.grid.specs.declared.place.Grid.{Grid}
 use Rattle.grid.specs.Grid.{grid_of, Accepted, bins_of}
 use Rattle.grid.proofs.Places.{chose}
-use Rattle.table.specs.declared.layout.Layout.{Layout}
+use Rattle.table.specs.Layouts.{Layout}
 use Rattle.table.specs.Sound.{limit_of, total, sound}
 use Rattle.table.specs.Layout.{TableIn, laid, SizedIn, view_in, TableOfIn}
 use Rattle.table.proofs.Layouts.{lengths_are, sized_in}
@@ -39,7 +39,7 @@ abbrev grid : In-Accepted → Grid
 grid k = k.in-Accepted.g
 
 on_grid : (k : In-Accepted) → let a = (entry k).args in
-    grid_of a.b1 a.b2 a.b3 ≡ chosen.Accepted (grid k)
+    grid_of a.b1 a.b2 a.b3 ≡ Some (grid k)
 on_grid k = sym k.grid_of.ensures ∙ k.in-Accepted.is
 
 accepted : (k : In-Accepted) → Accepted (grid k)

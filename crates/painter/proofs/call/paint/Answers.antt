@@ -1,10 +1,10 @@
 -- `painter::call::paint` meets its contract: the answer to the band, and where it is 0 the band is written.
 -- Assumes nothing.
 -- the grid, once it is accepted
+use Rattle.std.specs.Prelude.{Some}
 use mathlib.Core.Path.{◌≡◌, sym, ◌∙◌}
 use native.Mathlib.Omega.{arith}
 use borrow.Author.Rules.{rules}
-use Rattle.grid.specs.declared.place.Chosen.TheVariants as chosen
 use Rattle.grid.specs.declared.place.Grid.{Grid}
 use Rattle.basics.specs.Answer.{when_done}
 use Rattle.grid.specs.Grid.{grid_of, Accepted}
@@ -22,7 +22,7 @@ abbrev start : In-Accepted → Start
 start k = (goal.at-In-Accepted k).Start
 
 on_grid : (k : In-Accepted)
-    → grid_of (start k).args.b1 (start k).args.b2 (start k).args.b3 ≡ chosen.Accepted (grid k)
+    → grid_of (start k).args.b1 (start k).args.b2 (start k).args.b3 ≡ Some (grid k)
 on_grid k = sym k.grid_of.ensures ∙ k.in-Accepted.is
 
 accepted : (k : In-Accepted) → Accepted (grid k)

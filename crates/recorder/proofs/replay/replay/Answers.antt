@@ -1,11 +1,11 @@
 -- `recorder::replay::replay` meets its contract: the tests in their order, and all entries.
 -- Assumes nothing.
 -- what is lent beside the table
+use Rattle.std.specs.Prelude.{Some}
 use mathlib.Core.Path.{◌≡◌, refl, sym, ◌∙◌}
 use mathlib.Core.Bool.{true}
 use borrow.Author.Rules.{rules}
 use Rattle.grid.specs.declared.place.Grid.{Grid}
-use Rattle.grid.specs.declared.place.Chosen.TheVariants as chosen
 use Rattle.grid.specs.Grid.{grid_of, Accepted}
 use Rattle.grid.proofs.Places.{chose}
 use Rattle.table.specs.Table.{view_of}
@@ -41,7 +41,7 @@ abbrev grid : In-Accepted → Grid
 grid k = k.in-Accepted.g
 
 on_grid : (k : In-Accepted) → let a = (entered (ranged k)).args in
-    grid_of a.b1 a.b2 a.b3 ≡ chosen.Accepted (grid k)
+    grid_of a.b1 a.b2 a.b3 ≡ Some (grid k)
 on_grid k = sym k.grid_of.ensures ∙ k.in-Accepted.is
 
 accepted : (k : In-Accepted) → Accepted (grid k)

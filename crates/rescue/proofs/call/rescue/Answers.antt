@@ -1,9 +1,9 @@
 -- `rescue::call::rescue` meets its contract: the refusals in their order, and then all bins are walked.
 -- Assumes nothing.
 -- where the call stood: on entry, and once the grid is accepted
+use Rattle.std.specs.Prelude.{Some}
 use mathlib.Core.Path.{◌≡◌, sym, ◌∙◌}
 use lib.ListN.{length}
-use Rattle.grid.specs.declared.place.Chosen.TheVariants as chosen
 use Rattle.grid.specs.declared.place.Grid.{Grid}
 use Rattle.grid.specs.Grid.{grid_of, Accepted, bins_of}
 use Rattle.grid.proofs.Places.{chose}
@@ -25,7 +25,7 @@ abbrev grid : In-Accepted → Grid
 grid k = k.in-Accepted.g
 
 on_grid : (k : In-Accepted) → let a = (entry k).args in
-    grid_of a.b1 a.b2 a.b3 ≡ chosen.Accepted (grid k)
+    grid_of a.b1 a.b2 a.b3 ≡ Some (grid k)
 on_grid k = sym k.grid_of.ensures ∙ k.in-Accepted.is
 
 accepted : (k : In-Accepted) → Accepted (grid k)

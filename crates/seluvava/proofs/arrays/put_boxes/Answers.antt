@@ -5,7 +5,7 @@ use mathlib.Core.List.{List}
 use Prim.Native.Nat.{◌<◌}
 use native.Mathlib.Omega.{arith}
 use lib.ListN.{length}
-use Rattle.rounds.specs.declared.gather.BoxSpread.{BoxSpread}
+use Rattle.heap.specs.declared.heap.BoxSpread.{BoxSpread}
 use Rattle.cutter.specs.Fronts.{filled}
 use Rattle.cutter.proofs.Fronts.{filled_none}
 use Rattle.seluvava.specs.Cut.{its_bytes, spread_of}

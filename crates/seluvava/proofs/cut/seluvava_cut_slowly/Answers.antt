@@ -3,7 +3,7 @@
 use mathlib.Core.Path.{sym, ap, ◌∙◌}
 use borrow.Author.Rules.{rules}
 use Rattle.sums.specs.declared.source.Source.TheVariants.{Bins}
-use Rattle.table.specs.declared.layout.Layout.TheVariants.{Wide}
+use Rattle.table.specs.Layouts.{Wide}
 use Rattle.cutter.specs.Cut.{buffers, no_work}
 use Rattle.seluvava.specs.Cut.{Lent, lent, call_later}
 use Rattle.seluvava.proofs.Calls.{call_leaves_work}

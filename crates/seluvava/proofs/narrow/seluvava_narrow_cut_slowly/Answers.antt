@@ -3,7 +3,7 @@
 -- Assumes nothing.
 use mathlib.Core.Path.{sym, ap, ◌∙◌}
 use borrow.Author.Rules.{rules}
-use Rattle.table.specs.declared.layout.Layout.TheVariants.{Narrow}
+use Rattle.table.specs.Layouts.{Narrow}
 use Rattle.table.specs.Narrow.{narrow_table}
 use Rattle.sums.specs.declared.source.Source.TheVariants.{Bins}
 use Rattle.cutter.specs.Cut.{buffers_in, no_work_in}

@@ -1,7 +1,7 @@
 -- `seluvava::sizes::seluvava_bins` meets its contract.
 -- Assumes nothing.
+use Rattle.std.specs.Prelude.{Some}
 use mathlib.Core.Path.{◌≡◌, sym, ◌∙◌}
-use Rattle.grid.specs.declared.place.Chosen.TheVariants as chosen
 use Rattle.grid.specs.Grid.{grid_of}
 use Rattle.grid.proofs.Places.{chose}
 use Rattle.seluvava.proofs.Calls.{bins_refused, bins_on}
@@ -11,7 +11,7 @@ use Rattle.seluvava.proofs.sizes.seluvava_bins.Goals as goal
 
 on_grid : (k : In-Accepted)
     → grid_of k.args.b1 k.args.b2
-    k.args.b3 ≡ chosen.Accepted k.in-Accepted.g
+    k.args.b3 ≡ Some k.in-Accepted.g
 on_grid k = sym k.grid_of.ensures ∙ k.in-Accepted.is
 
 pub grid_of-requires : goal.grid_of-requires

@@ -1,15 +1,8 @@
 -- `spread::combined` meets its contract: three differences.
 -- Assumes nothing.
 use mathlib.Core.Path.{◌∙◌}
-use borrow.Author.Rules.{rules}
 use Rattle.spread.specs.Inner.{minus_stats, combined_stats}
 use Rattle.spread.proofs.low_side.combined.Goals as goal
-
-pub less-requires : goal.less-requires
-less-requires c = search rules
-
-pub less-requires-2 : goal.less-requires-2
-less-requires-2 c = search rules
 
 pub less-requires-3 : goal.less-requires-3
 less-requires-3 c = rw (c.less.ensures, c.less-2.ensures) c.requires.rest

@@ -1,19 +1,15 @@
 -- `spread::better` meets its contract: by which wins.
 -- Assumes nothing.
 use mathlib.Core.Path.{sym, ◌∙◌}
-use borrow.Author.Rules.{rules}
 use Rattle.spread.proofs.Choose.{later_is_better, earlier_is_better}
 use Rattle.spread.proofs.position.better.Goals as goal
-
-pub later_wins-requires : goal.later_wins-requires
-later_wins-requires c = search rules
 
 pub returns-then-later_wins : goal.returns-then-later_wins
 returns-then-later_wins c =
     later_is_better c.args.earlier c.args.later
     (sym c.later_wins.ensures ∙ c.if-later_wins.true)
 
-pub returns : goal.returns
-returns c =
+pub returns-else-later_wins : goal.returns-else-later_wins
+returns-else-later_wins c =
     earlier_is_better c.args.earlier c.args.later
     (sym c.later_wins.ensures ∙ c.if-later_wins.false)

@@ -1,15 +1,8 @@
 -- `spread::start_of` meets its contract: by the dimension.
 -- Assumes nothing.
 use mathlib.Core.Path.{◌∙◌}
-use borrow.Author.Rules.{rules}
 use Rattle.spread.proofs.Cross.{first_start, second_start, third_start}
 use Rattle.spread.proofs.walk.start_of.Goals as goal
-
-pub last_before-a-requires : goal.last_before-a-requires
-last_before-a-requires c = search rules
-
-pub last_before-b-requires : goal.last_before-b-requires
-last_before-b-requires c = search rules
 
 pub place-requires : goal.place-requires
 place-requires c =

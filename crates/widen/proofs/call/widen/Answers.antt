@@ -1,14 +1,14 @@
 -- `widen::call::widen` meets its contract: the refusals in their order, and then the bins are written.
 -- Assumes nothing.
 -- where the call stood: on entry, once the grid is accepted, once the narrow lengths are right, and once all are
+use Rattle.std.specs.Prelude.{Some}
 use mathlib.Core.Bool.{true}
 use mathlib.Core.Path.{◌≡◌, sym, ◌∙◌}
 use borrow.Author.Rules.{rules}
-use Rattle.grid.specs.declared.place.Chosen.TheVariants as chosen
 use Rattle.grid.specs.declared.place.Grid.{Grid}
 use Rattle.grid.specs.Grid.{grid_of, Accepted, bins_of}
 use Rattle.grid.proofs.Places.{chose}
-use Rattle.table.specs.declared.layout.Layout.TheVariants.{Narrow}
+use Rattle.table.specs.Layouts.{Narrow}
 use Rattle.table.specs.Table.{Sized}
 use Rattle.table.specs.Narrow.{NarrowTable, narrow_table, narrow_view}
 use Rattle.table.specs.Layout.{TableOfIn}
@@ -37,7 +37,7 @@ abbrev grid : In-Accepted → Grid
 grid k = k.in-Accepted.g
 
 on_grid : (k : In-Accepted) → let a = (entry k).args in
-    grid_of a.b1 a.b2 a.b3 ≡ chosen.Accepted (grid k)
+    grid_of a.b1 a.b2 a.b3 ≡ Some (grid k)
 on_grid k = sym k.grid_of.ensures ∙ k.in-Accepted.is
 
 accepted : (k : In-Accepted) → Accepted (grid k)

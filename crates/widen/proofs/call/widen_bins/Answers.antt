@@ -5,7 +5,7 @@ use native.Mathlib.Omega.{arith}
 use lib.Dec.{lit≤}
 use Rattle.grid.proofs.Places.{bins_high}
 use Rattle.table.specs.declared.cell.Cell.{Cell}
-use Rattle.table.specs.declared.layout.Layout.TheVariants.{Narrow}
+use Rattle.table.specs.Layouts.{Narrow}
 use Rattle.table.specs.Cell.{View, number_of}
 use Rattle.table.specs.Table.{view_of}
 use Rattle.table.specs.Narrow.{NarrowTable, narrow_table, narrow_view}
