@@ -4,3 +4,4 @@ pub mod Ends
 pub mod Determined
 pub mod Compare
 pub mod Refusals
+pub mod Exits

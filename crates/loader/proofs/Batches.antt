@@ -21,7 +21,7 @@ use Rattle.table.specs.Layouts.{Layout}
 use Rattle.table.specs.Layouts.{Wide}
 use Rattle.table.specs.Sound.{limit, limit_of}
 use Rattle.adder.specs.Batch.{Weighted, weight_of, weighted_at, batch_of}
-use Rattle.adder.specs.Add.{passed_number}
+use Rattle.table.specs.Sound.{passed_number}
 use Rattle.loader.specs.Load.{load_number_in, load_later_in, load_number, load_later, table_in, table_of}
 use Rattle.adder.proofs.Loading.{AllBytes}
 use Rattle.adder.proofs.Parts.{batch_weight}

@@ -23,7 +23,7 @@ use Rattle.table.specs.Table.{Table, Sized, is_sized, view_of}
 use Rattle.table.specs.Layout.{TableIn, SizedIn, is_sized_in, view_in}
 use Rattle.table.specs.Sound.{limit, limit_of, total, sound}
 use Rattle.adder.specs.Batch.{weight_of, batch_of, loaded}
-use Rattle.adder.specs.Add.{passed_number}
+use Rattle.table.specs.Sound.{passed_number}
 use Rattle.loader.specs.Load.{load_number_on, load_number_in, load_later_in, load_number, load_later}
 use Rattle.loader.specs.Merge.{merged, merge_number_on, merge_number_in, merge_later_in, merge_number, merge_later}
 use Rattle.table.proofs.Tables.{same_size}

@@ -20,7 +20,7 @@ use Rattle.table.specs.Table.{view_of, written, empty_of}
 use Rattle.table.specs.Layout.{TableIn, is_sized_in, view_in, written_in, empty_in}
 use Rattle.table.specs.Sound.{limit, limit_of, total, sound}
 use Rattle.adder.specs.Batch.{Weighted, sum_over, adds, weight_of, loaded, batch_of}
-use Rattle.adder.specs.Add.{passed_number}
+use Rattle.table.specs.Sound.{passed_number}
 use Rattle.loader.specs.Load.{table_in, table_of, load_number_on, load_number_in, load_later_in}
 use Rattle.loader.specs.Merge.{merged, merge_number_on, merge_number_in, merge_later_in}
 use Rattle.loader.specs.Plan.{Batch, Plan, empty, load, merge, EndedIn, Stopped, Filled, ended_of_in, ended_of}

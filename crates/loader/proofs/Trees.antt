@@ -23,7 +23,7 @@ use Rattle.table.specs.Sound.{limit_of, total, sound, unsound_number}
 use Rattle.table.proofs.Layouts.{HoldsIn, list_holds_in, holds_list_in, holds_same_in, holds_itself_in, empty_holds_in}
 use Rattle.table.proofs.Soundness.{Agree, Sound, total_high, total_same, sound_same, zeros_sound, zeros_total}
 use Rattle.adder.specs.Batch.{sum_over}
-use Rattle.adder.specs.Add.{passed_number}
+use Rattle.table.specs.Sound.{passed_number}
 use Rattle.adder.proofs.Loading.{over_append, over_perm}
 use Rattle.loader.specs.Merge.{merged, merge_number_on, merge_number_in, merge_later_in}
 use Rattle.loader.specs.Plan.{EndedIn, Filled, Stopped, ended_of_in, then_merge_in}

@@ -11,7 +11,7 @@ use Rattle.table.specs.Table.{Table}
 use Rattle.table.specs.Layout.{TableIn, is_sized_in, view_in, written_in}
 use Rattle.table.specs.Sound.{limit_of, total, sound, unsound_number}
 use Rattle.adder.specs.Batch.{Weighted, weight_of, loaded, batch_of}
-use Rattle.adder.specs.Add.{passed_number}
+use Rattle.table.specs.Sound.{passed_number}
 
 -- the table of a list of colours in a layout: an empty one with them loaded
 unfoldable pub table_in : (l : Layout) → Grid → List Weighted → TableIn l

@@ -1,17 +1,13 @@
--- `rescue::bins::reason` meets its contract: the bounds first, then whether there is room for the weight.
+-- `rescue::bins::reason_for` meets its contract: the bounds first, then whether there is room for the weight.
 -- Assumes nothing.
 use mathlib.Core.Path.{sym}
 use native.Mathlib.Omega.{arith}
-use borrow.Author.Rules.{rules}
 use Rattle.table.specs.Sound.{limit}
 use Rattle.rescue.proofs.Walks.{out_of_bounds, no_room, kept}
-use Rattle.rescue.proofs.bins.reason.Goals as goal
+use Rattle.rescue.proofs.bins.reason_for.Goals as goal
 
 pub returns-then-not-keeps : goal.returns-then-not-keeps
 returns-then-not-keeps c = let a = c.args in sym (out_of_bounds limit a.had a.weight (c.if-not-keeps.true))
-
-pub overflow_sub-had : goal.overflow_sub-had
-overflow_sub-had c = search rules
 
 pub returns-then-had-weight : goal.returns-then-had-weight
 returns-then-had-weight c =
