@@ -1,7 +1,8 @@
 -- The answer to a cut, test by test, and what a cut that nothing refuses is given.
 -- Assumes nothing.
-use Rattle.std.specs.Prelude.{None, Some}
-use mathlib.Core.Path.{◌≡◌, refl, ◌∙◌}
+use Rattle.std.specs.Prelude.{None, Some, Result, Ok, Err}
+use Rattle.std.specs.Result.{IsErrAnd}
+use mathlib.Core.Path.{◌≡◌, refl, ap, ◌∙◌}
 use mathlib.Core.Bool.{Bool, true, false, ◌&&◌}
 use Prim.Native.Nat.{ℕ, ◌*◌, ◌≤◌, ◌<◌}
 use native.Mathlib.Omega.{arith}
@@ -9,6 +10,8 @@ use borrow.Author.Tests.{eq-eqb, ne_eqb, le-leb, lt-leb, leb-true, eqb-true, eqb
 use lib.Dec.{eqb}
 use Rattle.grid.specs.declared.place.Grid.{Grid}
 use Rattle.basics.specs.Answer.{refuse, when_done}
+use Rattle.basics.specs.declared.refusal.Refusal.{Refusal}
+use Rattle.basics.specs.Refusal.{number_of}
 use Rattle.grid.specs.Grid.{grid_of, grid_answer, on_grid, bins_of}
 use Rattle.basics.proofs.Range.{and_left, and_right}
 use Rattle.basics.proofs.Ends.{refused_keeps, passed}
@@ -16,13 +19,14 @@ use Rattle.table.specs.Cell.{View}
 use Rattle.table.specs.Layouts.{Layout}
 use Rattle.table.specs.Layout.{TableIn, view_in}
 use Rattle.table.specs.Sound.{limit_of, total, sound}
+use Rattle.rounds.specs.declared.gather.Boxes.{Boxes}
 use Rattle.rounds.specs.Loop.{boxes_of}
 use Rattle.cutter.specs.Record.{CutRecord}
 use Rattle.sums.specs.declared.source.Source.{Source}
 use Rattle.sums.specs.declared.source.Source.TheVariants.{Moments}
 use Rattle.cutter.specs.Cut.{BuffersIn, Lengths, work_fits, lengths_right, long_enough, cut_number_on, CanCut}
 use Rattle.cutter.specs.Cut.{LengthsFit}
-use Rattle.cutter.specs.Cut.{refused_record, done_record, record_on, cut_record_in, later_on, cut_later_in}
+use Rattle.cutter.specs.Cut.{refused_record, done_record, record_of, record_on, cut_record_in, later_on, cut_later_in}
 
 -- ---- the work table
 pub moments_fit : {sized : Bool} → work_fits Moments sized ≡ true → sized ≡ true
@@ -139,6 +143,12 @@ can_cut e =
   where
     positive : (n : ℕ) → (n ≡ 0 → ⊥) → 0 < n
     positive n h = omega arith
+
+-- what `?` hands on tells the same
+pub record_handed : (r : Result Boxes Refusal) (e : Refusal) → IsErrAnd r (λ x. x ≡ e)
+    → record_of r ≡ refused_record (number_of e)
+record_handed (Ok b) e h = absurd h
+record_handed (Err x) e h = ap (λ (y : Refusal). refused_record (number_of y)) h
 
 -- ---- the call: what it hands back, and what it leaves behind
 module _ (layout : Layout) (source : Source) (b1 b2 b3 k : ℕ) (t : TableIn layout) (b : BuffersIn layout) where

@@ -6,12 +6,6 @@ use Rattle.sums.specs.declared.source.Source.{Source}
 use Rattle.cutter.specs.Cut.{work_fits}
 use Rattle.cutter.proofs.number.work_fits.Goals as goal
 
-pub enum_told-1 : goal.enum_told-1
-enum_told-1 c = search rules
-
-pub enum_told-in-Bins : goal.enum_told-in-Bins
-enum_told-in-Bins c = search rules
-
 pub returns-in-Moments : goal.returns-in-Moments
 unfolding work_fits
 returns-in-Moments c = ap (λ (x : Source). work_fits x c.args.sized) (sym c.in-Moments.is)

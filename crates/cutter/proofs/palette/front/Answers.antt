@@ -10,21 +10,12 @@ use lib.ListN.{length}
 use Rattle.cutter.specs.Palette.{front_of}
 use Rattle.cutter.proofs.palette.front.Goals as goal
 
-pub slice_bounds-result-count : goal.slice_bounds-result-count
-slice_bounds-result-count c = search rules
-
 pub returns-then-palette-boxes : goal.returns-then-palette-boxes
 unfolding front_of
 returns-then-palette-boxes c =
     let s = c in
     let short : length s.args.palette.now < 3 * s.args.boxes = omega arith in
     simp (lt-ltb _ _ short)
-
-pub overflow_mul-end : goal.overflow_mul-end
-overflow_mul-end c = search rules
-
-pub slice_bounds-result-count-2 : goal.slice_bounds-result-count-2
-slice_bounds-result-count-2 c = search rules
 
 pub returns : goal.returns
 unfolding front_of
