@@ -1,7 +1,9 @@
 // A PPM that comes in batches.
 ghost use Rattle.std.specs.Prelude.{◌≡◌, ◌-◌, ◌≤◌, length};
+ghost use Rattle.basics.specs.Refusal.{told_of};
 ghost use Rattle.inputs.specs.Frames.{moved_up, frame_answer, Read};
 
+use basics::refusal::Refusal;
 use ppm::header::Header;
 
 // Moves the filled bytes from a place on to the front of a buffer, and answers how many they are.
@@ -14,17 +16,21 @@ pub fn to_front(space: &mut [u8], from: usize, filled: usize) -> usize
     filled - from
 }
 
-// The answer to a PPM by its header, by how many bytes followed it, and by the lowest refusal of their loads.
-pub fn frame_number(header: Header, bytes: u64, lowest: u8) -> u8
+// The refusal of a PPM by its header, by how many bytes followed it, and by the lowest refusal of their loads.
+pub fn frame_refusal(header: Header, bytes: u64, lowest: Option<Refusal>) -> Option<Refusal>
     requires { Read header }
-    ensures { result ≡ frame_answer header bytes lowest }
+    ensures { told_of result ≡ frame_answer header bytes (told_of lowest) }
 {
     match header {
         Header::Image(f) => {
             let pixels = (f.width * f.height) as u64;
-            if bytes == 3 * pixels { lowest } else { 12 }
+            if bytes == 3 * pixels {
+                lowest
+            } else {
+                Some(Refusal::PixelCount)
+            }
         }
-        Header::Maximum => 11,
-        Header::Malformed => 10,
+        Header::Maximum => Some(Refusal::Maximum),
+        Header::Malformed => Some(Refusal::Header),
     }
 }

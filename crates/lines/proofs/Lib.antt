@@ -2,4 +2,5 @@ pub mod Decimal
 pub mod Putting
 pub mod Writing
 pub mod Texts
+pub mod Telling
 pub mod Reading

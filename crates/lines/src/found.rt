@@ -1,8 +1,12 @@
 // What there is to list of a table that was loaded.
 ghost use Rattle.std.specs.Prelude.{◌≡◌, ◌≤◌, IfOk};
-ghost use Rattle.lines.specs.Listing.{found_of};
+ghost use Rattle.basics.specs.Refusal.{told_of};
+ghost use Rattle.lines.specs.Listing.{found_of, numbered};
 
+use basics::refusal::Refusal;
 use cutter::call::cut;
+use sums::source::Source;
+use table::layout::Wide;
 
 // A cut by the program's grid and k: each of the first boxes has a colour and a count.
 #[derive(Drop)]
@@ -13,37 +17,37 @@ pub struct Found {
     pub counts: [u32; 16],
 }
 
-// The cut of a table, or the number of a refusal: the lowest of the loads, or else that of the cut.
-pub fn cut_loaded(table: &[u64], lowest: u8) -> Result<Found, u8>
-    ensures is { result ≡ found_of lowest table.now }
+// The cut of a table, or a refusal: the lowest of the loads, or else that of the cut.
+pub fn cut_loaded(table: &[u64], lowest: Option<Refusal>) -> Result<Found, Refusal>
+    ensures is { numbered result ≡ found_of (told_of lowest) table.now }
     ensures few { IfOk result (λ f. f.boxes ≤ 16) }
 {
-    if lowest != 0 {
-        return Err(lowest);
+    if let Some(refusal) = lowest {
+        return Err(refusal);
     }
     let mut work = [0; 2560];
     let mut palette = [0; 48];
     let mut counts = [0; 16];
     let mut remainders = [0; 48];
     let mut map = [0; 512];
-    let done = cut(
+    let found = cut::<Wide>(
+        Source::Moments,
         8,
         8,
         8,
         16,
+        &[],
         table,
+        &mut [],
         &mut work,
         &mut palette,
         &mut counts,
         &mut remainders,
         &mut map,
-    );
-    if done.number != 0 {
-        return Err(done.number);
-    }
+    )?;
     Ok(Found {
-        boxes: done.boxes,
-        rounds: done.rounds,
+        boxes: found.boxes,
+        rounds: found.rounds,
         palette,
         counts,
     })
