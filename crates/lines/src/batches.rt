@@ -35,7 +35,8 @@ pub struct Loaded {
     pub more: bool,
 }
 
-// Loads the filled front of a batch. A refusal does not end the input: what follows may have a lower one.
+// Loads the filled front of a batch, whose whole length says whether it is full. A refusal does not end the input: what
+// follows may have a lower one.
 pub fn load_batch(table: &mut [u64], batch: &[u8], filled: usize, lowest: Option<Refusal>) -> Loaded
     requires { Filled batch.now filled }
     ensures answer { told_batch result ≡ batch_answer table.old batch.now filled (told_of lowest) }

@@ -37,7 +37,7 @@ pub(crate) fn listing(found: &Found, out: &mut [u8]) -> usize
     text.at
 }
 
-// Puts the line of a refusal at the start of a buffer, and answers its length.
+// Puts the line of a refusal at the start of a buffer, and answers its length. It takes any number, as it is written.
 pub fn refused(refusal: u8, out: &mut [u8]) -> usize
     requires { line_room ≤ length out.old }
     ensures ends { result ≡ length (refused_of refusal) }

@@ -29,7 +29,8 @@ fn swatch_line(text: &mut Writer<'_>, i: usize, palette: &[u8], counts: &[u32], 
     text.box_line(i, palette, counts);
 }
 
-// Puts the whole listing with swatches at the start of a buffer, and answers its length.
+// Puts the whole listing with swatches at the start of a buffer, and answers its length. A closure for what stands before
+// a line would be longer than this loop beside that of `lines`.
 pub(crate) fn swatch_lines(found: &Found, numbers: &[u8; 16], out: &mut [u8]) -> usize
     requires { RoomForSwatches found.now out.old }
     ensures ends { result ≡ length (swatches_found found.now numbers.now) }
