@@ -4,7 +4,6 @@ use mathlib.Core.Path.{sym}
 use native.Mathlib.Omega.{arith}
 use lib.ListN.{length-set}
 use Rattle.seluvava.proofs.Boxes.{six_bytes}
-use borrow.Author.Rules.{rules}
 use Rattle.seluvava.proofs.arrays.put_box.Goals as goal
 
 pub bounds-boxes-at-2 : goal.bounds-boxes-at-2

@@ -1,7 +1,6 @@
 -- `seluvava::cut::seluvava_cut_slowly` meets its contract: the cut that adds up bins, lent no work table.
 -- Assumes nothing.
 use mathlib.Core.Path.{sym, ap, ◌∙◌}
-use borrow.Author.Rules.{rules}
 use Rattle.sums.specs.declared.source.Source.TheVariants.{Bins}
 use Rattle.table.specs.Layouts.{Wide}
 use Rattle.cutter.specs.Cut.{buffers, no_work}

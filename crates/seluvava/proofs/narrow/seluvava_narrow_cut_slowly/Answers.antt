@@ -2,7 +2,6 @@
 -- table.
 -- Assumes nothing.
 use mathlib.Core.Path.{sym, ap, ◌∙◌}
-use borrow.Author.Rules.{rules}
 use Rattle.table.specs.Layouts.{Narrow}
 use Rattle.table.specs.Narrow.{narrow_table}
 use Rattle.sums.specs.declared.source.Source.TheVariants.{Bins}
