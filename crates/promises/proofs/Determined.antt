@@ -3,17 +3,19 @@
 -- parameters at exit e. What is lent in a layout is
 -- seen by `lent_lists`: a wide table has no small list.
 -- Assumes nothing.
-use Rattle.std.specs.Prelude.{Option, Result}
-use mathlib.Core.Path.{◌≡◌, ap}
+use Rattle.std.specs.Prelude.{Option, Result, Ok, Err}
+use mathlib.Core.Path.{◌≡◌, sym, ap, ◌∙◌}
+use mathlib.Core.Bool.{true≢false}
+use lib.Dec.{eqb}
 use mathlib.Core.List.{List}
 use Prim.Native.Nat.{ℕ, ◌≤◌}
 use native.Mathlib.Bridge.{le_prop}
 use mathlib.Core.HLevel.{is_prop→PathP}
 use lib.IntN.{ℤ}
 use Rattle.basics.proofs.Determined.{determined}
-use Rattle.basics.proofs.Refusals.{number_tells, answer_tells}
+use Rattle.basics.proofs.Refusals.{number_tells, answer_tells, not_done}
 use Rattle.basics.specs.declared.refusal.Refusal.{Refusal}
-use Rattle.basics.proofs.refusal.Refusal.number as refusal-number
+use Rattle.basics.proofs.refusal.Refusal.number as number
 use Rattle.basics.proofs.refusal.answer as answer
 use Rattle.grid.specs.declared.place.Grid.{Grid}
 use Rattle.table.specs.declared.cell.Cell.{Cell}
@@ -21,9 +23,9 @@ use Rattle.sums.specs.declared.box_sums.Stats.{Stats}
 use Rattle.spread.specs.declared.both_sides.BestCut.{BestCut}
 use Rattle.rounds.specs.declared.gather.Boxes.{Boxes}
 use Rattle.cutter.specs.Record.{CutRecord}
-use Rattle.table.specs.Layouts.{Narrow}
+use Rattle.table.specs.Layouts.{Wide, Narrow}
 use Rattle.table.specs.Narrow.{NarrowTable, narrow_table}
-use Rattle.cutter.specs.Cut.{Results, Buffers, buffers, no_work, buffers_in, no_work_in}
+use Rattle.cutter.specs.Cut.{Results, Buffers, buffers, no_work, buffers_in, no_work_in, record_of, done_record, refused_record}
 use Rattle.promises.specs.Layouts.{lists_in, lent_lists, DeterminesIn}
 use Rattle.grid.proofs.dimension.shift_of as Shift-of
 use Rattle.grid.proofs.place.grid_of as grid-of
@@ -57,11 +59,8 @@ use Rattle.table.proofs.sound.sound_total as sound-total
 use Rattle.adder.proofs.shares.add_at as add_at
 use Rattle.adder.proofs.steps.Steps.of as steps-of
 use Rattle.adder.proofs.add.add_batch as add-batch
-use Rattle.loader.proofs.load.load_scaled_in as load-scaled-in
 use Rattle.loader.proofs.load.load_scaled as load-scaled
-use Rattle.loader.proofs.load.load_in as load-in
 use Rattle.loader.proofs.load.load as load
-use Rattle.loader.proofs.merge.merge_in as merge_in
 use Rattle.loader.proofs.merge.merge as merge
 use Rattle.recorder.specs.declared.session.SessionAnswer.{SessionAnswer}
 use Rattle.recorder.proofs.session.begin as begin
@@ -127,9 +126,7 @@ use Rattle.lines.proofs.writer.Writer.box_line as box-line
 use Rattle.lines.proofs.listing.refused as refused
 use Rattle.lines.proofs.text.text as text
 use Rattle.swatches.proofs.text.swatch_text as swatch-text
-use Rattle.cutter.proofs.call.cut_from as cut-from
 use Rattle.cutter.proofs.call.cut as cut
-use Rattle.cutter.proofs.call.cut_slowly as cut-slowly
 use Rattle.seluvava.specs.declared.cut.CutAnswer.{CutAnswer}
 use Rattle.seluvava.specs.Cut.{Lent, lent, LentIn, lent_in}
 use Rattle.seluvava.proofs.version.seluvava_version as exported-version
@@ -161,7 +158,7 @@ both : {A B : Type 0} {a c : A} {b d : B} → a ≡ c → b ≡ d → ◌≡◌ 
 both p q = λ i. (p i, q i)
 
 -- ---- basics
-pub number_determined : Determines 0 refusal-number.Kinds.ps refusal-number.Kinds.r refusal-number.Reads.Learnt (λ κs r e. r)
+pub number_determined : Determines 0 number.Kinds.ps number.Kinds.r number.Reads.Learnt (λ κs r e. r)
 number_determined κs a r s x y p q = determined p q
 
 pub answer_determined : Determines 0 answer.Kinds.ps answer.Kinds.r answer.Reads.Learnt (λ κs r e. r)
@@ -241,8 +238,9 @@ wide_fits_determined κs a r s x y p q = determined p q
 pub wide_cell_determined : Determines 2 wide-cell.Kinds.ps wide-cell.Kinds.r wide-cell.Reads.Learnt (λ κs r e. r)
 wide_cell_determined κs a r s x y p q = determined p q
 
-pub wide_put_determined : Determines 2 wide-put.Kinds.ps wide-put.Kinds.r wide-put.Reads.Learnt (λ κs r e. e.1.0.now)
-wide_put_determined κs a r s x y p q = determined p q
+pub wide_put_determined : Determines 2 wide-put.Kinds.ps wide-put.Kinds.r wide-put.Reads.Learnt
+    (λ κs r e. lent_lists Wide e.0.now e.1.0.now)
+wide_put_determined κs a r s x y p q = ap (lists_in Wide) (determined p q)
 
 pub wide_limit_determined : Determines 0 wide-limit.Kinds.ps wide-limit.Kinds.r wide-limit.Reads.Learnt (λ κs r e. r)
 wide_limit_determined κs a r s x y p q = determined p q
@@ -299,33 +297,20 @@ pub add_batch_determined : DeterminesIn {A = Option ℕ × (List ℕ × List ℕ
 add_batch_determined T laws l d κs a r s x y p q = both (determined p.0 q.0) (ap (lists_in l.layout) (determined p.1 q.1))
 
 -- ---- loader
-pub load_scaled_in_determined : DeterminesBy {A = ℕ × (List ℕ × List ℕ)} 4 load-scaled-in.Kinds.ps
-    load-scaled-in.Kinds.r load-scaled-in.Reads.Learnt
-    (λ κs a r e. (r, lent_lists a.0 e.1.1.1.1.1.0.now e.1.1.1.1.1.1.0.now))
-load_scaled_in_determined κs a r s x y p q =
-    both (determined p.0 q.0) (ap (lists_in a.0) (determined p.1 q.1))
+pub load_scaled_determined : DeterminesIn {A = Result (Unit {0}) Refusal × (List ℕ × List ℕ)} 5 load-scaled.Kinds.ps load-scaled.Kinds.r load-scaled.Reads.Learnt
+    (λ T laws l κs r e. (r, lent_lists l e.1.1.1.1.0.now e.1.1.1.1.1.0.now))
+load_scaled_determined T laws l d κs a r s x y p q =
+    both (answer_tells r s (determined p.0 q.0)) (ap (lists_in l.layout) (determined p.1 q.1))
 
-pub load_scaled_determined : Determines {A = ℕ × List ℕ} 3 load-scaled.Kinds.ps load-scaled.Kinds.r
-    load-scaled.Reads.Learnt (λ κs r e. (r, e.1.1.1.1.0.now))
-load_scaled_determined κs a r s x y p q = both (determined p.0 q.0) (determined p.1 q.1)
+pub load_determined : DeterminesIn {A = Result (Unit {0}) Refusal × (List ℕ × List ℕ)} 5 load.Kinds.ps load.Kinds.r load.Reads.Learnt
+    (λ T laws l κs r e. (r, lent_lists l e.1.1.1.0.now e.1.1.1.1.0.now))
+load_determined T laws l d κs a r s x y p q =
+    both (answer_tells r s (determined p.0 q.0)) (ap (lists_in l.layout) (determined p.1 q.1))
 
-pub load_in_determined : DeterminesBy {A = ℕ × (List ℕ × List ℕ)} 4 load-in.Kinds.ps load-in.Kinds.r
-    load-in.Reads.Learnt (λ κs a r e. (r, lent_lists a.0 e.1.1.1.1.0.now e.1.1.1.1.1.0.now))
-load_in_determined κs a r s x y p q =
-    both (determined p.0 q.0) (ap (lists_in a.0) (determined p.1 q.1))
-
-pub load_determined : Determines {A = ℕ × List ℕ} 3 load.Kinds.ps load.Kinds.r load.Reads.Learnt
-    (λ κs r e. (r, e.1.1.1.0.now))
-load_determined κs a r s x y p q = both (determined p.0 q.0) (determined p.1 q.1)
-
-pub merge_in_determined : DeterminesBy {A = ℕ × (List ℕ × List ℕ)} 4 merge_in.Kinds.ps merge_in.Kinds.r
-    merge_in.Reads.Learnt (λ κs a r e. (r, lent_lists a.0 e.1.1.1.1.0.now e.1.1.1.1.1.0.now))
-merge_in_determined κs a r s x y p q =
-    both (determined p.0 q.0) (ap (lists_in a.0) (determined p.1 q.1))
-
-pub merge_determined : Determines {A = ℕ × List ℕ} 2 merge.Kinds.ps merge.Kinds.r merge.Reads.Learnt
-    (λ κs r e. (r, e.1.1.1.0.now))
-merge_determined κs a r s x y p q = both (determined p.0 q.0) (determined p.1 q.1)
+pub merge_determined : DeterminesIn {A = Result (Unit {0}) Refusal × (List ℕ × List ℕ)} 5 merge.Kinds.ps merge.Kinds.r merge.Reads.Learnt
+    (λ T laws l κs r e. (r, lent_lists l e.1.1.1.0.now e.1.1.1.1.0.now))
+merge_determined T laws l d κs a r s x y p q =
+    both (answer_tells r s (determined p.0 q.0)) (ap (lists_in l.layout) (determined p.1 q.1))
 
 -- ---- recorder
 pub begin_determined : Determines 0 begin.Kinds.ps begin.Kinds.r begin.Reads.Learnt (λ κs r e. r)
@@ -334,9 +319,9 @@ begin_determined κs a r s x y p q = determined p q
 pub reload_determined : Determines 0 reload.Kinds.ps reload.Kinds.r reload.Reads.Learnt (λ κs r e. r)
 reload_determined κs a r s x y p q = determined p q
 
-pub batch_determined : Determines {A = ℕ × List ℕ} 3 batch.Kinds.ps batch.Kinds.r batch.Reads.Learnt
+pub batch_determined : Determines {A = Result (Unit {0}) Refusal × List ℕ} 3 batch.Kinds.ps batch.Kinds.r batch.Reads.Learnt
     (λ κs r e. (r, e.1.1.1.1.1.0.now))
-batch_determined κs a r s x y p q = both (determined p.0 q.0) (determined p.1 q.1)
+batch_determined κs a r s x y p q = both (answer_tells r s (determined p.0 q.0)) (determined p.1 q.1)
 
 pub replay_determined : Determines {A = SessionAnswer × (List ℕ × List ℕ)} 5 replay.Kinds.ps replay.Kinds.r
     replay.Reads.Learnt (λ κs r e. (r, (e.1.1.1.1.0.now, e.1.1.1.1.1.1.1.1.0.now)))
@@ -347,9 +332,9 @@ replay_determined κs a r s x y p q =
 pub read_header_determined : Determines 1 read-header.Kinds.ps read-header.Kinds.r read-header.Reads.Learnt (λ κs r e. r)
 read_header_determined κs a r s x y p q = determined p q
 
-pub load_ppm_determined : Determines {A = ℕ × List ℕ} 2 load-ppm.Kinds.ps load-ppm.Kinds.r load-ppm.Reads.Learnt
+pub load_ppm_determined : Determines {A = Result (Unit {0}) Refusal × List ℕ} 2 load-ppm.Kinds.ps load-ppm.Kinds.r load-ppm.Reads.Learnt
     (λ κs r e. (r, e.1.1.1.0.now))
-load_ppm_determined κs a r s x y p q = both (determined p.0 q.0) (determined p.1 q.1)
+load_ppm_determined κs a r s x y p q = both (answer_tells r s (determined p.0 q.0)) (determined p.1 q.1)
 
 -- ---- compare
 pub compare_determined : Determines {A = Compared × List ℤ} 3 compare.Kinds.ps compare.Kinds.r compare.Reads.Learnt
@@ -357,15 +342,15 @@ pub compare_determined : Determines {A = Compared × List ℤ} 3 compare.Kinds.p
 compare_determined κs a r s x y p q = both (determined p.0 q.0) (determined p.1 q.1)
 
 -- ---- rescue
-pub rescue_determined : Determines {A = ℕ × (List ℕ × List ℕ)} 2 rescue.Kinds.ps rescue.Kinds.r rescue.Reads.Learnt
+pub rescue_determined : Determines {A = Result (Unit {0}) Refusal × (List ℕ × List ℕ)} 2 rescue.Kinds.ps rescue.Kinds.r rescue.Reads.Learnt
     (λ κs r e. (r, (e.1.1.1.0.now, e.1.1.1.1.0.now)))
 rescue_determined κs a r s x y p q =
-    both (determined p.0 q.0) (both (determined p.1.0 q.1.0) (determined p.1.1 q.1.1))
+    both (answer_tells r s (determined p.0 q.0)) (both (determined p.1.0 q.1.0) (determined p.1.1 q.1.1))
 
 -- ---- widen
-pub widen_determined : Determines {A = ℕ × List ℕ} 3 widen.Kinds.ps widen.Kinds.r widen.Reads.Learnt
+pub widen_determined : Determines {A = Result (Unit {0}) Refusal × List ℕ} 3 widen.Kinds.ps widen.Kinds.r widen.Reads.Learnt
     (λ κs r e. (r, e.1.1.1.1.1.0.now))
-widen_determined κs a r s x y p q = both (determined p.0 q.0) (determined p.1 q.1)
+widen_determined κs a r s x y p q = both (answer_tells r s (determined p.0 q.0)) (determined p.1 q.1)
 
 -- ---- bins
 pub add_up_determined : DeterminesIn {A = Cell} 3 add-up.Kinds.ps add-up.Kinds.r add-up.Reads.Learnt
@@ -446,38 +431,31 @@ cut_boxes_determined T laws l d κs a r s x y p q = determined p q
 pub front_determined : Determines 1 front.Kinds.ps front.Kinds.r front.Reads.Learnt (λ κs r e. r.now)
 front_determined κs a r s x y p q = determined p q
 
-pub cut_from_determined : DeterminesBy {A = CutRecord × (List ℕ × List ℕ) × Results} 8 cut-from.Kinds.ps
-    cut-from.Kinds.r cut-from.Reads.Learnt
-    (λ κs a r e. (
+-- two results of a cut with one record are the same
+record_tells : (r s : Result Boxes Refusal) → record_of r ≡ record_of s → r ≡ s
+unfolding done_record refused_record
+record_tells (Ok b) (Ok c) e =
+    ap (λ (x : CutRecord). Ok (record { boxes = x.boxes; rounds = x.rounds; places = x.places })) e
+record_tells (Ok b) (Err s) e = absurd (true≢false (ap (λ (x : CutRecord). eqb x.number 0) e ∙ not_done s))
+record_tells (Err r) (Ok c) e = absurd (true≢false (sym (ap (λ (x : CutRecord). eqb x.number 0) e) ∙ not_done r))
+record_tells (Err r) (Err s) e =
+    ap (λ (x : Refusal). Err x) (number_tells r s (ap (λ (x : CutRecord). x.number) e))
+
+pub cut_determined : DeterminesIn {A = Result Boxes Refusal × (List ℕ × List ℕ) × Results} 9 cut.Kinds.ps cut.Kinds.r
+    cut.Reads.Learnt
+    (λ T laws l κs r e. (
       r,
-      lent_lists a.1.0 e.1.1.1.1.1.1.1.1.0.now e.1.1.1.1.1.1.1.1.1.0.now,
+      lent_lists l e.1.1.1.1.1.1.1.0.now e.1.1.1.1.1.1.1.1.0.now,
       record {
-        palette = e.1.1.1.1.1.1.1.1.1.1.0.now;
-        counts = e.1.1.1.1.1.1.1.1.1.1.1.0.now;
-        remainders = e.1.1.1.1.1.1.1.1.1.1.1.1.0.now;
-        map = e.1.1.1.1.1.1.1.1.1.1.1.1.1.0.now;
+        palette = e.1.1.1.1.1.1.1.1.1.0.now;
+        counts = e.1.1.1.1.1.1.1.1.1.1.0.now;
+        remainders = e.1.1.1.1.1.1.1.1.1.1.1.0.now;
+        map = e.1.1.1.1.1.1.1.1.1.1.1.1.0.now;
       },
     ))
-cut_from_determined κs a r s x y p q =
+cut_determined T laws l d κs a r s x y p q =
     let later = determined p.1 q.1 in
-    λ i. (determined p.0 q.0 i, lists_in a.1.0 (later i).work, (later i).results)
-
-pub cut_determined : Determines {A = CutRecord × Buffers} 6 cut.Kinds.ps cut.Kinds.r cut.Reads.Learnt
-    (λ κs r e. (
-      r,
-      buffers e.1.1.1.1.1.0.now e.1.1.1.1.1.1.0.now e.1.1.1.1.1.1.1.0.now
-          e.1.1.1.1.1.1.1.1.0.now e.1.1.1.1.1.1.1.1.1.0.now,
-    ))
-cut_determined κs a r s x y p q = both (determined p.0 q.0) (determined p.1 q.1)
-
-pub cut_slowly_determined : Determines {A = CutRecord × Buffers} 5 cut-slowly.Kinds.ps cut-slowly.Kinds.r
-    cut-slowly.Reads.Learnt
-    (λ κs r e. (
-      r,
-      buffers no_work e.1.1.1.1.1.0.now e.1.1.1.1.1.1.0.now e.1.1.1.1.1.1.1.0.now
-          e.1.1.1.1.1.1.1.1.0.now,
-    ))
-cut_slowly_determined κs a r s x y p q = both (determined p.0 q.0) (determined p.1 q.1)
+    λ i. (record_tells r s (determined p.0 q.0) i, lists_in l.layout (later i).work, (later i).results)
 
 -- ---- band
 pub band_number_determined : Determines {A = Result (Unit {0}) Refusal} 1 band-number.Kinds.ps band-number.Kinds.r
