@@ -53,9 +53,10 @@ module _ {g : Grid} {v : View} (s : Sound limit g v) where
       record {
         zero_too = λ x m q. zero_measured x m.fit;
         sides_too = λ x m {at} q.
-            let both = (fit_kept g v).sides_too x m.fit q in
-            (side_measured (low_side x.bounds at.dimension at.bin) both.0,
-            side_measured (high_side x.bounds at.dimension at.bin) both.1);
+            let both = (fit_kept g v).sides_too x m.fit q in (
+              side_measured (low_side x.bounds at.dimension at.bin) both.0,
+              side_measured (high_side x.bounds at.dimension at.bin) both.1,
+            );
       }
 
   module _ (a : Accepted g) (l : 0 < total g v) where
