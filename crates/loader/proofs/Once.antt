@@ -58,3 +58,8 @@ pub unlisted_later : (l : Layout) (b1 b2 b3 : ℕ) (t : TableIn l) (colours weig
     → load_later_in l b1 b2 b3 t colours false weights ≡ load_later_in l b1 b2 b3 t colours false other
 unfolding load_later_in load_number_on batch_of weighted_at
 unlisted_later l b1 b2 b3 t colours weights other = refl
+
+pub unlisted_scaled : (scale n : ℕ) (weights other : List ℕ)
+    → scaled_weights scale n false weights ≡ scaled_weights scale n false other
+unfolding scaled_weights
+unlisted_scaled scale n weights other = refl

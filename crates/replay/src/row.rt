@@ -35,7 +35,7 @@ fn first_difference(a: &[u64], b: &[u64]) -> Option<usize>
 }
 
 // The room is used for each line anew, and how long the row is stands beside it: a line that is too short is read on
-// into what longer ones left there (docs/REPLAY.md, "How it is read").
+// into what longer ones left there (docs/REPLAY.md, How it is read).
 #[derive(Drop)]
 pub(crate) struct Row {
     len: usize,
