@@ -7,7 +7,8 @@ use Prim.Native.Nat.{ℕ, ◌+◌, ◌%◌, ◌≤◌}
 use borrow.Author.Tests.{eqb-true}
 use lib.ListN.{length, take, drop, take-append-drop}
 use lib.Seq.{length-take-le, take-take}
-use Rattle.lines.specs.Listing.{BatchAnswer, batch_answer, batch_later}
+use Rattle.lines.specs.declared.batches.Loaded.{Loaded}
+use Rattle.lines.specs.Listing.{batch_answer, batch_later}
 use Rattle.lines.specs.Reading.{Progress, progress, after_batch, after_all, Came, AllCame}
 use Rattle.lines.proofs.Reading.{none_came, one_more}
 use Rattle.inputs.specs.Frames.{Room, CameBehind}
@@ -27,7 +28,7 @@ pub behind_came : {front : List ℕ} {before after : Progress} {more : Bool} →
 behind_came {front} c = record { batch = front ++ c.rest; whole = c.whole; loaded = c.loaded }
 
 -- what a batch of which some bytes are filled gives, where the first of them were there
-pub filled_behind : {t later space : List ℕ} {front : List ℕ} {there filled lowest : ℕ} (had : ℕ) {r : BatchAnswer}
+pub filled_behind : {t later space : List ℕ} {front : List ℕ} {there filled lowest : ℕ} (had : ℕ) {r : Loaded}
     → Room space → filled ≤ length space → there ≤ filled → take there space ≡ front
     → r ≡ batch_answer t space filled lowest → later ≡ batch_later t space filled
     → CameBehind front (progress lowest t had) (progress r.number later (had + filled)) r.more
@@ -36,7 +37,7 @@ filled_behind {t} {later} {space} {front} {there} {filled} {lowest} had {r} room
     record {
       rest = drop there (take filled space);
       whole = λ m. ap (λ (x : List ℕ). length x % 3) joined
-          ∙ ap (λ (n : ℕ). n % 3) (long ∙ eqb-true filled (length space) (sym (ap (λ (x : BatchAnswer). x.more) e) ∙ m))
+          ∙ ap (λ (n : ℕ). n % 3) (long ∙ eqb-true filled (length space) (sym (ap (λ (x : Loaded). x.more) e) ∙ m))
           ∙ room.whole;
       loaded = (λ i. progress (e i).number (l i) (had + sym long i))
           ∙ ap (after_batch (progress lowest t had)) (sym joined);

@@ -1,6 +1,5 @@
 // A PPM that comes in batches.
 ghost use Rattle.std.specs.Prelude.{◌≡◌, ◌-◌, ◌≤◌, length};
-ghost use Rattle.basics.specs.Refusal.{told_of};
 ghost use Rattle.inputs.specs.Frames.{moved_up, frame_answer, Read};
 
 use basics::refusal::Refusal;
@@ -16,10 +15,11 @@ pub fn to_front(space: &mut [u8], from: usize, filled: usize) -> usize
     filled - from
 }
 
-// The refusal of a PPM by its header, by how many bytes followed it, and by the lowest refusal of their loads.
-pub fn frame_refusal(header: Header, bytes: u64, lowest: Option<Refusal>) -> Option<Refusal>
+// The answer to a PPM by its header, by how many bytes followed it, and by the lowest refusal of their loads.
+// This is a number, as callers may hand in any.
+pub fn frame_number(header: Header, bytes: u64, lowest: u8) -> u8
     requires { Read header }
-    ensures { told_of result ≡ frame_answer header bytes (told_of lowest) }
+    ensures { result ≡ frame_answer header bytes lowest }
 {
     match header {
         Header::Image(f) => {
@@ -27,10 +27,10 @@ pub fn frame_refusal(header: Header, bytes: u64, lowest: Option<Refusal>) -> Opt
             if bytes == 3 * pixels {
                 lowest
             } else {
-                Some(Refusal::PixelCount)
+                Refusal::PixelCount.number()
             }
         }
-        Header::Maximum => Some(Refusal::Maximum),
-        Header::Malformed => Some(Refusal::Header),
+        Header::Maximum => Refusal::Maximum.number(),
+        Header::Malformed => Refusal::Header.number(),
     }
 }

@@ -2,5 +2,4 @@ pub mod Decimal
 pub mod Putting
 pub mod Writing
 pub mod Texts
-pub mod Telling
 pub mod Reading

@@ -78,10 +78,10 @@ pub found_refused : (n : ℕ) (t : List ℕ) → (n ≡ 0 → ⊥) → Err n ≡
 unfolding found_of
 found_refused n t h = sym (when_refused n _ _ h)
 
-module _ (t : List ℕ) {r : CutRecord} (e : r ≡ cut_record Moments 8 8 8 16 t lent_zeros) where
-  pub found_cut_refused : (r.number ≡ 0 → ⊥) → Err r.number ≡ found_of 0 t
-  unfolding found_of when_done
-  found_cut_refused h = sym (rw (← e) (when_refused r.number _ _ h))
+module _ (n : ℕ) (t : List ℕ) (none : n ≡ 0) {r : CutRecord} (e : r ≡ cut_record Moments 8 8 8 16 t lent_zeros) where
+  pub found_cut_refused : (r.number ≡ 0 → ⊥) → Err r.number ≡ found_of n t
+  unfolding found_of
+  found_cut_refused h = sym (when_done_lem n _ _ none ∙ rw (← e) (when_refused r.number _ _ h))
 
   pub found_cut : {later : Buffers} → later ≡ cut_later Moments 8 8 8 16 t lent_zeros → r.number ≡ 0
       → Ok (record {
@@ -90,9 +90,9 @@ module _ (t : List ℕ) {r : CutRecord} (e : r ≡ cut_record Moments 8 8 8 16 t
         palette = later.results.palette;
         counts = later.results.counts;
       })
-      ≡ found_of 0 t
-  unfolding found_of when_done
-  found_cut l h = sym (rw (← e, ← l) (when_done_lem r.number _ _ h))
+      ≡ found_of n t
+  unfolding found_of
+  found_cut l h = sym (when_done_lem n _ _ none ∙ rw (← e, ← l) (when_done_lem r.number _ _ h))
 
 -- a text by what there is to list
 abbrev pub said : (Found → List ℕ) → Result Found ℕ → List ℕ

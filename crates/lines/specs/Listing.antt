@@ -1,12 +1,11 @@
 -- The listing program (Rules, Listing) between reading and writing. Definitions only.
-use Rattle.std.specs.Prelude.{◌≡◌, Bool, false, List, [], ℕ, zero, suc, ◌*◌, ◌%◌, ◌≤◌, ◌<◌, min, eqb, length, take, replicate, Result, Ok, Err}
-use Rattle.basics.specs.declared.refusal.Refusal.{Refusal}
+use Rattle.std.specs.Prelude.{◌≡◌, false, List, [], ℕ, zero, suc, ◌*◌, ◌%◌, ◌≤◌, ◌<◌, min, eqb, length, take, replicate, Result, Ok, Err}
 use Rattle.basics.specs.Answer.{when_done}
-use Rattle.basics.specs.Refusal.{number_of}
 use Rattle.table.specs.Table.{Table, empty_of}
 use Rattle.loader.specs.Load.{load_number, load_later}
 use Rattle.sums.specs.declared.source.Source.TheVariants.{Moments}
 use Rattle.cutter.specs.Cut.{Buffers, buffers, cut_record, cut_later}
+use Rattle.lines.specs.declared.batches.Loaded.{Loaded}
 use Rattle.lines.specs.declared.found.Found.{Found}
 use Rattle.lines.specs.Text.{listing_of, refused_of}
 
@@ -27,13 +26,8 @@ lower_of zero m = m
 lower_of (suc n) zero = suc n
 lower_of (suc n) (suc m) = min (suc n) (suc m)
 
--- what a batch is answered: the number of the lowest refusal, 0 where there was none, and whether another may follow
-pub record BatchAnswer : Type 0 where
-  pub number : ℕ
-  pub more : Bool
-
 -- a batch whose first bytes are filled: the lowest refusal so far, and that another one may follow where it is full
-unfoldable pub batch_answer : List ℕ → List ℕ → ℕ → ℕ → BatchAnswer
+unfoldable pub batch_answer : List ℕ → List ℕ → ℕ → ℕ → Loaded
 batch_answer t batch filled lowest =
     record { number = lower_of lowest (part_number t (take filled batch)); more = eqb filled (length batch) }
 
@@ -64,11 +58,6 @@ found_of number t =
     (Ok (record { boxes = r.boxes; rounds = r.rounds; palette = later.results.palette; counts = later.results.counts }))
     (Err r.number))
     (Err number)
-
--- the same with the refusal's number
-abbrev pub numbered : Result Found Refusal → Result Found ℕ
-numbered (Ok f) = Ok f
-numbered (Err r) = Err (number_of r)
 
 -- "On a refusal it writes only `refused N`": the lowest refusal of the loads, or else that of the cut
 unfoldable pub text_of : ℕ → List ℕ → List ℕ

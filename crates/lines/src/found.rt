@@ -1,9 +1,7 @@
 // What there is to list of a table that was loaded.
 ghost use Rattle.std.specs.Prelude.{◌≡◌, ◌≤◌, IfOk};
-ghost use Rattle.basics.specs.Refusal.{told_of};
-ghost use Rattle.lines.specs.Listing.{found_of, numbered};
+ghost use Rattle.lines.specs.Listing.{found_of};
 
-use basics::refusal::Refusal;
 use cutter::call::cut;
 use sums::source::Source;
 use table::layout::Wide;
@@ -17,20 +15,21 @@ pub struct Found {
     pub counts: [u32; 16],
 }
 
-// The cut of a table, or a refusal: the lowest of the loads, or else that of the cut.
-pub fn cut_loaded(table: &[u64], lowest: Option<Refusal>) -> Result<Found, Refusal>
-    ensures is { numbered result ≡ found_of (told_of lowest) table.now }
+// The cut of a table, or the number of a refusal: the lowest of the loads, or else that of the cut. The lowest is a
+// number, as callers may hand in any.
+pub fn cut_loaded(table: &[u64], lowest: u8) -> Result<Found, u8>
+    ensures is { result ≡ found_of lowest table.now }
     ensures few { IfOk result (λ f. f.boxes ≤ 16) }
 {
-    if let Some(refusal) = lowest {
-        return Err(refusal);
+    if lowest != 0 {
+        return Err(lowest);
     }
     let mut work = [0; 2560];
     let mut palette = [0; 48];
     let mut counts = [0; 16];
     let mut remainders = [0; 48];
     let mut map = [0; 512];
-    let found = cut::<Wide>(
+    let cut = cut::<Wide>(
         Source::Moments,
         8,
         8,
@@ -44,11 +43,14 @@ pub fn cut_loaded(table: &[u64], lowest: Option<Refusal>) -> Result<Found, Refus
         &mut counts,
         &mut remainders,
         &mut map,
-    )?;
-    Ok(Found {
-        boxes: found.boxes,
-        rounds: found.rounds,
-        palette,
-        counts,
-    })
+    );
+    match cut {
+        Ok(found) => Ok(Found {
+            boxes: found.boxes,
+            rounds: found.rounds,
+            palette,
+            counts,
+        }),
+        Err(refusal) => Err(refusal.number()),
+    }
 }

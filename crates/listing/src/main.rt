@@ -4,12 +4,10 @@
 #![tactic(auto)]
 
 ghost use Rattle.std.specs.Prelude.{◌≡◌, true, false, ◌+◌, ◌^◌, ◌≤◌, ◌<◌, length, take, IfOk};
-ghost use Rattle.basics.specs.Refusal.{told_of};
 ghost use Rattle.lines.specs.Reading.{progress, AllCame};
 ghost use Rattle.inputs.specs.Frames.{Room, CameBehind};
 
-use basics::refusal::Refusal;
-use inputs::frames::{frame_refusal, to_front};
+use inputs::frames::{frame_number, to_front};
 use inputs::looks::begins_with;
 use lines::batches::{empty_table, load_batch};
 use lines::text::text;
@@ -126,17 +124,18 @@ fn fill(rt: &HostRuntime, space: &mut [u8], filled: &mut usize) -> io::Result<()
     Ok(())
 }
 
-// The lowest refusal of the loads so far, how many bytes were loaded or refused, and whether there may be more to read.
+// The lowest refusal of the loads so far, 0 where there was none, how many bytes were loaded or refused, and whether
+// there may be more to read.
 #[derive(Clone, Copy)]
 struct Progress {
-    lowest: Option<Refusal>,
+    number: u8,
     bytes: u64,
     more: bool,
 }
 
 // Before the first batch.
 const START: Progress = Progress {
-    lowest: None,
+    number: 0,
     bytes: 0,
     more: true,
 };
@@ -154,14 +153,14 @@ fn load_next(
     requires few { had.bytes + 49152 < 2 ^ 64 }
     ensures fits { filled.new ≤ length space.new }
     ensures came { IfOk result (λ next. CameBehind (take filled.old space.old)
-        (progress (told_of had.lowest) table.old had.bytes)
-        (progress (told_of next.lowest) table.new next.bytes) next.more) }
+        (progress had.number table.old had.bytes)
+        (progress next.number table.new next.bytes) next.more) }
     ensures few { IfOk result (λ next. next.bytes ≤ had.bytes + length space.old) }
 {
     fill(rt, space, filled)?;
-    let loaded = load_batch(table, space, *filled, had.lowest);
+    let loaded = load_batch(table, space, *filled, had.number);
     Ok(Progress {
-        lowest: loaded.lowest,
+        number: loaded.number,
         bytes: had.bytes + *filled as u64,
         more: loaded.more,
     })
@@ -178,8 +177,8 @@ fn load_rest(
     requires room { Room space.old }
     requires more { begun.more ≡ true }
     requires few { begun.bytes ≤ 49152 }
-    ensures { IfOk result (λ end. AllCame (progress (told_of begun.lowest) table.old begun.bytes)
-        (progress (told_of end.lowest) table.new end.bytes) end.more) }
+    ensures { IfOk result (λ end. AllCame (progress begun.number table.old begun.bytes)
+        (progress end.number table.new end.bytes) end.more) }
 {
     let mut so_far = begun;
     for turn in 0..1099511627776u64 {
@@ -194,7 +193,7 @@ fn load_rest(
 // Loads bare triples: all of the input.
 fn load_triples(rt: &HostRuntime, table: &mut [u64], space: &mut [u8]) -> io::Result<Progress>
     requires { Room space.old }
-    ensures { IfOk result (λ end. AllCame (progress 0 table.old 0) (progress (told_of end.lowest) table.new end.bytes)
+    ensures { IfOk result (λ end. AllCame (progress 0 table.old 0) (progress end.number table.new end.bytes)
         end.more) }
 {
     let mut filled = 0;
@@ -228,7 +227,7 @@ fn load_pixels(
 
 // Writes the text for a table that was loaded with this lowest refusal, or for a read that failed, which is not the end
 // of the input.
-fn list(rt: &HostRuntime, table: &[u64], lowest: io::Result<Option<Refusal>>) {
+fn list(rt: &HostRuntime, table: &[u64], lowest: io::Result<u8>) {
     let Ok(lowest) = lowest else {
         complain(rt, "standard input could not be read");
         return;
@@ -264,7 +263,7 @@ fn list_frame(rt: &HostRuntime, table: &mut [u64], space: &mut [u8])
         // A maximum other than 255 is a PPM's, and has an answer of its own.
         Header::Maximum => read.map(|()| START),
     };
-    let lowest = input.map(|input| frame_refusal(header, input.bytes, input.lowest));
+    let lowest = input.map(|input| frame_number(header, input.bytes, input.number));
     list(rt, table, lowest);
 }
 
@@ -276,5 +275,5 @@ fn main(rt: HostRuntime) {
         return;
     }
     let input = load_triples(&rt, &mut table, &mut space);
-    list(&rt, &table, input.map(|input| input.lowest));
+    list(&rt, &table, input.map(|input| input.number));
 }

@@ -109,14 +109,13 @@ use Rattle.mapper.proofs.call.map as map
 use Rattle.painter.proofs.call.paint as paint
 use Rattle.inputs.proofs.looks.begins_with as begins-with
 use Rattle.inputs.proofs.frames.to_front as to_front
-use Rattle.inputs.proofs.frames.frame_refusal as frame-refusal
+use Rattle.inputs.proofs.frames.frame_number as frame-number
 use Rattle.terminal.proofs.call.nearest as nearest
 use Rattle.lines.specs.declared.batches.Loaded.{Loaded}
 use Rattle.lines.proofs.batches.empty_table as empty_table_lem
 use Rattle.lines.proofs.batches.load_batch as load-batch
 use Rattle.lines.specs.declared.writer.Writer.{Writer}
 use Rattle.lines.specs.Writing.{Writes}
-use Rattle.lines.proofs.Telling.{told_tells, batch_tells, numbered_tells}
 use Rattle.lines.proofs.found.cut_loaded as cut-loaded
 use Rattle.lines.proofs.writer.Writer.word as word
 use Rattle.lines.proofs.writer.Writer.named as named
@@ -487,9 +486,9 @@ pub to_front_determined : Determines {A = ℕ × List ℕ} 1 to_front.Kinds.ps t
     (λ κs r e. (r, e.0.now))
 to_front_determined κs a r s x y p q = both (determined p.0 q.0) (determined p.1 q.1)
 
-pub frame_refusal_determined : Determines 0 frame-refusal.Kinds.ps frame-refusal.Kinds.r frame-refusal.Reads.Learnt
+pub frame_number_determined : Determines 0 frame-number.Kinds.ps frame-number.Kinds.r frame-number.Reads.Learnt
     (λ κs r e. r)
-frame_refusal_determined κs a r s x y p q = told_tells r s (determined p q)
+frame_number_determined κs a r s x y p q = determined p q
 
 -- ---- terminal
 pub nearest_determined : Determines {A = Result (Unit {0}) Refusal × List ℕ} 2 nearest.Kinds.ps nearest.Kinds.r nearest.Reads.Learnt
@@ -503,7 +502,7 @@ empty_table_determined κs a r s x y p q = determined p q
 
 pub load_batch_determined : Determines {A = Loaded × List ℕ} 2 load-batch.Kinds.ps load-batch.Kinds.r
     load-batch.Reads.Learnt (λ κs r e. (r, e.0.now))
-load_batch_determined κs a r s x y p q = both (batch_tells r s (determined p.0 q.0)) (determined p.1 q.1)
+load_batch_determined κs a r s x y p q = both (determined p.0 q.0) (determined p.1 q.1)
 
 -- what a caller sees of a writer: the place and what is in the buffer
 abbrev written : Writer → ℕ × List ℕ
@@ -514,7 +513,7 @@ same_written : {before one two : Writer} {text : List ℕ} {room : ℕ} → Writ
 same_written p q = both (determined p.put.ends q.put.ends) (determined p.put.later q.put.later)
 
 pub cut_loaded_determined : Determines 1 cut-loaded.Kinds.ps cut-loaded.Kinds.r cut-loaded.Reads.Learnt (λ κs r e. r)
-cut_loaded_determined κs a r s x y p q = numbered_tells r s (determined p.0 q.0)
+cut_loaded_determined κs a r s x y p q = determined p.0 q.0
 
 pub word_determined : Determines {A = ℕ × List ℕ} 3 word.Kinds.ps word.Kinds.r word.Reads.Learnt
     (λ κs r e. written e.0.now)

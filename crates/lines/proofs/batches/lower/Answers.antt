@@ -1,27 +1,16 @@
 -- `lines::batches::lower` meets its contract, case by case.
 -- Assumes nothing.
-use mathlib.Core.Path.{refl}
-use Rattle.std.proofs.lemmas.Bool.{eqb-false}
-use Rattle.basics.proofs.Refusals.{not_done}
 use Rattle.lines.proofs.Texts.{lower_first, lower_second, lower_other, lower_same}
 use Rattle.lines.proofs.batches.lower.Goals as goal
 
-pub returns-in_default : goal.returns-in_default
-returns-in_default c = rw c.in_default.is (lower_first _ _ refl)
+pub returns-then-number-eq0 : goal.returns-then-number-eq0
+returns-then-number-eq0 c = lower_first _ _ c.if-number-eq0.true
 
-pub returns-in_default-other : goal.returns-in_default-other
-returns-in_default-other c = rw (c.in-Some.is, c.in_default-other.is) (lower_second _ _ refl)
+pub returns-then-other-eq0 : goal.returns-then-other-eq0
+returns-then-other-eq0 c = lower_second _ _ c.if-other-eq0.true
 
-pub returns-then-number : goal.returns-then-number
-returns-then-number c =
-    let a = c.in-Some in
-    let b = c.in-Some-other in
-    rw (a.is, b.is)
-    (lower_other _ _ (eqb-false _ _ (not_done b.b)) (rw (c.number.ensures, c.number-2.ensures) at c.if-number.true))
+pub returns-then-other-number : goal.returns-then-other-number
+returns-then-other-number c = lower_other _ _ c.if-other-eq0.false c.if-other-number.true
 
-pub returns-else-number : goal.returns-else-number
-returns-else-number c =
-    let a = c.in-Some in
-    let b = c.in-Some-other in
-    rw (a.is, b.is)
-    (lower_same _ _ (eqb-false _ _ (not_done a.a)) (rw (c.number.ensures, c.number-2.ensures) at c.if-number.false))
+pub returns-else-other-number : goal.returns-else-other-number
+returns-else-other-number c = lower_same _ _ c.if-number-eq0.false c.if-other-number.false

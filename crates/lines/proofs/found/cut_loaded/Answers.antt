@@ -3,7 +3,6 @@
 use mathlib.Core.Path.{refl, ap, ◌∙◌}
 use native.Mathlib.Omega.{arith}
 use Rattle.std.proofs.lemmas.Bool.{eqb-false}
-use Rattle.basics.proofs.Exits.{handed}
 use Rattle.basics.proofs.Refusals.{not_done}
 use Rattle.table.specs.Layouts.{Wide}
 use Rattle.cutter.proofs.RecordSize.{few}
@@ -12,25 +11,24 @@ use Rattle.cutter.specs.Cut.{cut_record, cut_later, done_record, refused_record}
 use Rattle.lines.proofs.Texts.{lent_zeros_lem, found_refused, found_cut_refused, found_cut}
 use Rattle.lines.proofs.found.cut_loaded.Goals as goal
 
-pub returns-in-Some-clause-is : goal.returns-in-Some-clause-is
-returns-in-Some-clause-is c = rw c.in-Some.is (found_refused _ _ (eqb-false _ _ (not_done c.in-Some.refusal)))
+pub returns-then-lowest-ne0-clause-is : goal.returns-then-lowest-ne0-clause-is
+returns-then-lowest-ne0-clause-is c = found_refused _ _ c.if-lowest-ne0.true
 
-pub returns-in_err-found-clause-is : goal.returns-in_err-found-clause-is
+pub returns-in-Err-clause-is : goal.returns-in-Err-clause-is
 unfolding refused_record
-returns-in_err-found-clause-is c =
-    let cut = c.in_err-found in
-    rw (handed c.from_residual.result cut.field-0.0 c.from_residual.ensures.1, c.in_default.is)
-    (found_cut_refused _ (cut.ensures.answer ∙ ap (cut_record Moments 8 8 8 16 _) lent_zeros_lem)
-    (eqb-false _ _ (not_done cut.field-0.0)))
+returns-in-Err-clause-is c =
+    let cut = c.in-Err in
+    rw c.number.ensures
+    (found_cut_refused _ _ c.if-lowest-ne0.false (cut.ensures.answer ∙ ap (cut_record Moments 8 8 8 16 _) lent_zeros_lem)
+    (eqb-false _ _ (not_done cut.refusal)))
 
-pub returns-clause-is : goal.returns-clause-is
+pub returns-in-Ok-clause-is : goal.returns-in-Ok-clause-is
 unfolding done_record
-returns-clause-is c =
-    let cut = c.in_ok-found in
-    rw c.in_default.is
-    (found_cut _ (cut.ensures.answer ∙ ap (cut_record Moments 8 8 8 16 _) lent_zeros_lem)
-    (cut.ensures.later ∙ ap (cut_later Moments 8 8 8 16 _) lent_zeros_lem) refl)
+returns-in-Ok-clause-is c =
+    let cut = c.in-Ok in
+    found_cut _ _ c.if-lowest-ne0.false (cut.ensures.answer ∙ ap (cut_record Moments 8 8 8 16 _) lent_zeros_lem)
+    (cut.ensures.later ∙ ap (cut_later Moments 8 8 8 16 _) lent_zeros_lem) refl
 
-pub returns-clause-few : goal.returns-clause-few
+pub returns-in-Ok-clause-few : goal.returns-in-Ok-clause-few
 unfolding done_record
-returns-clause-few c = few Wide Moments 16 (omega arith) (omega arith) _ 8 8 8 _ c.in_ok-found.ensures.answer
+returns-in-Ok-clause-few c = few Wide Moments 16 (omega arith) (omega arith) _ 8 8 8 _ c.in-Ok.ensures.answer
