@@ -25,7 +25,8 @@ use Rattle.rounds.specs.declared.gather.Boxes.{Boxes}
 use Rattle.cutter.specs.Record.{CutRecord}
 use Rattle.table.specs.Layouts.{Wide, Narrow}
 use Rattle.table.specs.Narrow.{NarrowTable, narrow_table}
-use Rattle.cutter.specs.Cut.{Results, Buffers, buffers, no_work, buffers_in, no_work_in, record_of, done_record, refused_record}
+use Rattle.cutter.specs.Cut.{Results, buffers, no_work, buffers_in, no_work_in, record_of, done_record, refused_record}
+use Rattle.promises.specs.Seen.{written}
 use Rattle.promises.specs.Layouts.{lists_in, lent_lists, DeterminesIn}
 use Rattle.grid.proofs.dimension.shift_of as Shift-of
 use Rattle.grid.proofs.place.grid_of as grid-of
@@ -503,10 +504,6 @@ empty_table_determined κs a r s x y p q = determined p q
 pub load_batch_determined : Determines {A = Loaded × List ℕ} 2 load-batch.Kinds.ps load-batch.Kinds.r
     load-batch.Reads.Learnt (λ κs r e. (r, e.0.now))
 load_batch_determined κs a r s x y p q = both (determined p.0 q.0) (determined p.1 q.1)
-
--- what a caller sees of a writer: the place and what is in the buffer
-abbrev written : Writer → ℕ × List ℕ
-written w = (w.at, w.out.now)
 
 same_written : {before one two : Writer} {text : List ℕ} {room : ℕ} → Writes before text room one
     → Writes before text room two → written one ≡ written two

@@ -1,11 +1,11 @@
 -- What a caller sees of a table that was lent in a layout. Definitions only.
-use Rattle.std.specs.Prelude.{◌≡◌, List, [], ℕ}
+use Rattle.std.specs.Prelude.{List, [], ℕ}
 use contract.Lifetimes.{Lfts}
 use denote.RattleType.{RattleType}
 use denote.Param.Laws.{Laws}
 use mir.Syntax.{Dict}
 use denote.Triple.Clauses.{AtExit}
-use borrow.Fn.Kinds.{ParamKind, ResultKind, Dens, res_t, ended_of, Out}
+use borrow.Fn.Kinds.{ParamKind, ResultKind, res_t, ended_of, Out}
 use Rattle.table.specs.declared.layout.Layout.{Ghosts}
 use Rattle.basics.specs.Determines.{Determines}
 use Rattle.table.specs.Layouts.{Layout}
