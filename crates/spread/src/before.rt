@@ -25,7 +25,9 @@ fn record<L: Layout>(small: &[u32], large: &[u64], place: usize) -> Stats
 }
 
 // The statistics of a box's bins before a bin of a dimension, from the edge of the grid on: reads the four places of the
-// walk; a place before the edge counts as zeros. The table and the box are named by the contract alone.
+// walk; a place before the edge counts as zeros. The table and the box are named by the contract alone. As a call of its
+// own it would make a cut at k = 256 slower by a tenth.
+#[inline(always)]
 pub(crate) fn before<L: Layout>(
     small: &[u32],
     large: &[u64],
