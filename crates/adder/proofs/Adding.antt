@@ -1,6 +1,7 @@
 -- What a caller of add_batch may use without seeing inside its definitions: what its answer means, and that the table
 -- is known after it.
 -- Assumes nothing.
+use Rattle.std.specs.Prelude.{None, Some}
 use mathlib.Core.Path.{◌≡◌, refl, sym, ap, subst, ◌∙◌}
 use mathlib.Core.Bool.{Bool, true, false, cond}
 use mathlib.Core.List.{List}
@@ -10,39 +11,38 @@ use borrow.Author.Tests.{le-leb, lt-leb, leb-true, leb-false}
 use lib.Dec.{leb}
 use Rattle.grid.specs.declared.place.Grid.{Grid}
 use Rattle.grid.specs.Grid.{bins_of}
-use Rattle.table.specs.declared.layout.Layout.{Layout}
+use Rattle.table.specs.Layouts.{Layout}
 use Rattle.table.specs.Layout.{TableIn, view_in, written_in}
 use Rattle.table.proofs.Layouts.{list_holds_in}
-use Rattle.adder.specs.declared.add.Added.TheVariants.{Total, Passed}
 use Rattle.adder.specs.Batch.{Weighted, weight_of, loaded}
 use Rattle.adder.specs.Add.{KnownIn, added_to, added_later_in}
 use Rattle.adder.specs.Inner.{held_to}
 use Rattle.adder.proofs.Loading.{AllBytes, held_sound, held_total}
 
 -- ---- the two cases
-cond_total : (b : Bool) (x y : ℕ) → cond b (Total x) Passed ≡ Total y → (b ≡ true) × (y ≡ x)
+cond_total : (b : Bool) (x y : ℕ) → cond b (Some x) None ≡ Some y → (b ≡ true) × (y ≡ x)
 cond_total true x y e = (refl, (cc))
 cond_total false x y e = absurd (never e)
   where
-    never : Passed ≡ Total y → ⊥
+    never : None ≡ Some y → ⊥
     never q = let z : ◌≡◌ {A = ℕ} 0 1 = cc in omega arith
 
-cond_passed : (b : Bool) (x : ℕ) → cond b (Total x) Passed ≡ Passed → b ≡ false
+cond_passed : (b : Bool) (x : ℕ) → cond b (Some x) None ≡ None → b ≡ false
 cond_passed true x e = absurd (never e)
   where
-    never : Total x ≡ Passed → ⊥
+    never : Some x ≡ None → ⊥
     never q = let z : ◌≡◌ {A = ℕ} 0 1 = cc in omega arith
 cond_passed false x e = refl
 
 module _ (most had : ℕ) (cs : List Weighted) where
   -- where the total fits, and where it does not
-  pub added_fits : had + weight_of cs ≤ most → added_to most had cs ≡ Total (had + weight_of cs)
+  pub added_fits : had + weight_of cs ≤ most → added_to most had cs ≡ Some (had + weight_of cs)
   unfolding added_to
-  added_fits h = ap (λ (b : Bool). cond b (Total (had + weight_of cs)) Passed) (le-leb (had + weight_of cs) most h)
+  added_fits h = ap (λ (b : Bool). cond b (Some (had + weight_of cs)) None) (le-leb (had + weight_of cs) most h)
 
-  pub added_passes : most < had + weight_of cs → added_to most had cs ≡ Passed
+  pub added_passes : most < had + weight_of cs → added_to most had cs ≡ None
   unfolding added_to
-  added_passes h = ap (λ (b : Bool). cond b (Total (had + weight_of cs)) Passed) (lt-leb (had + weight_of cs) most h)
+  added_passes h = ap (λ (b : Bool). cond b (Some (had + weight_of cs)) None) (lt-leb (had + weight_of cs) most h)
 
   -- it is the total held to the limit
   pub held_added : held_to most (had + weight_of cs) ≡ added_to most had cs
@@ -50,13 +50,13 @@ module _ (most had : ℕ) (cs : List Weighted) where
   held_added = refl
 
   -- and the other way round
-  pub total_means : {n : ℕ} → added_to most had cs ≡ Total n → (had + weight_of cs ≤ most) × (n ≡ had + weight_of cs)
+  pub total_means : {n : ℕ} → added_to most had cs ≡ Some n → (had + weight_of cs ≤ most) × (n ≡ had + weight_of cs)
   unfolding added_to
   total_means {n} e =
       let c = cond_total (leb (had + weight_of cs) most) (had + weight_of cs) n e in
       (leb-true (had + weight_of cs) most c.0, c.1)
 
-  pub passed_means : added_to most had cs ≡ Passed → most < had + weight_of cs
+  pub passed_means : added_to most had cs ≡ None → most < had + weight_of cs
   unfolding added_to
   passed_means e =
       leb-false (had + weight_of cs) most (cond_passed (leb (had + weight_of cs) most) (had + weight_of cs) e)
@@ -77,7 +77,7 @@ module _ (most had : ℕ) (cs : List Weighted) where
 -- ---- the table is known after it
 module _ {l : Layout} {most : ℕ} {g : Grid} {t : TableIn l} {had : ℕ} (k : KnownIn l most g t had)
     (cs : List Weighted) where
-  pub known_after : AllBytes cs → {n : ℕ} → added_to most had cs ≡ Total n
+  pub known_after : AllBytes cs → {n : ℕ} → added_to most had cs ≡ Some n
       → KnownIn l most g (added_later_in l most g t had cs) n
   known_after bytes e =
       let m = total_means most had cs e in
@@ -94,5 +94,5 @@ module _ {l : Layout} {most : ℕ} {g : Grid} {t : TableIn l} {had : ℕ} (k : K
             m.1 ∙ ap (λ (x : ℕ). x + weight_of cs) k.total_is ∙ sym (held_total a cs bytes (view_in l t) holds);
       })
 
-  pub known_still : added_to most had cs ≡ Passed → KnownIn l most g (added_later_in l most g t had cs) had
+  pub known_still : added_to most had cs ≡ None → KnownIn l most g (added_later_in l most g t had cs) had
   known_still e = rw (later_passes most had cs l g t (passed_means most had cs e)) k

@@ -21,7 +21,7 @@ use Rattle.basics.proofs.Range.{sum_plus, sum_zero, sum_hit, hit}
 use Rattle.grid.proofs.Size.{span_low, span_high}
 use Rattle.grid.proofs.Places.{Bytes, colour_bin, colour_place_lt}
 use Rattle.table.specs.Cell.{View}
-use Rattle.table.specs.declared.layout.Layout.{Layout}
+use Rattle.table.specs.Layouts.{Layout}
 use Rattle.table.specs.Layout.{TableIn, view_in}
 use Rattle.table.specs.Sound.{span_at, total}
 use Rattle.adder.specs.Batch.{Weighted, share, adds, sum_over, weight_of, loaded}

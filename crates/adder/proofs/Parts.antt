@@ -20,7 +20,7 @@ use Rattle.pixels.proofs.EqualColours.{one_colour}
 use Rattle.basics.proofs.Range.{and_left, and_right, sum_append, sum_grow, sum_equal, sum_scale}
 use Rattle.grid.proofs.Places.{Bytes, colour_place_lt}
 use Rattle.table.specs.Cell.{View, number_of, cell_of}
-use Rattle.table.specs.declared.layout.Layout.{Layout}
+use Rattle.table.specs.Layouts.{Layout}
 use Rattle.table.specs.Layout.{TableIn, SizedIn, view_in}
 use Rattle.table.specs.Sound.{limit_of}
 use Rattle.adder.specs.Batch.{Weighted, share, adds, sum_over, weight_of, loaded, weighted_at, batch_of}
@@ -218,14 +218,6 @@ module _ {l : Layout} {g : Grid} {t : TableIn l} {scale : ℕ} {colours : List �
   unfolding part_of
   held_later at r q {e} more =
       held_more l g (view_in l t) s e i m r (scaled_at scale colours weighted weights) holds (rw q at more)
-
--- a scale and whether weights are given, where they are known, can be said by constants
-pub constants : {l : Layout} {g : Grid} {t : TableIn l} {m n : ℕ} {colours : List ℕ} {a b : Bool} {weights : List ℕ}
-    {at r : ℕ}
-    → m ≡ n → a ≡ b → PartFits l g t m colours a weights at r → PartFits l g t n colours b weights at r
-constants {l} {g} {t} {m} {n} {colours} {a} {b} {weights} {at} {r} e q fits =
-    subst (λ (x : ℕ). PartFits l g t x colours b weights at r) e
-    (subst (λ (x : Bool). PartFits l g t m colours x weights at r) q fits)
 
 -- a table with colours added holds what was there with them loaded
 pub part_held : (l : Layout) (g : Grid) (t : TableIn l) (scale : ℕ) (colours : List ℕ) (weighted : Bool)

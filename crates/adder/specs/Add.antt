@@ -1,19 +1,19 @@
 -- Adding to a table that is known to be sound: a batch, each weight multiplied by a scale, by a step table that is
 -- filled once, or a cell at a place (Rules, Load; Rules, Record; Rules, Merge). Definitions only.
+use Rattle.std.specs.Prelude.{None, Option, Some}
+use Rattle.std.specs.Borrow.{Bor}
 use Rattle.std.specs.Prelude.{◌≡◌, Bool, true, cond, List, [], ◌∷◌, ℕ, ◌+◌, ◌*◌, ◌/◌, ◌%◌, ◌≤◌, leb, length, get_or}
 use Rattle.grid.specs.declared.place.Grid.{Grid}
 use Rattle.basics.specs.Answer.{Answer}
 use Rattle.basics.specs.Range.{list_from}
 use Rattle.grid.specs.Grid.{Accepted, bins_of, steps_of}
 use Rattle.table.specs.declared.cell.Cell.{Cell}
-use Rattle.table.specs.declared.layout.Layout.{Layout}
-use Rattle.table.specs.declared.layout.Layout.TheVariants.{Wide, Narrow}
+use Rattle.table.specs.Layouts.{Layout}
+use Rattle.table.specs.Layouts.{Wide}
 use Rattle.table.specs.Cell.{cell_of, plus_cell, SumsFit}
 use Rattle.table.specs.Table.{Table}
 use Rattle.table.specs.Layout.{TableIn, TableOfIn, view_in, written_in, put_in, CellIn, HeldIn}
-use Rattle.table.specs.Sound.{sound, total}
-use Rattle.adder.specs.declared.add.Added.{Added}
-use Rattle.adder.specs.declared.add.Added.TheVariants.{Total, Passed}
+use Rattle.table.specs.Sound.{sound, total, passed_number}
 use Rattle.adder.specs.Batch.{Weighted, weight_of, loaded, batch_of, scaled_weights}
 
 -- ---- what is lent
@@ -44,6 +44,11 @@ pub record Whole (colours : List ℕ) (weighted : Bool) (weights : List ℕ) : T
   pub threes : length colours % 3 ≡ 0
   pub paired : weighted ≡ true → length weights ≡ length colours / 3
 
+-- the weights where some are given
+abbrev pub given : Option (Bor (List ℕ)) → List ℕ
+given None = []
+given (Some weights) = weights.now
+
 -- what a weight is multiplied by: an interval, or 1
 pub record IsScale (scale : ℕ) : Type 0 where
   pub some : 1 ≤ scale
@@ -56,20 +61,15 @@ scaled_batch scale colours weighted weights =
     batch_of colours true (scaled_weights scale (length colours / 3) weighted weights)
 
 -- the total then, or that it would pass the limit
-unfoldable pub added_to : ℕ → ℕ → List Weighted → Added
-added_to most had cs = cond (leb (had + weight_of cs) most) (Total (had + weight_of cs)) Passed
-
--- the answer beyond a layout's limit: "refused with 15, in the place of 7"
-abbrev pub passed_number : Layout → ℕ
-passed_number Wide = 7
-passed_number Narrow = 15
+unfoldable pub added_to : ℕ → ℕ → List Weighted → Option ℕ
+added_to most had cs = cond (leb (had + weight_of cs) most) (Some (had + weight_of cs)) None
 
 -- the answer and the values of each case, in a layout and in the wide one
-abbrev pub added_answer_in : Layout → Added → Answer
-added_answer_in l (Total n) = record { number = 0; values = n ∷ [] }
-added_answer_in l Passed = record { number = passed_number l; values = [] }
+abbrev pub added_answer_in : Layout → Option ℕ → Answer
+added_answer_in l (Some n) = record { number = 0; values = n ∷ [] }
+added_answer_in l None = record { number = passed_number l; values = [] }
 
-abbrev pub added_answer : Added → Answer
+abbrev pub added_answer : Option ℕ → Answer
 added_answer a = added_answer_in Wide a
 
 -- the table then

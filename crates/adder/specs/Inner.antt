@@ -1,4 +1,5 @@
 -- The steps of adding a batch, as the crate's own functions are told. Definitions only.
+use Rattle.std.specs.Prelude.{None, Option, Some}
 use Rattle.std.specs.Prelude.{◌≡◌, Bool, true, ◌&&◌, cond, List, ℕ, ◌+◌, ◌-◌, ◌*◌, ◌/◌, ◌≤◌, eqb, leb, ltb, length, get_or}
 use Rattle.grid.specs.declared.place.Grid.{Grid}
 use Rattle.pixels.specs.declared.colour.Rgb.{Rgb}
@@ -6,12 +7,10 @@ use Rattle.basics.specs.Range.{list_from, sum_from}
 use Rattle.grid.specs.Grid.{bins_of, colour_place}
 use Rattle.pixels.specs.Colour.{colour_at}
 use Rattle.pixels.specs.Equal.{equal_colours}
-use Rattle.table.specs.declared.layout.Layout.{Layout}
+use Rattle.table.specs.Layouts.{Layout}
 use Rattle.table.specs.Layout.{TableIn, TableOfIn, view_in, written_in}
 use Rattle.table.specs.Cell.{cell_of}
 use Rattle.table.specs.Sound.{limit_of, sound, total}
-use Rattle.adder.specs.declared.add.Added.{Added}
-use Rattle.adder.specs.declared.add.Added.TheVariants.{Total, Passed}
 use Rattle.adder.specs.Batch.{Weighted, share, weight_of, loaded}
 use Rattle.adder.specs.Add.{IsScale, step_number, with_cell}
 
@@ -50,8 +49,8 @@ with_part l g t scale colours weighted weights i n =
     written_in l (bins_of g) (loaded g (part_of scale colours weighted weights i n) (view_in l t))
 
 -- a total, or that it passes the limit
-unfoldable pub held_to : ℕ → ℕ → Added
-held_to most n = cond (leb n most) (Total n) Passed
+unfoldable pub held_to : ℕ → ℕ → Option ℕ
+held_to most n = cond (leb n most) (Some n) None
 
 -- a table with one colour added
 unfoldable pub with_colour : (l : Layout) → Grid → TableIn l → Weighted → TableIn l

@@ -3,9 +3,6 @@
 
 pub mod add;
 mod blocks;
-mod each;
-mod narrow;
 pub mod shares;
 pub mod steps;
 mod weights;
-mod wide;

@@ -15,31 +15,41 @@ fn fill_part(table: &mut [u64; 768], g: Grid, dimension: usize)
 {
     let s = steps(g, dimension);
     let at = 256 * dimension;
-    let mut c = 0;
-    while c < 256 {
+    for c in 0..256 {
         table[at + c] = s[c] as u64 + 4294967296 * (c * c) as u64;
-        c = c + 1;
     }
 }
 
 // For each dimension and each value of a component its step, and 2^32 times its square: one look gives both, and one
-// pointer leads to all.
-pub fn fill_steps(table: &mut [u64; 768], g: Grid)
-    requires { Accepted g × (length table.old ≡ 768) }
-    ensures { table.new ≡ step_table g }
-{
-    fill_part(table, g, 0);
-    fill_part(table, g, 1);
-    fill_part(table, g, 2);
+// pointer leads to all. Whoever adds colours to a table of a grid finds them once.
+#[derive(Drop)]
+pub struct Steps {
+    pub g: Grid,
+    pub numbers: [u64; 768],
+    ghost filled: { StepTable g numbers },
 }
 
-// The place of a colour, and 2^32 times its squares. The contract alone names the grid.
-pub(crate) fn look_up(g: Grid, steps: &[u64; 768], x: Rgb) -> u64
-    requires { StepTable g steps.now }
-    ensures { result ≡ colour_place g x + 4294967296 * squares_of x }
-{
-    let i1 = x.c1 as usize;
-    let i2 = 256 + x.c2 as usize;
-    let i3 = 512 + x.c3 as usize;
-    steps[i1] + steps[i2] + steps[i3]
+impl Steps {
+    // Those of a grid.
+    pub fn of(g: Grid) -> Steps
+        requires { Accepted g }
+        ensures grid { result.g ≡ g }
+        ensures numbers { result.numbers ≡ step_table g }
+    {
+        let mut numbers = [0u64; 768];
+        fill_part(&mut numbers, g, 0);
+        fill_part(&mut numbers, g, 1);
+        fill_part(&mut numbers, g, 2);
+        Steps { g, numbers }
+    }
+
+    // The place of a colour, and 2^32 times its squares.
+    pub(crate) fn look_up(&self, x: Rgb) -> u64
+        ensures { result ≡ colour_place self.now.g x + 4294967296 * squares_of x }
+    {
+        let i1 = usize::from(x.c1);
+        let i2 = 256 + usize::from(x.c2);
+        let i3 = 512 + usize::from(x.c3);
+        self.numbers[i1] + self.numbers[i2] + self.numbers[i3]
+    }
 }

@@ -10,8 +10,9 @@ use native.Mathlib.Decide.{dec_le}
 use borrow.Author.Tests.{le-leb, lt-leb, lt-ltb, le-ltb, leb-true, leb-false, ltb-true, ltb-false}
 use borrow.Rule.Slice.PartMut.{put_mid, same_len_mid, mid_len, take_put, drop_put}
 use lib.Dec.{leb, ltb}
-use lib.ListN.{length, get_or, set, take, drop, length-set, get_or-append, get_or-eq_default}
+use lib.ListN.{replicate, length, get_or, set, take, drop, length-set, get_or-append, get_or-eq_default}
 use lib.Seq.{get_or-take, get_or-drop, get_or-append-add, length-take-le, get_or-set_same, get_or-set_other}
+use Rattle.std.proofs.lemmas.List.{get_or-replicate, length-replicate}
 use Rattle.basics.specs.Range.{list_from}
 use Rattle.basics.proofs.Range.{length_list, list_at, list_is}
 use Rattle.band.specs.Band.{among, write_band}
@@ -224,3 +225,13 @@ pub part_written : (a k n : ℕ) (f h : ℕ → ℕ) (old new : List ℕ) → a 
 part_written a k n f h old new fits long is same =
     part_back a k f old new fits (ap length is ∙ length_list 0 n h ∙ long)
     (λ i l. ap (λ (t : List ℕ). get_or t i 0) is ∙ list_at 0 n h i 0 (rw long l) ∙ ap h (zero-add i) ∙ same i l)
+
+-- the same, where the part is filled with what f is at each of its places
+pub filled : (f : ℕ → ℕ) (old new : List ℕ) (a k x : ℕ) → a + k ≤ length old
+    → new ≡ replicate (length (take ((a + k) - a) (drop a old))) x → ((i : ℕ) → a ≤ i → i < a + k → x ≡ f i)
+    → put_mid a ((a + k) - a) old new ≡ write_band a k f old
+filled f old new a k x fits is at =
+    let long = part_length a k old fits in
+    part_back a k f old new fits (ap length is ∙ length-replicate _ x ∙ long)
+    (λ i h. ap (λ (t : List ℕ). get_or t i 0) is ∙ get_or-replicate _ i x 0 (rw long h)
+    ∙ at (a + i) (omega arith) (omega arith))

@@ -1,7 +1,7 @@
 -- Entries of a map below the palette's length, and their largest.
 -- Assumes nothing.
-use mathlib.Core.Path.{◌≡◌, refl, sym, ap, ◌∙◌}
-use mathlib.Core.Bool.{Bool, true, false, ◌&&◌}
+use mathlib.Core.Path.{◌≡◌, sym, ap, ◌∙◌}
+use mathlib.Core.Bool.{Bool, true, ◌&&◌}
 use mathlib.Core.List.{List}
 use Prim.Native.Nat.{ℕ, ◌+◌, ◌≤◌, ◌<◌}
 use native.Mathlib.Nat.{zero-add, lt_of_not-le}
@@ -9,9 +9,13 @@ use native.Mathlib.Decide.{dec_le}
 use native.Mathlib.Omega.{arith}
 use borrow.Author.Tests.{ltb-true, lt-ltb}
 use lib.Dec.{ltb}
+use Rattle.std.proofs.Common.{nat_cmp}
+use Rattle.std.proofs.lemmas.Bool.Decides.{nat_tests}
+use Rattle.std.specs.Ordering.{ord_max}
+use Rattle.std.proofs.lemmas.Grind.{common_steps}
 use lib.ListN.{length, get_or, get_or-eq_default}
 use Rattle.basics.specs.Range.{all_from}
-use Rattle.basics.proofs.Range.{and_false, all_true, all_last, all_at}
+use Rattle.basics.proofs.Range.{all_true, all_last, all_at}
 use Rattle.band.specs.Band.{all_below}
 
 -- the first n entries are below c exactly where top is
@@ -19,39 +23,22 @@ abbrev pub Tops : List ℕ → ℕ → ℕ → Type 0
 Tops map n top = (c : ℕ) → 1 ≤ c → ltb top c ≡ all_from 0 n (λ p. ltb (get_or map p 0) c)
 
 -- of two numbers both are below c exactly where the larger is
-larger_second : (x y c : ℕ) → x ≤ y → ltb y c ≡ (ltb x c && ltb y c)
-larger_second x y c h = go (ltb y c) refl
-  where
-    go : (b : Bool) → ltb y c ≡ b → b ≡ (ltb x c && b)
-    go true e = rw (lt-ltb x c (omega (arith, ltb-true y c e))) refl
-    go false e = sym (and_false (ltb x c))
-
-larger_first : (x y c : ℕ) → y ≤ x → ltb x c ≡ (ltb x c && ltb y c)
-larger_first x y c h = go (ltb x c) refl
-  where
-    go : (b : Bool) → ltb x c ≡ b → b ≡ (b && ltb y c)
-    go true e = sym (lt-ltb y c (omega (arith, ltb-true x c e)))
-    go false e = refl
+both_below : (x y c : ℕ) → ltb (ord_max nat_cmp x y) c ≡ (ltb x c && ltb y c)
+both_below x y c = grind (arith, common_steps, nat_tests)
 
 pub tops_none : (map : List ℕ) → Tops map 0 0
 unfolding all_from
 tops_none map c h = lt-ltb 0 c h
 
-tops_more : (map : List ℕ) (n x top : ℕ) → ((c : ℕ) → ltb top c ≡ (ltb x c && ltb (get_or map n 0) c)) → Tops map n x
-    → Tops map (n + 1) top
-tops_more map n x top e old c h =
-    e c
+-- the larger of the largest so far and the next entry
+pub tops_more : (map : List ℕ) (n top new : ℕ) → new ≡ ord_max nat_cmp top (get_or map n 0) → Tops map n top
+    → Tops map (n + 1) new
+tops_more map n top new larger old c h =
+    ap (λ (t : ℕ). ltb t c) larger
+    ∙ both_below top (get_or map n 0) c
     ∙ ap (λ (b : Bool). b && ltb (get_or map n 0) c) (old c h)
     ∙ ap (λ (p : ℕ). all_from 0 n (λ p. ltb (get_or map p 0) c) && ltb (get_or map p 0) c) (sym (zero-add n))
     ∙ sym (all_last 0 n (λ p. ltb (get_or map p 0) c))
-
--- the next entry is larger, or it is not
-pub tops_next : (map : List ℕ) (n top : ℕ) → top < get_or map n 0 → Tops map n top → Tops map (n + 1) (get_or map n 0)
-tops_next map n top h old =
-    tops_more map n top (get_or map n 0) (λ c. larger_second top (get_or map n 0) c (omega arith)) old
-
-pub tops_same : (map : List ℕ) (n top : ℕ) → get_or map n 0 ≤ top → Tops map n top → Tops map (n + 1) top
-tops_same map n top h old = tops_more map n top top (λ c. larger_first top (get_or map n 0) c h) old
 
 -- entries that are each below c
 pub all_below_lem : (c : ℕ) (map : List ℕ) → ((p : ℕ) → p < length map → get_or map p 0 < c) → all_below c map ≡ true

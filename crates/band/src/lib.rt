@@ -4,5 +4,5 @@
 pub mod look_up;
 pub mod number;
 
-pub use look_up::index_at;
+pub use look_up::LookUp;
 pub use number::band_number;

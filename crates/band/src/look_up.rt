@@ -2,35 +2,54 @@
 ghost use Rattle.std.specs.Prelude.{◌≡◌, ◌+◌, ◌*◌, ◌<◌, length, get_or};
 ghost use Rattle.grid.specs.Grid.{colour_place};
 ghost use Rattle.band.specs.Band.{index_at};
-ghost use Rattle.band.specs.LookUp.{Lookup};
+ghost use Rattle.band.specs.LookUp.{MapOf, Lookup};
 
 use grid::dimension::bin_of;
 use grid::place::Grid;
+use grid::steps::steps;
 use pixels::colour::{Rgb, colour};
 
-// The index of a colour.
-fn index_of(g: Grid, t1: &[usize; 256], t2: &[usize; 256], map: &[u8], x: Rgb) -> u8
-    requires { Lookup g t1.now t2.now map.now }
-    ensures { result ≡ get_or map.now (colour_place g x) 0 }
-{
-    let i1 = x.c1 as usize;
-    let i2 = x.c2 as usize;
-    let p = t1[i1] + t2[i2] + bin_of(g.shift3, x.c3);
-    map[p]
+// What indices are looked up by: a map of a grid, and the steps of the grid's first two dimensions. Whoever goes over
+// a part of a frame finds them once.
+#[derive(Drop)]
+pub struct LookUp<'a> {
+    pub g: Grid,
+    t1: [usize; 256],
+    t2: [usize; 256],
+    pub map: &'a [u8],
+    ghost ready: { Lookup g t1 t2 map.now },
 }
 
-// The index of pixel i of a part of a frame.
-pub fn index_at(
-    g: Grid,
-    t1: &[usize; 256],
-    t2: &[usize; 256],
-    map: &[u8],
-    part: &[u8],
-    i: usize,
-) -> u8
-    requires look_up { Lookup g t1.now t2.now map.now }
-    requires inside { 3 * i + 2 < length part.now }
-    ensures { result ≡ index_at g map.now part.now i }
-{
-    index_of(g, t1, t2, map, colour(part, i))
+impl<'a> LookUp<'a> {
+    // That of a map.
+    pub fn of(g: Grid, map: &'a [u8]) -> LookUp<'a>
+        requires { MapOf g map.now }
+        ensures grid { result.g ≡ g }
+        ensures map { result.map.now ≡ map.now }
+    {
+        LookUp {
+            g,
+            t1: steps(g, 0),
+            t2: steps(g, 1),
+            map,
+        }
+    }
+
+    // The index of a colour.
+    fn index_of(&self, x: Rgb) -> u8
+        ensures { result ≡ get_or self.now.map.now (colour_place self.now.g x) 0 }
+    {
+        let i1 = usize::from(x.c1);
+        let i2 = usize::from(x.c2);
+        let p = self.t1[i1] + self.t2[i2] + bin_of(self.g.shift3, x.c3);
+        self.map[p]
+    }
+
+    // The index of pixel i of a part of a frame.
+    pub fn index_at(&self, part: &[u8], i: usize) -> u8
+        requires { 3 * i + 2 < length part.now }
+        ensures { result ≡ index_at self.now.g self.now.map.now part.now i }
+    {
+        self.index_of(colour(part, i))
+    }
 }

@@ -1,8 +1,10 @@
 // The answer to a band of a frame.
 ghost use Rattle.std.specs.Prelude.{◌≡◌, ℕ, ◌+◌, ◌≤◌, ltb};
+ghost use Rattle.basics.specs.Refusal.{answer_of};
 ghost use Rattle.grid.specs.Grid.{Accepted};
 ghost use Rattle.band.specs.Band.{all_below, band_number};
 
+use basics::refusal::Refusal;
 use grid::place::{Grid, bins};
 
 // The largest entry of a map, or 0.
@@ -10,12 +12,8 @@ fn largest(map: &[u8]) -> u8
     ensures { (c : ℕ) → 1 ≤ c → ltb result c ≡ all_below c map.now }
 {
     let mut top = 0;
-    let mut p = 0;
-    while p < map.len() {
-        if top < map[p] {
-            top = map[p];
-        }
-        p = p + 1;
+    for entry in map {
+        top = top.max(*entry);
     }
     top
 }
@@ -24,10 +22,7 @@ fn largest(map: &[u8]) -> u8
 fn reaches_past(n: usize, first: usize, pixels: usize) -> bool
     ensures { result ≡ ltb n (first + pixels) }
 {
-    if n < first {
-        return true;
-    }
-    n - first < pixels
+    n < first || n - first < pixels
 }
 
 // The answer to a band of a frame of some bytes, with a palette of some colours. Whether the index buffer fits, or the
@@ -40,30 +35,23 @@ pub fn band_number(
     bytes: usize,
     first: usize,
     pixels: usize,
-) -> u8
+) -> Result<(), Refusal>
     requires { Accepted g }
-    ensures { result ≡ band_number g map.now palette_colours fits bytes first pixels }
+    ensures { answer_of result ≡ band_number g map.now palette_colours fits bytes first pixels }
 {
     if bytes % 3 != 0 {
-        return 3;
+        return Err(Refusal::SplitColour);
     }
-    if map.len() != bins(g) {
-        return 5;
+    if map.len() != bins(g)
+        || palette_colours < 1
+        || 256 < palette_colours
+        || !fits
+        || reaches_past(bytes / 3, first, pixels)
+    {
+        return Err(Refusal::Length);
     }
-    if palette_colours < 1 {
-        return 5;
+    if palette_colours <= usize::from(largest(map)) {
+        return Err(Refusal::MapEntry);
     }
-    if 256 < palette_colours {
-        return 5;
-    }
-    if !fits {
-        return 5;
-    }
-    if reaches_past(bytes / 3, first, pixels) {
-        return 5;
-    }
-    if palette_colours <= largest(map) as usize {
-        return 9;
-    }
-    0
+    Ok(())
 }

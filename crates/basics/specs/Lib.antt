@@ -2,3 +2,4 @@ pub mod Range
 pub mod Dimension
 pub mod Answer
 pub mod Determines
+pub mod Refusal

@@ -9,7 +9,7 @@ use Rattle.grid.specs.Grid.{Inside, place_of}
 use Rattle.basics.proofs.Range.{run_none, run_more, sum_grow, term_le}
 use Rattle.table.specs.declared.cell.Cell.{Cell}
 use Rattle.table.specs.Cell.{number_of, cell_of, plus_cell, SumsFit}
-use Rattle.table.specs.declared.layout.Layout.{Layout}
+use Rattle.table.specs.Layouts.{Layout}
 use Rattle.table.specs.Layout.{TableIn, view_in}
 use Rattle.table.specs.Sound.{limit}
 use Rattle.table.proofs.Cells.{number_cell, number_plus, cell_by, zero_cell, zeros_cell}

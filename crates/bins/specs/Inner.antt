@@ -4,7 +4,7 @@ use Rattle.basics.specs.Range.{sum_from}
 use Rattle.grid.specs.declared.place.Grid.{Grid}
 use Rattle.grid.specs.Grid.{place_of}
 use Rattle.table.specs.Cell.{View}
-use Rattle.table.specs.declared.layout.Layout.{Layout}
+use Rattle.table.specs.Layouts.{Layout}
 use Rattle.table.specs.Layout.{TableIn}
 use Rattle.boxes.specs.declared.sides.Bounds.{Bounds}
 use Rattle.bins.specs.Sum.{CanAdd}

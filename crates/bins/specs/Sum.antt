@@ -5,7 +5,7 @@ use Rattle.basics.specs.Range.{sum_from}
 use Rattle.grid.specs.Grid.{place_of}
 use Rattle.table.specs.declared.cell.Cell.{Cell}
 use Rattle.table.specs.Cell.{View, cell_of}
-use Rattle.table.specs.declared.layout.Layout.{Layout}
+use Rattle.table.specs.Layouts.{Layout}
 use Rattle.table.specs.Layout.{TableIn, view_in, TableOfIn}
 use Rattle.table.specs.Sound.{sound}
 use Rattle.boxes.specs.declared.sides.Bounds.{Bounds}

@@ -9,61 +9,44 @@ ghost use Rattle.bins.specs.Inner.{row_sum, plane_sum, InPlane, InRow};
 use boxes::sides::Bounds;
 use grid::place::{Grid, place};
 use table::cell::{Cell, ZEROS, plus};
-use table::layout::{Layout, cell_in};
+use table::layout::Layout;
 
 // The bins of one row of a box.
-fn add_row(
-    layout: Layout,
-    small: &[u32],
-    large: &[u64],
-    g: Grid,
-    x: Bounds,
-    r: usize,
-    gr: usize,
-) -> Cell
-    requires { InRow layout limit g (laid layout small.now large.now) x r gr }
+fn add_row<L: Layout>(small: &[u32], large: &[u64], g: Grid, x: Bounds, r: usize, gr: usize) -> Cell
+    requires { InRow L.layout limit g (laid L.layout small.now large.now) x r gr }
     ensures { result
         ≡ cell_of
-        (row_sum g (laid_view layout small.now large.now) r gr x.b0 (x.b1 - x.b0)) }
+        (row_sum g (laid_view L.layout small.now large.now) r gr x.b0 (x.b1 - x.b0)) }
 {
-    let end = x.b1 as usize;
     let mut sum = ZEROS;
-    let mut b = x.b0 as usize;
-    while b < end {
-        sum = plus(sum, cell_in(layout, small, large, place(g, r, gr, b)));
-        b = b + 1;
+    for b in x.b0 as usize..x.b1 as usize {
+        sum = plus(sum, L::cell(small, large, place(g, r, gr, b)));
     }
     sum
 }
 
 // The rows of one plane of a box.
-fn add_plane(layout: Layout, small: &[u32], large: &[u64], g: Grid, x: Bounds, r: usize) -> Cell
-    requires { InPlane layout limit g (laid layout small.now large.now) x r }
+fn add_plane<L: Layout>(small: &[u32], large: &[u64], g: Grid, x: Bounds, r: usize) -> Cell
+    requires { InPlane L.layout limit g (laid L.layout small.now large.now) x r }
     ensures { result
         ≡ cell_of
-        (plane_sum g (laid_view layout small.now large.now) x r x.g0 (x.g1 - x.g0)) }
+        (plane_sum g (laid_view L.layout small.now large.now) x r x.g0 (x.g1 - x.g0)) }
 {
-    let end = x.g1 as usize;
     let mut sum = ZEROS;
-    let mut gr = x.g0 as usize;
-    while gr < end {
-        sum = plus(sum, add_row(layout, small, large, g, x, r, gr));
-        gr = gr + 1;
+    for gr in x.g0 as usize..x.g1 as usize {
+        sum = plus(sum, add_row::<L>(small, large, g, x, r, gr));
     }
     sum
 }
 
 // The planes of a box.
-pub fn add_up(layout: Layout, small: &[u32], large: &[u64], g: Grid, x: Bounds) -> Cell
-    requires { CanAdd layout limit g (laid layout small.now large.now) x }
-    ensures { result ≡ box_cell g (laid_view layout small.now large.now) x }
+pub fn add_up<L: Layout>(small: &[u32], large: &[u64], g: Grid, x: Bounds) -> Cell
+    requires { CanAdd L.layout limit g (laid L.layout small.now large.now) x }
+    ensures { result ≡ box_cell g (laid_view L.layout small.now large.now) x }
 {
-    let end = x.r1 as usize;
     let mut sum = ZEROS;
-    let mut r = x.r0 as usize;
-    while r < end {
-        sum = plus(sum, add_plane(layout, small, large, g, x, r));
-        r = r + 1;
+    for r in x.r0 as usize..x.r1 as usize {
+        sum = plus(sum, add_plane::<L>(small, large, g, x, r));
     }
     sum
 }

@@ -1,5 +1,6 @@
 -- How a comparison ends: which record it hands back and what it leaves, case by case.
 -- Assumes nothing.
+use Rattle.std.specs.Prelude.{None, Some}
 use mathlib.Core.Path.{◌≡◌, refl, ap, ◌∙◌}
 use mathlib.Core.Bool.{true, false}
 use mathlib.Core.List.{List}
@@ -8,7 +9,6 @@ use borrow.Author.Tests.{eq-eqb, ne_eqb}
 use lib.IntN.{ℤ}
 use lib.ListN.{length}
 use Rattle.grid.specs.declared.place.Grid.{Grid}
-use Rattle.grid.specs.declared.place.Chosen.TheVariants as chosen
 use Rattle.basics.specs.Answer.{refuse, when_done}
 use Rattle.grid.specs.Grid.{grid_of, bins_of}
 use Rattle.grid.proofs.Ends.{grid_refused, ends}
@@ -32,7 +32,7 @@ module _ (b1 b2 b3 : ℕ) (t s : Table) (l : List ℤ) where
   abbrev pub on : {A : Type 0} → (ℕ → View → View → A) → Grid → A
   on f g = f (bins_of g) (view_of t) (view_of s)
 
-  pub no_grid_lem : grid_of b1 b2 b3 ≡ chosen.Refused → Ends (refusal 1) l
+  pub no_grid_lem : grid_of b1 b2 b3 ≡ None → Ends (refusal 1) l
   unfolding compare_record compare_later compare_number compared
   no_grid_lem e =
       let d = grid_refused (grid_of b1 b2 b3) (compare_on t s l) (on differing) 0 e in
@@ -40,7 +40,7 @@ module _ (b1 b2 b3 : ℕ) (t s : Table) (l : List ℤ) where
       let w = grid_refused (grid_of b1 b2 b3) (compare_on t s l) (on differences_of) l e in
       ((λ i. record { number = d.0 i; differ = d.1 i; first = f.1 i }), w.1)
 
-  module _ {g : Grid} (e : grid_of b1 b2 b3 ≡ chosen.Accepted g) where
+  module _ {g : Grid} (e : grid_of b1 b2 b3 ≡ Some g) where
     ends_with : {n : ℕ} → compare_on t s l g ≡ n → {r : Compared} → r.number ≡ n
         → r.differ ≡ when_done n (on differing g) 0 → r.first ≡ when_done n (on first_differing g) 0
         → {x : List ℤ} → x ≡ when_done n (on differences_of g) l → Ends r x

@@ -24,7 +24,7 @@ use Rattle.table.proofs.Cells.{cell_fields}
 use Rattle.table.proofs.Tables.{wide_len}
 use Rattle.table.proofs.Soundness.{number_below}
 use Rattle.compare.specs.Compare.{difference, differs, differences_of}
-use Rattle.compare.specs.Inner.{less, cells_differ, with_differences, Small}
+use Rattle.compare.specs.Inner.{less, with_differences, Small}
 
 -- ---- the size of a difference
 pub less_small : (most x y : ℕ) → x < most → y < most → nat_abs (pos y -ℤ pos x) < most
@@ -111,6 +111,14 @@ module _ (l : List ℤ) (p : ℕ) (f : ℕ → ℤ) (has : 5 * p + 5 ≤ length 
       ∙ past l1 (5 * p + 1) (f 1) (5 * q + j) (λ e. n (omega arith))
       ∙ past l (5 * p) (f 0) (5 * q + j) (λ e. n (omega arith))
 
+-- whether two cells differ, as the code compares them
+abbrev pub cells_differ : Cell → Cell → Bool
+cells_differ a b =
+    not
+    (eqb a.weight b.weight
+    && (eqb a.sum1 b.sum1
+    && (eqb a.sum2 b.sum2 && (eqb a.sum3 b.sum3 && eqb a.squares b.squares))))
+
 -- ---- the list of n bins, with the differences of the first p of them written
 pub record Written (n : ℕ) (v u : View) (p : ℕ) (l : List ℤ) : Type 0 where
   pub lent : length l ≡ table_len n
@@ -148,7 +156,7 @@ module _ {n : ℕ} (v u : View) (p : ℕ) {l : List ℤ} (w : Written n v u p l)
 
     -- and whether the bin differs
     pub cells_tell : cells_differ a b ≡ differs v u p
-    unfolding cells_differ differs all_from
+    unfolding differs all_from
     cells_tell =
         let f = cell_fields (v p) d in
         let h = cell_fields (u p) e in

@@ -2,6 +2,7 @@
 -- and leaves the list as it was, and where the answer is 0 the grid is accepted, the lengths are right, both tables are
 -- sound, and each number is known.
 -- Assumes nothing.
+use Rattle.std.specs.Prelude.{Some}
 use mathlib.Core.Path.{◌≡◌, refl, sym, ap, ◌∙◌}
 use mathlib.Core.Bool.{Bool, true, false, not, ◌&&◌}
 use mathlib.Core.List.{List}
@@ -11,7 +12,6 @@ use lib.Dec.{eqb}
 use lib.IntN.{ℤ}
 use lib.ListN.{length}
 use Rattle.grid.specs.declared.place.Grid.{Grid}
-use Rattle.grid.specs.declared.place.Chosen.TheVariants as chosen
 use Rattle.basics.specs.Answer.{refuse, when_done}
 use Rattle.grid.specs.Grid.{grid_of, on_grid, number_on, bins_of}
 use Rattle.basics.proofs.Ends.{passed}
@@ -53,7 +53,7 @@ module _ (b1 b2 b3 : ℕ) (t s : Table) (l : List ℤ) where
       )
 
   -- its tests on an accepted grid, in their order
-  pub compare_tests_lem : {g : Grid} → grid_of b1 b2 b3 ≡ chosen.Accepted g → number
+  pub compare_tests_lem : {g : Grid} → grid_of b1 b2 b3 ≡ Some g → number
       ≡ refuse
       (not ((is_sized t (bins_of g) && is_sized s (bins_of g)) && eqb (length l) (table_len (bins_of g)))) 5
       (refuse (not (sound limit g (view_of t) && sound limit g (view_of s))) 6 0)
@@ -63,7 +63,7 @@ module _ (b1 b2 b3 : ℕ) (t s : Table) (l : List ℤ) where
   -- what a comparison that is done tells
   pub record CompareDone : Type 0 where
     pub g : Grid
-    pub chosen : grid_of b1 b2 b3 ≡ chosen.Accepted g
+    pub chosen : grid_of b1 b2 b3 ≡ Some g
     pub lent : Sized t (bins_of g) × Sized s (bins_of g)
     pub list : length l ≡ table_len (bins_of g)
     pub are_sound : Sound limit g (view_of t) × Sound limit g (view_of s)
@@ -72,7 +72,7 @@ module _ (b1 b2 b3 : ℕ) (t s : Table) (l : List ℤ) where
     pub written : later ≡ differences_of (bins_of g) (view_of t) (view_of s)
 
   -- what comes of it
-  pub comes : {A : Type 0} {g : Grid} → grid_of b1 b2 b3 ≡ chosen.Accepted g → compare_on t s l g ≡ 0
+  pub comes : {A : Type 0} {g : Grid} → grid_of b1 b2 b3 ≡ Some g → compare_on t s l g ≡ 0
       → (f : ℕ → View → View → A) (refused : A)
       → compared b1 b2 b3 t s l f refused ≡ f (bins_of g) (view_of t) (view_of s)
   unfolding compared on_grid when_done
@@ -106,7 +106,7 @@ module _ (b1 b2 b3 : ℕ) (t s : Table) (l : List ℤ) where
         written = comes c.is c.number differences_of l;
       }
 
-  pub compare_accepts : {g : Grid} → grid_of b1 b2 b3 ≡ chosen.Accepted g → Sized t (bins_of g) → Sized s (bins_of g)
+  pub compare_accepts : {g : Grid} → grid_of b1 b2 b3 ≡ Some g → Sized t (bins_of g) → Sized s (bins_of g)
       → length l ≡ table_len (bins_of g) → sound limit g (view_of t) ≡ true → sound limit g (view_of s) ≡ true
       → number ≡ 0
   compare_accepts e first second list one two =
@@ -142,7 +142,7 @@ module _ (b1 b2 b3 : ℕ) (t s : Table) (l : List ℤ) where
 
   -- what it leaves, where the comparison is done
   pub later_other : compare_number b1 b2 b3 t s l ≡ 0
-      → {g : Grid} → grid_of b1 b2 b3 ≡ chosen.Accepted g
+      → {g : Grid} → grid_of b1 b2 b3 ≡ Some g
       → compare_later b1 b2 b3 s t l ≡ differences_of (bins_of g) (view_of s) (view_of t)
   unfolding compare_number compare_later number_on on_grid
   later_other e {g} p =

@@ -1,14 +1,11 @@
 -- Laws of counting, among n numbers from i on, those for which a test holds, and of the first of them.
 -- Assumes nothing.
 use mathlib.Core.Path.{◌≡◌, refl, sym, ap, ◌∙◌}
-use mathlib.Core.Bool.{Bool, true, false, cond, ◌&&◌}
+use mathlib.Core.Bool.{Bool, true, false, cond}
 use Prim.Native.Nat.{ℕ, zero, suc, ◌+◌, ◌≤◌, ◌<◌}
 use native.Mathlib.Nat.{add-zero, add-suc, suc-add, zero-add}
 use native.Mathlib.Decide.{ℕ_discrete}
 use native.Mathlib.Omega.{arith}
-use borrow.Author.Tests.{eq-eqb, ne_eqb}
-use lib.Dec.{eqb}
-use mir.Val.{bool_byte}
 use Rattle.basics.specs.Range.{sum_from}
 use Rattle.basics.proofs.Range.{sum_last, sum_bounded}
 use Rattle.compare.specs.Compare.{first_from}
@@ -16,11 +13,6 @@ use Rattle.compare.specs.Compare.{first_from}
 -- 1 where the test holds
 abbrev pub one : Bool → ℕ
 one b = cond b 1 0
-
--- as the machine has it
-pub byte_is : (b : Bool) → bool_byte b ≡ one b
-byte_is true = refl
-byte_is false = refl
 
 -- how many there are
 abbrev pub count : ℕ → ℕ → (ℕ → Bool) → ℕ
@@ -88,45 +80,43 @@ pub none_found : (n : ℕ) (f : ℕ → Bool) → Found n f 0 0 n
 unfolding sum_from
 none_found n f = record { many = refl; none = λ e. refl; some = λ h. absurd (omega arith) }
 
-pub one_more : {n : ℕ} {f : ℕ → Bool} {p differ at : ℕ} → Found n f p differ at → (x : Bool) → x ≡ f p
-    → Found n f (p + 1) (differ + one x) (cond (eqb differ 0 && x) p at)
-one_more {n} {f} {p} {differ} {at} h x e = go (ℕ_discrete differ 0) x e
-  where
-    there : f (0 + p) ≡ f p
-    there = ap f (zero-add p)
+module _ {n : ℕ} {f : ℕ → Bool} {p differ at : ℕ} (h : Found n f p differ at) where
+  there : f (0 + p) ≡ f p
+  there = ap f (zero-add p)
 
-    many : (y : Bool) → y ≡ f p → differ + one y ≡ count 0 (p + 1) f
-    many y q =
-        omega (
-          arith,
-          h.many,
-          sum_last 0 p (λ k. one (f k)),
-          ap one there,
-          ap one q,
-        )
+  many : (y : Bool) → y ≡ f p → differ + one y ≡ count 0 (p + 1) f
+  many y q =
+      omega (
+        arith,
+        h.many,
+        sum_last 0 p (λ k. one (f k)),
+        ap one there,
+        ap one q,
+      )
 
-    go : Dec (differ ≡ 0) → (y : Bool) → y ≡ f p
-        → Found n f (p + 1) (differ + one y) (cond (eqb differ 0 && y) p at)
-    go (yes d) true q =
-        record {
-          many = many true q;
-          none = λ z. absurd (omega arith);
-          some = λ z. rw (eq-eqb differ 0 d)
-              (sym (first_here 0 p f (sym h.many ∙ d) (there ∙ sym q) ∙ zero-add p));
-        }
-    go (yes d) false q =
-        record {
-          many = many false q;
-          none = λ z. rw (eq-eqb differ 0 d) (h.none d);
-          some = λ z. absurd (omega arith);
-        }
-    go (no d) y q =
-        record {
-          many = many y q;
-          none = λ z. absurd (d (omega arith));
-          some = λ z. rw (ne_eqb differ 0 d)
-              (h.some (omega arith) ∙ sym (first_before 0 p f (omega (arith, h.many))));
-        }
+  pub first_found : true ≡ f p → differ ≡ 0 → Found n f (p + 1) (differ + 1) p
+  first_found q d =
+      record {
+        many = many true q;
+        none = λ z. absurd (omega arith);
+        some = λ z. sym (first_here 0 p f (sym h.many ∙ d) (there ∙ sym q) ∙ zero-add p);
+      }
+
+  pub another_found : true ≡ f p → (differ ≡ 0 → ⊥) → Found n f (p + 1) (differ + 1) at
+  another_found q d =
+      record {
+        many = many true q;
+        none = λ z. absurd (omega arith);
+        some = λ z. h.some (omega arith) ∙ sym (first_before 0 p f (omega (arith, h.many)));
+      }
+
+  pub not_found : false ≡ f p → Found n f (p + 1) differ at
+  not_found q =
+      record {
+        many = sym (add-zero differ) ∙ many false q;
+        none = h.none;
+        some = λ z. h.some z ∙ sym (first_before 0 p f (omega (arith, h.many, z)));
+      }
 
 -- all of them were looked at
 pub all_found : {n : ℕ} {f : ℕ → Bool} {differ at : ℕ} → Found n f n differ at

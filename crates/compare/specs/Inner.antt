@@ -1,5 +1,9 @@
 -- What the crate's own functions are told of a comparison. Definitions only.
-use Rattle.std.specs.Prelude.{◌≡◌, Bool, true, not, ◌&&◌, List, ℕ, zero, suc, ◌+◌, ◌*◌, ◌^◌, ◌<◌, eqb, ℤ, pos, ◌-ℤ◌, length, set}
+use Rattle.std.specs.Prelude.{Result, Ok, Err}
+use Rattle.basics.specs.declared.refusal.Refusal.{Refusal}
+use Rattle.basics.specs.Refusal.{number_of}
+use Rattle.compare.specs.declared.call.Compared.{Compared}
+use Rattle.std.specs.Prelude.{◌≡◌, true, List, ℕ, zero, suc, ◌+◌, ◌*◌, ◌^◌, ◌<◌, ℤ, pos, ◌-ℤ◌, length, set}
 use Rattle.grid.specs.declared.place.Grid.{Grid}
 use Rattle.grid.specs.Grid.{bins_of}
 use Rattle.table.specs.declared.cell.Cell.{Cell}
@@ -14,14 +18,6 @@ less a b (suc zero) = pos b.sum1 -ℤ pos a.sum1
 less a b (suc (suc zero)) = pos b.sum2 -ℤ pos a.sum2
 less a b (suc (suc (suc zero))) = pos b.sum3 -ℤ pos a.sum3
 less a b (suc (suc (suc (suc j)))) = pos b.squares -ℤ pos a.squares
-
--- whether two cells differ
-unfoldable pub cells_differ : Cell → Cell → Bool
-cells_differ a b =
-    not
-    (eqb a.weight b.weight
-    && (eqb a.sum1 b.sum1
-    && (eqb a.sum2 b.sum2 && (eqb a.sum3 b.sum3 && eqb a.squares b.squares))))
 
 -- a list with five differences written, from 5·place on
 unfoldable pub with_differences : List ℤ → ℕ → (ℕ → ℤ) → List ℤ
@@ -43,3 +39,8 @@ pub record Comparable (most : ℕ) (g : Grid) (t s : Table) (l : List ℤ) : Typ
   pub list : length l ≡ table_len (bins_of g)
   pub first_sound : sound most g (view_of t) ≡ true
   pub second_sound : sound most g (view_of s) ≡ true
+
+-- what is handed back: "A refused comparison hands back its answer and two zeros."
+abbrev pub told : Result Compared Refusal → Compared
+told (Ok c) = c
+told (Err r) = record { number = number_of r; differ = 0; first = 0 }

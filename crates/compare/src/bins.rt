@@ -1,10 +1,10 @@
 // Two sound tables, compared bin by bin.
-ghost use Rattle.std.specs.Prelude.{◌≡◌, cond, ◌&&◌, ◌+◌, ◌*◌, ◌^◌, ◌≤◌, ◌<◌, eqb, pos, ◌-ℤ◌, length};
+ghost use Rattle.std.specs.Prelude.{◌≡◌, ◌+◌, ◌*◌, ◌^◌, ◌≤◌, ◌<◌, pos, ◌-ℤ◌, length};
 ghost use Rattle.grid.specs.Grid.{bins_of};
 ghost use Rattle.table.specs.Table.{view_of};
 ghost use Rattle.table.specs.Sound.{limit};
 ghost use Rattle.compare.specs.Compare.{differing, first_differing, differences_of};
-ghost use Rattle.compare.specs.Inner.{less, cells_differ, with_differences, Small, Comparable};
+ghost use Rattle.compare.specs.Inner.{less, with_differences, Small, Comparable};
 
 use crate::call::Compared;
 use grid::place::{Grid, bins};
@@ -16,28 +16,7 @@ fn taken_from(first: u64, second: u64) -> i64
     requires { (first < 2 ^ 50) × (second < 2 ^ 50) }
     ensures { result ≡ pos second -ℤ pos first }
 {
-    let x = second as i64;
-    let y = first as i64;
-    x - y
-}
-
-// Whether two cells differ.
-fn cells_differ(a: Cell, b: Cell) -> bool
-    ensures { result ≡ cells_differ a b }
-{
-    if a.weight != b.weight {
-        return true;
-    }
-    if a.sum1 != b.sum1 {
-        return true;
-    }
-    if a.sum2 != b.sum2 {
-        return true;
-    }
-    if a.sum3 != b.sum3 {
-        return true;
-    }
-    a.squares != b.squares
+    second as i64 - first as i64
 }
 
 // Writes the five differences of a bin.
@@ -56,18 +35,6 @@ fn put_differences(differences: &mut [i64], place: usize, a: Cell, b: Cell)
     differences[at + 2] = sum2;
     differences[at + 3] = sum3;
     differences[at + 4] = squares;
-}
-
-// The place of the first bin that differs, once place p is looked at: it is p where that bin is the first.
-fn first_so_far(differ: usize, at: usize, p: usize, x: bool) -> usize
-    ensures { result ≡ cond (eqb differ 0 && x) p at }
-{
-    if differ == 0 {
-        if x {
-            return p;
-        }
-    }
-    at
 }
 
 // Writes all differences, and counts the bins that differ.
@@ -90,15 +57,16 @@ pub(crate) fn compare_bins(
     let n = bins(g);
     let mut differ = 0;
     let mut at = n;
-    let mut p = 0;
-    while p < n {
+    for p in 0..n {
         let a = cell_at(first, p);
         let b = cell_at(second, p);
         put_differences(differences, p, a, b);
-        let x = cells_differ(a, b);
-        at = first_so_far(differ, at, p, x);
-        differ = differ + x as usize;
-        p = p + 1;
+        if a != b {
+            if differ == 0 {
+                at = p;
+            }
+            differ += 1;
+        }
     }
     Compared {
         number: 0,

@@ -5,10 +5,12 @@ use mathlib.Core.Bool.{Bool, true, false, cond, ◌||◌}
 use mathlib.Core.List.{List}
 use Prim.Native.Nat.{ℕ, zero, suc, ◌+◌, ◌-◌, ◌≤◌, ◌<◌}
 use native.Mathlib.Nat.{zero-add}
-use native.Mathlib.Decide.{ℕ_discrete}
+use native.Mathlib.Decide.{dec_le}
+use borrow.Author.Rules.{rules}
+use borrow.Rule.Slice.PartMut.{put_mid}
 use native.Mathlib.Omega.{arith}
-use lib.ListN.{length, get_or, set, length-set}
-use lib.Seq.{get_or-set_same, get_or-set_other}
+use lib.ListN.{length, get_or, replicate}
+use Rattle.std.proofs.lemmas.List.{places}
 use Rattle.grid.specs.declared.place.Grid.{Grid}
 use Rattle.grid.specs.Grid.{Inside, place_of, bin_at}
 use Rattle.basics.specs.Dimension.{choose}
@@ -66,38 +68,36 @@ fill_more t u both index old e =
     either false b n = refl
 
 -- ---- a run of places
-module _ (index : ℕ) (old : List ℕ) (at : ℕ) where
-  pub run_start : old ≡ fill_where (lies at at) index old
-  run_start =
-      fill_none (lies at at) index old
-      (λ p. never_true _ (λ e. past (lies_from at at p e) (lies_below at at p e)))
-    where
-      past : {p : ℕ} → at ≤ p → p < at → ⊥
-      past h l = omega arith
+module _ (index : ℕ) (old : List ℕ) (at end : ℕ) (h : at ≤ end) (l : end ≤ length old) where
+  abbrev run : List ℕ
+  run = put_mid at (end - at) old (replicate (end - at) index)
 
-  pub run_next : (q : ℕ) → at ≤ q → q < length old
-      → set (fill_where (lies at q) index old) q index ≡ fill_where (lies at (q + 1)) index old
-  run_next q h l =
-      let before = fill_where (lies at q) index old in
-      fill_is (lies at (q + 1)) index old (set before q index)
-      (length-set before q index ∙ length_fill (lies at q) index old)
-      (λ p k. go p k (ℕ_discrete p q))
-    where
-      longer : (p : ℕ) → (p ≡ q → ⊥) → lies at q p ≡ lies at (q + 1) p
-      longer p n =
-          tests_same _ _
-          (λ e. lies_by at (q + 1) p (lies_from at q p e) (omega (arith, lies_below at q p e)))
-          (λ e. lies_by at q p (lies_from at (q + 1) p e) (omega (arith, lies_below at (q + 1) p e)))
+  run_long : length run ≡ length old
+  run_long = grind (arith, places)
 
-      go : (p : ℕ) → p < length old → Dec (p ≡ q)
-          → get_or (set (fill_where (lies at q) index old) q index) p 0 ≡ cond (lies at (q + 1) p) index (get_or old p 0)
-      go p k (yes d) =
-          rw (d, lies_by at (q + 1) q h (omega arith))
-          (get_or-set_same (fill_where (lies at q) index old) q index 0 (rw (length_fill (lies at q) index old) l))
-      go p k (no d) =
-          get_or-set_other (fill_where (lies at q) index old) q p index 0 d
-          ∙ fill_at_lem (lies at q) index old p k
-          ∙ ap (λ (b : Bool). cond b index (get_or old p 0)) (longer p d)
+  run_before : (p : ℕ) → p < at → get_or run p 0 ≡ get_or old p 0
+  run_before p j = search (rules, places)
+
+  run_within : (p : ℕ) → at ≤ p → p < end → get_or run p 0 ≡ index
+  run_within p j k = search (rules, places)
+
+  run_after : (p : ℕ) → end ≤ p → p < length old → get_or run p 0 ≡ get_or old p 0
+  run_after p j k = search (rules, places)
+
+  outside : (p : ℕ) → (at ≤ p → p < end → ⊥) → lies at end p ≡ false
+  outside p n = never_true _ (λ e. n (lies_from at end p e) (lies_below at end p e))
+
+  pub run_filled : run ≡ fill_where (lies at end) index old
+  run_filled =
+      fill_is (lies at end) index old run run_long
+      (λ p k.
+      elim (dec_le at p) [
+        | yes j ↦ elim (dec_le end p) [
+          | yes m ↦ rw (outside p (λ a b. absurd (omega (arith, m, b)))) (run_after p m k)
+          | no m ↦ rw (lies_by at end p j (omega arith)) (run_within p j (omega arith))
+        ]
+        | no j ↦ rw (outside p (λ a b. j a)) (run_before p (omega arith))
+      ])
 
 -- the places of a row of a box are a run
 module _ (g : Grid) (x : Bounds) (r gr : ℕ) (h : gr < g.size2) (l : x.b1 ≤ g.size3) where

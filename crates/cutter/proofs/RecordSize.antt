@@ -1,23 +1,22 @@
 -- How large the record of a cut is: it has no more boxes than were asked for, and always 256 places.
 -- Assumes nothing.
+use Rattle.std.specs.Prelude.{None, Option, Some}
 use mathlib.Core.Path.{◌≡◌, refl}
 use mathlib.Core.Bool.{Bool}
 use Prim.Native.Nat.{ℕ, zero, suc, ◌≤◌}
 use native.Mathlib.Omega.{arith}
 use lib.ListN.{length}
 use Rattle.grid.specs.declared.place.Grid.{Grid}
-use Rattle.grid.specs.declared.place.Chosen.{Chosen}
-use Rattle.grid.specs.declared.place.Chosen.TheVariants as chosen
 use Rattle.basics.specs.Answer.{when_done}
 use Rattle.grid.specs.Grid.{grid_of, grid_answer, on_grid}
 use Rattle.basics.proofs.Range.{length_list}
-use Rattle.table.specs.declared.layout.Layout.{Layout}
+use Rattle.table.specs.Layouts.{Layout}
 use Rattle.table.specs.Layout.{TableIn, view_in}
 use Rattle.table.specs.Sound.{limit_of}
 use Rattle.rounds.specs.Loop.{boxes_of, places_of}
 use Rattle.rounds.proofs.Filled.{heap_most}
 use Rattle.sums.specs.declared.source.Source.{Source}
-use Rattle.cutter.specs.declared.call.CutRecord.{CutRecord}
+use Rattle.cutter.specs.Record.{CutRecord}
 use Rattle.cutter.specs.Cut.{BuffersIn, lengths_right, cut_number_on, refused_record, done_record, record_on, cut_record_in}
 
 module _ (layout : Layout) (source : Source) (k : ℕ) (least : 1 ≤ k) (most : k ≤ 256) (t : TableIn layout) where
@@ -33,11 +32,11 @@ module _ (layout : Layout) (source : Source) (k : ℕ) (least : 1 ≤ k) (most :
   unfolding cut_record_in on_grid refused_record
   few_cut b1 b2 b3 b = go (grid_of b1 b2 b3)
     where
-      go : (c : Chosen)
+      go : (c : Option Grid)
           → (on_grid c (refused_record (grid_answer c).number)
           (λ g. record_on (limit_of layout) g k (lengths_right layout source g k t b) (view_in layout t))).boxes ≤ k
-      go (chosen.Accepted g) = few_on g (lengths_right layout source g k t b)
-      go chosen.Refused = omega arith
+      go (Some g) = few_on g (lengths_right layout source g k t b)
+      go None = omega arith
 
   pub few : (b1 b2 b3 : ℕ) (b : BuffersIn layout) {r : CutRecord} → r ≡ cut_record_in layout source b1 b2 b3 k t b → r.boxes ≤ k
   few b1 b2 b3 b e = rw e (few_cut b1 b2 b3 b)
@@ -56,10 +55,10 @@ module _ (layout : Layout) (source : Source) (k : ℕ) (t : TableIn layout) wher
   unfolding cut_record_in on_grid refused_record
   all_places b1 b2 b3 b e = rw e (go (grid_of b1 b2 b3))
     where
-      go : (c : Chosen)
+      go : (c : Option Grid)
           → length
           (on_grid c (refused_record (grid_answer c).number)
           (λ g. record_on (limit_of layout) g k (lengths_right layout source g k t b) (view_in layout t))).places
           ≡ 256
-      go (chosen.Accepted g) = places_on g (lengths_right layout source g k t b)
-      go chosen.Refused = refl
+      go (Some g) = places_on g (lengths_right layout source g k t b)
+      go None = refl

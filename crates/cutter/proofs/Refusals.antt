@@ -1,28 +1,32 @@
 -- The answer to a cut, test by test, and what a cut that nothing refuses is given.
 -- Assumes nothing.
-use mathlib.Core.Path.{◌≡◌, refl, ◌∙◌}
+use Rattle.std.specs.Prelude.{None, Some, Result, Ok, Err}
+use Rattle.std.specs.Result.{IsErrAnd}
+use mathlib.Core.Path.{◌≡◌, refl, ap, ◌∙◌}
 use mathlib.Core.Bool.{Bool, true, false, ◌&&◌}
 use Prim.Native.Nat.{ℕ, ◌*◌, ◌≤◌, ◌<◌}
 use native.Mathlib.Omega.{arith}
 use borrow.Author.Tests.{eq-eqb, ne_eqb, le-leb, lt-leb, leb-true, eqb-true, eqb-false, not-false}
 use lib.Dec.{eqb}
 use Rattle.grid.specs.declared.place.Grid.{Grid}
-use Rattle.grid.specs.declared.place.Chosen.TheVariants as chosen
 use Rattle.basics.specs.Answer.{refuse, when_done}
+use Rattle.basics.specs.declared.refusal.Refusal.{Refusal}
+use Rattle.basics.specs.Refusal.{number_of}
 use Rattle.grid.specs.Grid.{grid_of, grid_answer, on_grid, bins_of}
 use Rattle.basics.proofs.Range.{and_left, and_right}
 use Rattle.basics.proofs.Ends.{refused_keeps, passed}
 use Rattle.table.specs.Cell.{View}
-use Rattle.table.specs.declared.layout.Layout.{Layout}
+use Rattle.table.specs.Layouts.{Layout}
 use Rattle.table.specs.Layout.{TableIn, view_in}
 use Rattle.table.specs.Sound.{limit_of, total, sound}
+use Rattle.rounds.specs.declared.gather.Boxes.{Boxes}
 use Rattle.rounds.specs.Loop.{boxes_of}
-use Rattle.cutter.specs.declared.call.CutRecord.{CutRecord}
+use Rattle.cutter.specs.Record.{CutRecord}
 use Rattle.sums.specs.declared.source.Source.{Source}
 use Rattle.sums.specs.declared.source.Source.TheVariants.{Moments}
 use Rattle.cutter.specs.Cut.{BuffersIn, Lengths, work_fits, lengths_right, long_enough, cut_number_on, CanCut}
 use Rattle.cutter.specs.Cut.{LengthsFit}
-use Rattle.cutter.specs.Cut.{refused_record, done_record, record_on, cut_record_in, later_on, cut_later_in}
+use Rattle.cutter.specs.Cut.{refused_record, done_record, record_of, record_on, cut_record_in, later_on, cut_later_in}
 
 -- ---- the work table
 pub moments_fit : {sized : Bool} → work_fits Moments sized ≡ true → sized ≡ true
@@ -32,36 +36,6 @@ moments_fit e = e
 pub fit_moments : {sized : Bool} → sized ≡ true → work_fits Moments sized ≡ true
 unfolding work_fits
 fit_moments e = e
-
--- ---- the lengths
-module _ (source : Source) (g : Grid) (k : ℕ) (table : Bool) (l : Lengths) where
-  pub table_wrong : table ≡ false → long_enough source g k table l ≡ false
-  unfolding long_enough
-  table_wrong n = simp n
-
-  module _ (t : table ≡ true) where
-    pub work_wrong : work_fits source l.work ≡ false → long_enough source g k table l ≡ false
-    unfolding long_enough
-    work_wrong n = simp (t, n)
-
-    module _ (w : work_fits source l.work ≡ true) where
-      pub palette_short : l.palette < 3 * k → long_enough source g k table l ≡ false
-      unfolding long_enough
-      palette_short n = simp (t, w, lt-leb _ _ n)
-
-      module _ (p : 3 * k ≤ l.palette) where
-        pub counts_short : l.counts < k → long_enough source g k table l ≡ false
-        unfolding long_enough
-        counts_short n = simp (t, w, le-leb _ _ p, lt-leb _ _ n)
-
-        module _ (c : k ≤ l.counts) where
-          pub remainders_short : l.remainders < 3 * k → long_enough source g k table l ≡ false
-          unfolding long_enough
-          remainders_short n = simp (t, w, le-leb _ _ p, le-leb _ _ c, lt-leb _ _ n)
-
-          pub only_map : 3 * k ≤ l.remainders → long_enough source g k table l ≡ eqb l.map (bins_of g)
-          unfolding long_enough
-          only_map r = simp (t, w, le-leb _ _ p, le-leb _ _ c, le-leb _ _ r)
 
 -- ---- the chain
 module _ (limit : ℕ) (g : Grid) (k : ℕ) (fit : Bool) (v : View) where
@@ -114,10 +88,15 @@ lengths_fit_lem e =
       map = eqb-true _ _ five.1;
     }
 
+module _ (source : Source) (g : Grid) (k : ℕ) (table : Bool) (l : Lengths) where
+  pub only_map : table ≡ true → work_fits source l.work ≡ true → 3 * k ≤ l.palette → k ≤ l.counts → 3 * k ≤ l.remainders
+      → long_enough source g k table l ≡ eqb l.map (bins_of g)
+  unfolding long_enough
+  only_map t w p c r = simp (t, w, le-leb _ _ p, le-leb _ _ c, le-leb _ _ r)
+
 pub fit_lengths : {source : Source} {g : Grid} {k : ℕ} {table : Bool} {l : Lengths} → LengthsFit source g k table l
     → long_enough source g k table l ≡ true
-fit_lengths {source} {g} {k} {table} {l} f =
-    only_map source g k table l f.sized f.work f.palette f.counts f.remainders ∙ eq-eqb _ _ f.map
+fit_lengths f = only_map _ _ _ _ _ f.sized f.work f.palette f.counts f.remainders ∙ eq-eqb _ _ f.map
 
 pub can_cut : {limit : ℕ} {g : Grid} {k : ℕ} {fit : Bool} {v : View} → cut_number_on limit g k fit v ≡ 0
     → CanCut limit g k v × (fit ≡ true)
@@ -140,16 +119,22 @@ can_cut e =
     positive : (n : ℕ) → (n ≡ 0 → ⊥) → 0 < n
     positive n h = omega arith
 
+-- what `?` hands on tells the same
+pub record_handed : (r : Result Boxes Refusal) (e : Refusal) → IsErrAnd r (λ x. x ≡ e)
+    → record_of r ≡ refused_record (number_of e)
+record_handed (Ok b) e h = absurd h
+record_handed (Err x) e h = ap (λ (y : Refusal). refused_record (number_of y)) h
+
 -- ---- the call: what it hands back, and what it leaves behind
 module _ (layout : Layout) (source : Source) (b1 b2 b3 k : ℕ) (t : TableIn layout) (b : BuffersIn layout) where
   abbrev Ends : CutRecord → BuffersIn layout → Type 0
   Ends r e = (r ≡ cut_record_in layout source b1 b2 b3 k t b) × (e ≡ cut_later_in layout source b1 b2 b3 k t b)
 
-  pub cut_no_grid : grid_of b1 b2 b3 ≡ chosen.Refused → {r : CutRecord} → r ≡ refused_record 1 → Ends r b
+  pub cut_no_grid : grid_of b1 b2 b3 ≡ None → {r : CutRecord} → r ≡ refused_record 1 → Ends r b
   unfolding cut_record_in cut_later_in on_grid grid_answer
   cut_no_grid e q = (q ∙ rw e refl, rw e refl)
 
-  module _ {g : Grid} (e : grid_of b1 b2 b3 ≡ chosen.Accepted g) where
+  module _ {g : Grid} (e : grid_of b1 b2 b3 ≡ Some g) where
     pub cut_refused : {n : ℕ} → n ≡ cut_number_on (limit_of layout) g k (lengths_right layout source g k t b) (view_in layout t) → (n ≡ 0 → ⊥)
         → {r : CutRecord}
         → r ≡ refused_record n → Ends r b

@@ -1,12 +1,13 @@
 -- The call cut (Rules, Results; Rules, Answers): its answer, its record and its results over a view and for any limit,
 -- and the call on lent lists. Definitions only.
-use Rattle.std.specs.Prelude.{◌≡◌, Bool, true, not, ◌&&◌, List, [], map, ℕ, ◌*◌, ◌≤◌, ◌<◌, eqb, leb, length, take, replicate}
+use Rattle.std.specs.Prelude.{Result, Ok, Err, ◌≡◌, Bool, true, not, ◌&&◌, List, [], map, ℕ, ◌*◌, ◌≤◌, ◌<◌, eqb, leb, length, take, replicate}
 use Rattle.grid.specs.declared.place.Grid.{Grid}
 use Rattle.basics.specs.Answer.{refuse, when_done}
+use Rattle.basics.specs.declared.refusal.Refusal.{Refusal}
+use Rattle.basics.specs.Refusal.{number_of}
 use Rattle.grid.specs.Grid.{grid_of, grid_answer, on_grid, number_on, bins_of}
 use Rattle.table.specs.Cell.{View}
-use Rattle.table.specs.declared.layout.Layout.{Layout}
-use Rattle.table.specs.declared.layout.Layout.TheVariants.{Wide}
+use Rattle.table.specs.Layouts.{Layout, Wide}
 use Rattle.table.specs.Table.{Table}
 use Rattle.table.specs.Layout.{TableIn, laid, is_sized_in, view_in, written_in}
 use Rattle.table.specs.Sound.{limit_of, total, sound, unsound_number}
@@ -15,10 +16,10 @@ use Rattle.boxes.specs.Box.{no_box}
 use Rattle.sums.specs.declared.source.Source.{Source}
 use Rattle.sums.specs.declared.source.Source.TheVariants.{Moments, Bins}
 use Rattle.sums.specs.Moments.{moments_of}
-use Rattle.rounds.specs.declared.gather.BoxSpread.{BoxSpread}
+use Rattle.heap.specs.declared.heap.BoxSpread.{BoxSpread}
 use Rattle.rounds.specs.declared.gather.Boxes.{Boxes}
 use Rattle.rounds.specs.Loop.{with_zero, boxes_of}
-use Rattle.cutter.specs.declared.call.CutRecord.{CutRecord}
+use Rattle.cutter.specs.Record.{CutRecord}
 use Rattle.cutter.specs.Palette.{palette_later, counts_later, remainders_later}
 use Rattle.cutter.specs.Map.{map_of}
 
@@ -46,6 +47,11 @@ refused_record n = record { number = n; boxes = 0; rounds = 0; places = replicat
 
 unfoldable pub done_record : Boxes → CutRecord
 done_record b = record { number = 0; boxes = b.boxes; rounds = b.rounds; places = b.places }
+
+-- the record that a cut's result tells
+abbrev pub record_of : Result Boxes Refusal → CutRecord
+record_of (Ok b) = done_record b
+record_of (Err r) = refused_record (number_of r)
 
 unfoldable pub record_on : ℕ → Grid → ℕ → Bool → View → CutRecord
 record_on most g k fit v =

@@ -1,3 +1,4 @@
+pub mod Record
 pub mod Fronts
 pub mod Palette
 pub mod Map

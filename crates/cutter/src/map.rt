@@ -13,11 +13,7 @@ fn fill(map: &mut [u8], at: usize, end: usize, index: u8)
     requires { (at ≤ end) × (end ≤ length map.old) }
     ensures { map.new ≡ fill_where (lies at end) index map.old }
 {
-    let mut p = at;
-    while p < end {
-        map[p] = index;
-        p = p + 1;
-    }
+    map[at..end].fill(index);
 }
 
 // Writes an index at the bins of a box in its plane r.
@@ -27,12 +23,9 @@ fn fill_plane(map: &mut [u8], g: Grid, x: Bounds, r: usize, index: u8)
 {
     let b0 = x.b0 as usize;
     let b1 = x.b1 as usize;
-    let end = x.g1 as usize;
-    let mut gr = x.g0 as usize;
-    while gr < end {
+    for gr in x.g0 as usize..x.g1 as usize {
         let at = place(g, r, gr, 0);
         fill(map, at + b0, at + b1, index);
-        gr = gr + 1;
     }
 }
 
@@ -41,10 +34,7 @@ pub(crate) fn fill_box(map: &mut [u8], g: Grid, x: Bounds, index: u8)
     requires { Within g x × (length map.old ≡ bins_of g) }
     ensures { map.new ≡ fill_of g x index map.old }
 {
-    let end = x.r1 as usize;
-    let mut r = x.r0 as usize;
-    while r < end {
+    for r in x.r0 as usize..x.r1 as usize {
         fill_plane(map, g, x, r, index);
-        r = r + 1;
     }
 }

@@ -1,14 +1,16 @@
 // What a cut refuses on an accepted grid, in the order of the answers.
 ghost use Rattle.std.specs.Prelude.{◌≡◌, ◌≤◌};
 ghost use Rattle.grid.specs.Grid.{Accepted, bins_of};
+ghost use Rattle.basics.specs.Refusal.{answer_of};
 ghost use Rattle.table.specs.Layout.{laid, laid_view, is_sized_in};
 ghost use Rattle.table.specs.Sound.{limit_of};
 ghost use Rattle.cutter.specs.Cut.{work_fits, long_enough, cut_number_on};
 
+use basics::refusal::Refusal;
 use grid::place::{Grid, bins};
 use sums::source::Source;
-use table::layout::{Layout, lengths_fit};
-use table::sound::{SoundTotal, total_in};
+use table::layout::Layout;
+use table::sound::sound_total;
 
 // Whether the work table is what its source of sums asks for, from whether it is one of the grid.
 fn work_fits(source: Source, sized: bool) -> bool
@@ -38,28 +40,17 @@ fn long_enough(
         ≡ long_enough source g k table
         (record { work = work; palette = palette; counts = counts; remainders = remainders; map = map }) }
 {
-    if !table {
-        return false;
-    }
-    if !work_fits(source, work) {
-        return false;
-    }
-    if palette < 3 * k {
-        return false;
-    }
-    if counts < k {
-        return false;
-    }
-    if remainders < 3 * k {
-        return false;
-    }
-    map == bins(g)
+    table
+        && work_fits(source, work)
+        && palette >= 3 * k
+        && counts >= k
+        && remainders >= 3 * k
+        && map == bins(g)
 }
 
-// The answer to a cut on an accepted grid.
-pub(crate) fn number_on(
+// Whether a cut on an accepted grid is refused.
+pub(crate) fn check<L: Layout>(
     source: Source,
-    layout: Layout,
     small: &[u32],
     large: &[u64],
     g: Grid,
@@ -69,29 +60,24 @@ pub(crate) fn number_on(
     counts: usize,
     remainders: usize,
     map: usize,
-) -> u8
+) -> Result<(), Refusal>
     requires { Accepted g }
-    ensures { result
-        ≡ cut_number_on (limit_of layout) g k
-        (long_enough source g k (is_sized_in layout (laid layout small.now large.now) (bins_of g))
+    ensures { answer_of result
+        ≡ cut_number_on (limit_of L.layout) g k
+        (long_enough source g k (is_sized_in L.layout (laid L.layout small.now large.now) (bins_of g))
         (record { work = work; palette = palette; counts = counts; remainders = remainders; map = map }))
-        (laid_view layout small.now large.now) }
+        (laid_view L.layout small.now large.now) }
 {
-    if k < 1 {
-        return 2;
+    if k < 1 || 256 < k {
+        return Err(Refusal::BoxCount);
     }
-    if 256 < k {
-        return 2;
-    }
-    let table = lengths_fit(layout, small.len(), large.len(), g);
+    let table = L::fits(small.len(), large.len(), g);
     if !long_enough(source, g, k, table, work, palette, counts, remainders, map) {
-        return 5;
+        return Err(Refusal::Length);
     }
-    let SoundTotal::Total(total) = total_in(layout, small, large, g) else {
-        return 6;
-    };
+    let total = sound_total::<L>(small, large, g).ok_or(Refusal::Unsound)?;
     if total == 0 {
-        return 8;
+        return Err(Refusal::NoWeight);
     }
-    0
+    Ok(())
 }

@@ -70,8 +70,7 @@ fn put_count(counts: &mut [u32], i: usize, weight: u64)
 }
 
 // Writes colour, count (`cube_color_and_count`) and remainders of a box at place i.
-pub(crate) fn put_result(
-    layout: Layout,
+pub(crate) fn put_result<L: Layout>(
     small: &[u32],
     large: &[u64],
     smallwork: &[u32],
@@ -84,20 +83,20 @@ pub(crate) fn put_result(
     counts: &mut [u32],
     remainders: &mut [u32],
 )
-    requires can_sum { CanSum layout limit source g (laid layout small.now large.now)
-        (laid layout smallwork.now largework.now) × Occupied g (laid_view layout small.now large.now) x }
+    requires can_sum { CanSum L.layout limit source g (laid L.layout small.now large.now)
+        (laid L.layout smallwork.now largework.now) × Occupied g (laid_view L.layout small.now large.now) x }
     requires i_in_bounds { (3 * i + 2 < length palette.old) × (i < length counts.old)
         × (3 * i + 2 < length remainders.old) }
     ensures palette { palette.new
         ≡ with_colour_at palette.old i
-        (colour_of g (laid_view layout small.now large.now) x) }
+        (colour_of g (laid_view L.layout small.now large.now) x) }
     ensures counts { counts.new
-        ≡ set counts.old i (count_of g (laid_view layout small.now large.now) x) }
+        ≡ set counts.old i (count_of g (laid_view L.layout small.now large.now) x) }
     ensures remainders { remainders.new
         ≡ with_three_at remainders.old i
-        (its_remainders g (laid_view layout small.now large.now) x) }
+        (its_remainders g (laid_view L.layout small.now large.now) x) }
 {
-    let s = box_sum(layout, small, large, smallwork, largework, source, g, x);
+    let s = box_sum::<L>(small, large, smallwork, largework, source, g, x);
     put_colour(palette, i, s);
     put_count(counts, i, s.weight);
     put_remainders(remainders, i, s);

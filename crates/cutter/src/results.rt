@@ -16,58 +16,46 @@ use sums::source::Source;
 use table::layout::Layout;
 
 // Writes colours, counts and remainders of all boxes.
-pub(crate) fn put_results(
-    layout: Layout,
+pub(crate) fn put_results<L: Layout>(
     small: &[u32],
     large: &[u64],
     smallwork: &[u32],
     largework: &[u64],
     source: Source,
     g: Grid,
-    b: Boxes,
+    b: &Boxes,
     palette: &mut [u8],
     counts: &mut [u32],
     remainders: &mut [u32],
 )
-    requires can_sum { CanSum layout limit source g (laid layout small.now large.now)
-        (laid layout smallwork.now largework.now) × Found g (laid_view layout small.now large.now) b }
-    requires boxes_in_bounds { (3 * b.boxes ≤ length palette.old) × (b.boxes ≤ length counts.old)
-        × (3 * b.boxes ≤ length remainders.old) }
+    requires can_sum { CanSum L.layout limit source g (laid L.layout small.now large.now)
+        (laid L.layout smallwork.now largework.now) × Found g (laid_view L.layout small.now large.now) b.now }
+    requires boxes_in_bounds { (3 * b.now.boxes ≤ length palette.old) × (b.now.boxes ≤ length counts.old)
+        × (3 * b.now.boxes ≤ length remainders.old) }
     ensures palette { palette.new
-        ≡ palette_later g (laid_view layout small.now large.now) (list_of b.boxes b.places)
+        ≡ palette_later g (laid_view L.layout small.now large.now) (list_of b.now.boxes b.now.places)
         palette.old }
     ensures counts { counts.new
-        ≡ counts_later g (laid_view layout small.now large.now) (list_of b.boxes b.places)
+        ≡ counts_later g (laid_view L.layout small.now large.now) (list_of b.now.boxes b.now.places)
         counts.old }
     ensures remainders { remainders.new
-        ≡ remainders_later g (laid_view layout small.now large.now) (list_of b.boxes b.places)
+        ≡ remainders_later g (laid_view L.layout small.now large.now) (list_of b.now.boxes b.now.places)
         remainders.old }
 {
-    let places = b.places;
-    let n = b.boxes;
-    let mut i = 0;
-    while i < n {
-        let x = places[i];
-        put_result(
-            layout, small, large, smallwork, largework, source, g, x.bounds, i, palette, counts,
-            remainders,
+    for i in 0..b.boxes {
+        let x = b.places[i];
+        put_result::<L>(
+            small, large, smallwork, largework, source, g, x.bounds, i, palette, counts, remainders,
         );
-        i = i + 1;
     }
 }
 
 // Writes the index of each box at its bins.
-pub(crate) fn fill_boxes(g: Grid, b: Boxes, map: &mut [u8])
-    requires { Placed g b × (length map.old ≡ bins_of g) }
-    ensures { map.new ≡ fill_from g 0 (list_of b.boxes b.places) map.old }
+pub(crate) fn fill_boxes(g: Grid, b: &Boxes, map: &mut [u8])
+    requires { Placed g b.now × (length map.old ≡ bins_of g) }
+    ensures { map.new ≡ fill_from g 0 (list_of b.now.boxes b.now.places) map.old }
 {
-    let places = b.places;
-    let n = b.boxes;
-    let mut at = 0;
-    while at < n {
-        let x = places[at];
-        let index = at as u8;
-        fill_box(map, g, x.bounds, index);
-        at = at + 1;
+    for at in 0..b.boxes {
+        fill_box(map, g, b.places[at].bounds, at as u8);
     }
 }

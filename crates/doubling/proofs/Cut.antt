@@ -1,6 +1,7 @@
 -- The boxes of a table whose numbers are all multiplied by a power of two: their sums are multiplied, their spreads and
 -- scores grow, and the best cut is the same one.
 -- Assumes nothing.
+use Rattle.std.specs.Prelude.{Option, None, Some}
 use mathlib.Core.Path.{◌≡◌, refl, sym, ap, ap₂, ◌∙◌}
 use mathlib.Core.Bool.{Bool, true, false, cond}
 use Prim.Native.Nat.{ℕ, zero, suc, ◌+◌, ◌-◌, ◌*◌, ◌^◌, ◌≤◌, ◌<◌}
@@ -8,6 +9,7 @@ use native.Mathlib.Nat.{mul_comm, zero-mul, pos_of_ne-zero, eq_of_mul-eq-mul_rig
 use native.Mathlib.Omega.{arith}
 use borrow.Author.Tests.{eqb-true, eqb-false, eq-eqb}
 use lib.Dec.{eqb}
+use lib.Ieee.{Float}
 use lib.Pow.{pow_pos}
 use Rattle.basics.proofs.Range.{tests_same}
 use Rattle.grid.specs.declared.place.Grid.{Grid}
@@ -23,7 +25,6 @@ use Rattle.bins.proofs.Boxes.{sum3_scale}
 use Rattle.sums.specs.declared.box_sums.Stats.{Stats}
 use Rattle.sums.specs.Box.{stats_of}
 use Rattle.spread.specs.declared.position.Position.{Position}
-use Rattle.spread.specs.declared.position.Position.TheVariants.{At, Nowhere}
 use Rattle.spread.specs.Spread.{spread_of, score_of}
 use Rattle.spread.specs.Cut.{position_of, position_at, later_wins, better, best_run, best_in, best_cut}
 use Rattle.spread.proofs.Numbers.{numbers, spread_at, quot_is, spread_is, spread_one}
@@ -52,13 +53,13 @@ empty_doubled t n =
     (λ e. eq-eqb (n * 2 ^ t) 0 (ap (λ (z : ℕ). z * 2 ^ t) (eqb-true n 0 e) ∙ none))
 
 -- ---- the order of positions
-wins_grow : (t : ℕ) (p q : Position) → later_wins (grow_position t p) (grow_position t q) ≡ later_wins p q
+wins_grow : (t : ℕ) (p q : Option Position) → later_wins (grow_position t p) (grow_position t q) ≡ later_wins p q
 unfolding later_wins grow_position
-wins_grow t p Nowhere = refl
-wins_grow t Nowhere (At e other less) = refl
-wins_grow t (At d bin score) (At e other less) = lt_grow t less score
+wins_grow t p None = refl
+wins_grow t None (Some l) = refl
+wins_grow t (Some e) (Some l) = lt_grow t l.score e.score
 
-better_grow : (t : ℕ) (p q : Position) → better (grow_position t p) (grow_position t q) ≡ grow_position t (better p q)
+better_grow : (t : ℕ) (p q : Option Position) → better (grow_position t p) (grow_position t q) ≡ grow_position t (better p q)
 unfolding better
 better_grow t p q =
     ap (λ (b : Bool). cond b (grow_position t q) (grow_position t p)) (wins_grow t p q) ∙ go (later_wins p q)
@@ -117,7 +118,7 @@ module _ {g : Grid} {v : View} (s : Sound limit g v) (t : ℕ) (few : t ≤ 100)
         → position_at g (doubled t v) x d bin ≡ grow_position t (position_at g v x d bin)
     unfolding position_at position_of grow_position stats_of
     position_doubled d bin lo hi =
-        (λ i. cond (empty low i) Nowhere (cond (empty high i) Nowhere (At d bin (score_of (many low) (many high)))))
+        (λ i. cond (empty low i) None (cond (empty high i) None (here (score_of (many low) (many high)))))
         ∙ go (eqb (box_sum g v low 0) 0) refl (eqb (box_sum g v high 0) 0) refl
       where
         low : Bounds
@@ -126,16 +127,19 @@ module _ {g : Grid} {v : View} (s : Sound limit g v) (t : ℕ) (few : t ≤ 100)
         high : Bounds
         high = high_side x d bin
 
+        here : Float → Option Position
+        here score = Some (record { dimension = d; bin = bin; score = score })
+
         empty : (y : Bounds) → eqb (box_sum g (doubled t v) y 0) 0 ≡ eqb (box_sum g v y 0) 0
         empty y = ap (λ (n : ℕ). eqb n 0) (box_doubled t g v y 0) ∙ empty_doubled t (box_sum g v y 0)
 
         go : (b : Bool) → eqb (box_sum g v low 0) 0 ≡ b → (c : Bool) → eqb (box_sum g v high 0) 0 ≡ c
-            → cond b Nowhere (cond c Nowhere (At d bin (score_of (many low) (many high))))
-            ≡ grow_position t (cond b Nowhere (cond c Nowhere (At d bin (score_of (once low) (once high)))))
+            → cond b None (cond c None (here (score_of (many low) (many high))))
+            ≡ grow_position t (cond b None (cond c None (here (score_of (once low) (once high)))))
         go true e c f = refl
         go false e true f = refl
         go false e false f =
-            ap (At d bin)
+            ap here
             (score_doubled (low_within w d bin lo hi) (pos_of_ne-zero (eqb-false _ 0 e)) (high_within w d bin hi)
             (pos_of_ne-zero (eqb-false _ 0 f)))
 

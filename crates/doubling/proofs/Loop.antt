@@ -1,6 +1,7 @@
 -- The loop on a table whose numbers are all multiplied by a power of two: the same boxes in the same order after as
 -- many rounds, their spreads grown.
 -- Assumes nothing.
+use Rattle.std.specs.Prelude.{Option, None, Some}
 use mathlib.Core.Path.{◌≡◌, refl, sym, ap, ◌∙◌}
 use mathlib.Core.Bool.{Bool, true, false, cond}
 use mathlib.Core.List.{List, map}
@@ -19,13 +20,12 @@ use Rattle.boxes.specs.declared.sides.Bounds.{Bounds}
 use Rattle.boxes.specs.Box.{low_side, high_side, Within}
 use Rattle.bins.specs.Sum.{box_sum}
 use Rattle.spread.specs.declared.position.Position.{Position}
-use Rattle.spread.specs.declared.position.Position.TheVariants.{At, Nowhere}
 use Rattle.spread.specs.Spread.{zero_of}
 use Rattle.spread.specs.Cut.{best_cut}
 use Rattle.spread.proofs.Best.{answered}
 use Rattle.heap.specs.Heap.{item, put_in, take_out}
 use Rattle.heap.proofs.View.{KeepsOrder, item_view, put_in_view, take_out_view}
-use Rattle.rounds.specs.declared.gather.BoxSpread.{BoxSpread}
+use Rattle.heap.specs.declared.heap.BoxSpread.{BoxSpread}
 use Rattle.rounds.specs.Loop.{by_spread, no_item, with_spread, with_zero, Heap, start_room, start, room_after, boxes_after}
 use Rattle.rounds.specs.Loop.{round_room, round_boxes, round, rounds, heap_of}
 use Rattle.spread.proofs.Cases.{low_box, high_box}
@@ -81,10 +81,10 @@ module _ (t : ℕ) where
   unfolding start start_room grow_heap grow_room grow_box grow new_exponent
   start_grow g = refl
 
-  boxes_grow : (n : ℕ) (p : Position) → boxes_after n (grow_position t p) ≡ boxes_after n p
+  boxes_grow : (n : ℕ) (p : Option Position) → boxes_after n (grow_position t p) ≡ boxes_after n p
   unfolding boxes_after grow_position
-  boxes_grow n (At d i s) = refl
-  boxes_grow n Nowhere = refl
+  boxes_grow n (Some p) = refl
+  boxes_grow n None = refl
 
   room_cond : (b : Bool) (x y : List BoxSpread) → cond b (grow_room t x) (grow_room t y) ≡ grow_room t (cond b x y)
   room_cond true x y = refl
@@ -101,19 +101,19 @@ module _ {g : Grid} {v : View} (s : Sound limit g v) (t : ℕ) (few : t ≤ 100)
   unfolding with_spread grow_box
   box_grown {x} w some = λ i. record { bounds = x; spread = spread_doubled s t few w some i }
 
-  after_doubled : {x : Bounds} → Within g x → (p : Position) → best_cut g v x ≡ p → (h : List BoxSpread) (n : ℕ)
+  after_doubled : {x : Bounds} → Within g x → (p : Option Position) → best_cut g v x ≡ p → (h : List BoxSpread) (n : ℕ)
       → room_after g (doubled t v) (grow_room t h) n x (grow_position t p) ≡ grow_room t (room_after g v h n x p)
   unfolding room_after grow_position
-  after_doubled {x} w (At d i score) e h n =
+  after_doubled {x} w (Some p) e h n =
       let good = (answered g v x e).1.split in
-      let low = with_spread g v (low_side x d i) in
-      let high = with_spread g v (high_side x d i) in
+      let low = with_spread g v (low_side x p.dimension p.bin) in
+      let high = with_spread g v (high_side x p.dimension p.bin) in
       (λ j. put_in by_spread no_item
       (put_in by_spread no_item (grow_room t h) n (box_grown (low_box v w e) (pos_of_ne-zero good.low) j)) (n + 1)
       (box_grown (high_box v w e) (pos_of_ne-zero good.high) j))
       ∙ ap (λ (k : List BoxSpread). put_in by_spread no_item k (n + 1) (grow_box t high)) (put_grow t h n low)
       ∙ put_grow t (put_in by_spread no_item h n low) (n + 1) high
-  after_doubled {x} w Nowhere e h n =
+  after_doubled {x} w None e h n =
       ap (put_in by_spread no_item (grow_room t h) n) (zero_box t x) ∙ put_grow t h n (with_zero x)
 
   module _ (h : List BoxSpread) (n : ℕ) (w : Within g (item no_item h 0).bounds) where

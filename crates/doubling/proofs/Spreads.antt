@@ -1,5 +1,6 @@
 -- Every spread of the loop grows to its product with 2 ^ t in f64.
 -- Assumes nothing.
+use Rattle.std.specs.Prelude.{Some}
 use mathlib.Core.Path.{◌≡◌, sym, ◌∙◌, subst}
 use mathlib.Core.Bool.{Bool, true, false, cond}
 use Prim.Native.Nat.{ℕ, ◌*◌, ◌≤◌, ◌<◌}
@@ -17,10 +18,10 @@ use Rattle.boxes.specs.declared.sides.Bounds.{Bounds}
 use Rattle.boxes.specs.Box.{low_side, high_side, one_bin}
 use Rattle.sums.specs.declared.box_sums.Stats.{Stats}
 use Rattle.sums.specs.Box.{stats_of}
-use Rattle.spread.specs.declared.position.Position.TheVariants.{At}
 use Rattle.spread.specs.Spread.{zero_of, quotient_of, spread_of}
+use Rattle.spread.specs.declared.position.Position.{Position}
 use Rattle.spread.specs.Cut.{best_cut}
-use Rattle.rounds.specs.declared.gather.BoxSpread.{BoxSpread}
+use Rattle.heap.specs.declared.heap.BoxSpread.{BoxSpread}
 use Rattle.rounds.specs.Loop.{with_spread, start, heap_of}
 use Rattle.rounds.proofs.Filled.{Each, Kept, Fit, fit_kept, each_rounds, start_each, start_fit}
 use Rattle.doubling.specs.Grow.{doubled, grow, times_power}
@@ -68,11 +69,12 @@ module _ {g : Grid} {v : View} (s : Sound limit g v) (t : ℕ) (few : t ≤ 31) 
             (spread_fits x (stats_of g (doubled t v) x)));
       }
 
-  sides : (x : BoxSpread) → Grows g v t x → {d i : ℕ} {r : Float} → best_cut g v x.bounds ≡ At d i r
-      → Grows g v t (with_spread g v (low_side x.bounds d i)) × Grows g v t (with_spread g v (high_side x.bounds d i))
-  sides x p {d} {i} q =
-      let both = (fit_kept g v).sides_too x p.fit q in
-      (box_grows (low_side x.bounds d i) both.0, box_grows (high_side x.bounds d i) both.1)
+  sides : (x : BoxSpread) → Grows g v t x → {p : Position} → best_cut g v x.bounds ≡ Some p
+      → Grows g v t (with_spread g v (low_side x.bounds p.dimension p.bin))
+      × Grows g v t (with_spread g v (high_side x.bounds p.dimension p.bin))
+  sides x h {p} q =
+      let both = (fit_kept g v).sides_too x h.fit q in
+      (box_grows (low_side x.bounds p.dimension p.bin) both.0, box_grows (high_side x.bounds p.dimension p.bin) both.1)
 
   grows_kept : Kept g v (Grows g v t)
   grows_kept =

@@ -1,13 +1,12 @@
 -- A view with every number multiplied by a power of two, and a float so multiplied without rounding: by adding to its
 -- exponent, which keeps every comparison. Definitions only.
-use Rattle.std.specs.Prelude.{List, map, ℕ, zero, suc, ◌+◌, ◌*◌, ◌^◌, ℤ, pos, negsuc, Float}
+use Rattle.std.specs.Prelude.{List, map, ℕ, zero, suc, ◌+◌, ◌*◌, ◌^◌, ℤ, pos, negsuc, Float, Option, None, Some}
 use Rattle.std.specs.Float.{nan, inf, fin, binary64}
 use Rattle.std.specs.Float.Ieee.{minus, mul}
 use Rattle.table.specs.Cell.{View}
 use Rattle.sums.specs.Box.{whole}
 use Rattle.spread.specs.declared.position.Position.{Position}
-use Rattle.spread.specs.declared.position.Position.TheVariants.{At, Nowhere}
-use Rattle.rounds.specs.declared.gather.BoxSpread.{BoxSpread}
+use Rattle.heap.specs.declared.heap.BoxSpread.{BoxSpread}
 use Rattle.rounds.specs.Loop.{Heap}
 
 -- "multiplying its weights means multiplying all five numbers of every bin": by 2 ^ t
@@ -35,9 +34,9 @@ grow t (inf s) = inf s
 grow t (fin s m e) = fin s m (new_exponent t m e)
 
 -- a position, a box, a room and a heap whose scores and spreads grow
-unfoldable pub grow_position : ℕ → Position → Position
-grow_position t (At d bin score) = At d bin (grow t score)
-grow_position t Nowhere = Nowhere
+unfoldable pub grow_position : ℕ → Option Position → Option Position
+grow_position t (Some p) = Some (record { dimension = p.dimension; bin = p.bin; score = grow t p.score })
+grow_position t None = None
 
 unfoldable pub grow_box : ℕ → BoxSpread → BoxSpread
 grow_box t x = record { bounds = x.bounds; spread = grow t x.spread }

@@ -1,5 +1,6 @@
 -- Places and their bins, in an accepted grid.
 -- Assumes nothing.
+use Rattle.std.specs.Prelude.{None, Option, Some}
 use mathlib.Core.Path.{◌≡◌, refl, sym, ap, subst, ◌∙◌}
 use mathlib.Core.List.{List}
 use Prim.Native.Nat.{ℕ, zero, suc, ◌+◌, ◌*◌, ◌/◌, ◌%◌, ◌≤◌, ◌<◌}
@@ -10,14 +11,11 @@ use lib.Arith.{digits_lt, digits_div, digits_mod}
 use lib.ListN.{get_or}
 use Rattle.grid.specs.declared.place.Grid.{Grid}
 use Rattle.pixels.specs.declared.colour.Rgb.{Rgb}
-use Rattle.grid.specs.declared.dimension.Shift.{Shift}
 use Rattle.grid.specs.Size.{choices, shift_in, shift_of, bin_of}
 use Rattle.basics.specs.Dimension.{choose}
 use Rattle.grid.specs.Grid.{size_at, shift_at, grid_with, grid_of, rgb_grid, Accepted, bins_of, place_of, bin_at, Inside}
 use Rattle.grid.specs.Grid.{colour_place, stride_at, steps_of, StepsOf}
 use Rattle.pixels.specs.Colour.{component_at}
-use Rattle.grid.specs.declared.dimension.Shift.TheVariants as shift
-use Rattle.grid.specs.declared.place.Chosen.TheVariants as chosen
 use Rattle.basics.proofs.Range.{list_at}
 use Rattle.grid.proofs.Size.{Sized, sized, size_low, size_high, bin_lt}
 
@@ -34,40 +32,40 @@ pub record Chose (b1 b2 b3 : ℕ) (g : Grid) : Type 0 where
   pub two : g.size2 ≡ b2
   pub three : g.size3 ≡ b3
 
-each_size : (b1 b2 b3 s1 s2 s3 : ℕ) → shift_of b1 ≡ shift.By s1 → shift_of b2 ≡ shift.By s2 → shift_of b3 ≡ shift.By s3
-    → (d : ℕ) → shift_of (choose d b1 b2 b3) ≡ shift.By (choose d s1 s2 s3)
+each_size : (b1 b2 b3 s1 s2 s3 : ℕ) → shift_of b1 ≡ Some s1 → shift_of b2 ≡ Some s2 → shift_of b3 ≡ Some s3
+    → (d : ℕ) → shift_of (choose d b1 b2 b3) ≡ Some (choose d s1 s2 s3)
 unfolding choose
 each_size b1 b2 b3 s1 s2 s3 p q r zero = p
 each_size b1 b2 b3 s1 s2 s3 p q r (suc zero) = q
 each_size b1 b2 b3 s1 s2 s3 p q r (suc (suc d)) = r
 
-refused_never : (g : Grid) → chosen.Refused ≡ chosen.Accepted g → ⊥
+refused_never : (g : Grid) → None ≡ Some g → ⊥
 refused_never g q = let z : ◌≡◌ {A = ℕ} 0 1 = cc in omega arith
 
-chose_with : (b1 b2 b3 : ℕ) (g : Grid) (x y z : Shift) → shift_of b1 ≡ x → shift_of b2 ≡ y → shift_of b3 ≡ z
-    → grid_with b1 b2 b3 x y z ≡ chosen.Accepted g → Chose b1 b2 b3 g
+chose_with : (b1 b2 b3 : ℕ) (g : Grid) (x y z : Option ℕ) → shift_of b1 ≡ x → shift_of b2 ≡ y → shift_of b3 ≡ z
+    → grid_with b1 b2 b3 x y z ≡ Some g → Chose b1 b2 b3 g
 unfolding grid_with size_at shift_at
-chose_with b1 b2 b3 g (shift.By s1) (shift.By s2) (shift.By s3) p q r e =
+chose_with b1 b2 b3 g (Some s1) (Some s2) (Some s3) p q r e =
     let made : Grid = record { shift1 = s1; shift2 = s2; shift3 = s3; size1 = b1; size2 = b2; size3 = b3 } in
     let same : made ≡ g = cc in
     subst (λ (h : Grid). Chose b1 b2 b3 h) same
     (record { accepted = record { size = each_size b1 b2 b3 s1 s2 s3 p q r }; one = refl; two = refl; three = refl })
-chose_with b1 b2 b3 g (shift.By s1) (shift.By s2) shift.Refused p q r e = absurd (refused_never g e)
-chose_with b1 b2 b3 g (shift.By s1) shift.Refused z p q r e = absurd (refused_never g e)
-chose_with b1 b2 b3 g shift.Refused y z p q r e = absurd (refused_never g e)
+chose_with b1 b2 b3 g (Some s1) (Some s2) None p q r e = absurd (refused_never g e)
+chose_with b1 b2 b3 g (Some s1) None z p q r e = absurd (refused_never g e)
+chose_with b1 b2 b3 g None y z p q r e = absurd (refused_never g e)
 
-pub chose : (b1 b2 b3 : ℕ) (g : Grid) → grid_of b1 b2 b3 ≡ chosen.Accepted g → Chose b1 b2 b3 g
+pub chose : (b1 b2 b3 : ℕ) (g : Grid) → grid_of b1 b2 b3 ≡ Some g → Chose b1 b2 b3 g
 unfolding grid_of
 chose b1 b2 b3 g e = chose_with b1 b2 b3 g (shift_of b1) (shift_of b2) (shift_of b3) refl refl refl e
 
 -- an accepted grid is that of its sizes
-pub sizes_chosen : {g : Grid} → Accepted g → grid_of g.size1 g.size2 g.size3 ≡ chosen.Accepted g
+pub sizes_chosen : {g : Grid} → Accepted g → grid_of g.size1 g.size2 g.size3 ≡ Some g
 unfolding grid_of grid_with size_at shift_at choose
 sizes_chosen {g} a =
     λ i. grid_with g.size1 g.size2 g.size3 (a.size 0 i) (a.size 1 i) (a.size 2 i)
 
 -- "`rgb()` is 16, 32, 16"
-pub rgb_accepted : grid_of 16 32 16 ≡ chosen.Accepted rgb_grid
+pub rgb_accepted : grid_of 16 32 16 ≡ Some rgb_grid
 unfolding grid_of grid_with shift_of shift_in choices rgb_grid
 rgb_accepted = refl
 

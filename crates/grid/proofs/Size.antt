@@ -1,5 +1,6 @@
 -- Facts of a size, once over the shift: size · 2^shift = 256 gives them all.
 -- Assumes nothing.
+use Rattle.std.specs.Prelude.{None, Some}
 use mathlib.Core.Path.{◌≡◌, refl, sym, ap, ◌∙◌}
 use mathlib.Core.Bool.{Bool, true, false, cond, ◌&&◌}
 use mathlib.Core.List.{List, [], ◌∷◌}
@@ -11,7 +12,6 @@ use native.Mathlib.Omega.{arith}
 use borrow.Author.Tests.{eqb-true, leb-true}
 use lib.Dec.{eqb, leb}
 use lib.Pow.{pow_pos, pow_mono, pow-add, pow-lt}
-use Rattle.grid.specs.declared.dimension.Shift.TheVariants.{By, Refused}
 use Rattle.grid.specs.Size.{choices, shift_in, shift_of, bin_of, span_of, InSize}
 use Rattle.basics.proofs.Range.{and_left, and_right}
 
@@ -38,23 +38,23 @@ fair_sized c e =
       few = leb-true c.1 7 (and_right (leb 1 c.1) (leb c.1 7) rest);
     }
 
-sized_in : (cs : List (ℕ × ℕ)) → right cs ≡ true → (size shift : ℕ) → shift_in cs size ≡ By shift → Sized size shift
+sized_in : (cs : List (ℕ × ℕ)) → right cs ≡ true → (size shift : ℕ) → shift_in cs size ≡ Some shift → Sized size shift
 unfolding right shift_in
 sized_in [] t size shift e = absurd (never e)
   where
-    never : Refused ≡ By shift → ⊥
+    never : None ≡ Some shift → ⊥
     never q = let z : ◌≡◌ {A = ℕ} 0 1 = cc in omega arith
 sized_in (c ∷ cs) t size shift e =
     go (eqb size c.0) refl e (sized_in cs (and_right (fair c) (right cs) t) size shift)
   where
-    go : (b : Bool) → eqb size c.0 ≡ b → cond b (By c.1) (shift_in cs size) ≡ By shift
-        → (shift_in cs size ≡ By shift → Sized size shift) → Sized size shift
+    go : (b : Bool) → eqb size c.0 ≡ b → cond b (Some c.1) (shift_in cs size) ≡ Some shift
+        → (shift_in cs size ≡ Some shift → Sized size shift) → Sized size shift
     go true q p later =
         let s : shift ≡ c.1 = cc in
         rw (s, eqb-true size c.0 q) (fair_sized c (and_left (fair c) (right cs) t))
     go false q p later = later p
 
-pub sized : (size shift : ℕ) → shift_of size ≡ By shift → Sized size shift
+pub sized : (size shift : ℕ) → shift_of size ≡ Some shift → Sized size shift
 unfolding shift_of choices right fair
 sized size shift e = sized_in choices refl size shift e
 

@@ -1,15 +1,12 @@
 -- Grids, bins and their places (Rules, Grid). Definitions only.
+use Rattle.std.specs.Prelude.{None, Option, Some}
 use Rattle.std.specs.Prelude.{◌≡◌, List, [], ◌∷◌, ℕ, ◌+◌, ◌*◌, ◌/◌, ◌%◌, ◌<◌}
 use Rattle.grid.specs.declared.place.Grid.{Grid}
 use Rattle.pixels.specs.declared.colour.Rgb.{Rgb}
-use Rattle.grid.specs.declared.dimension.Shift.{Shift}
-use Rattle.grid.specs.declared.place.Chosen.{Chosen}
 use Rattle.basics.specs.Range.{list_from}
 use Rattle.basics.specs.Answer.{Answer}
 use Rattle.basics.specs.Dimension.{choose}
 use Rattle.grid.specs.Size.{shift_of, bin_of}
-use Rattle.grid.specs.declared.dimension.Shift.TheVariants as shift
-use Rattle.grid.specs.declared.place.Chosen.TheVariants as chosen
 
 unfoldable pub size_at : Grid → ℕ → ℕ
 size_at g d = choose d g.size1 g.size2 g.size3
@@ -18,15 +15,15 @@ unfoldable pub shift_at : Grid → ℕ → ℕ
 shift_at g d = choose d g.shift1 g.shift2 g.shift3
 
 -- three sizes with their shifts, or the refusal
-unfoldable pub grid_with : ℕ → ℕ → ℕ → Shift → Shift → Shift → Chosen
-grid_with b1 b2 b3 (shift.By s1) (shift.By s2) (shift.By s3) =
-    chosen.Accepted (record { shift1 = s1; shift2 = s2; shift3 = s3; size1 = b1; size2 = b2; size3 = b3 })
-grid_with b1 b2 b3 (shift.By s1) (shift.By s2) shift.Refused = chosen.Refused
-grid_with b1 b2 b3 (shift.By s1) shift.Refused t = chosen.Refused
-grid_with b1 b2 b3 shift.Refused t u = chosen.Refused
+unfoldable pub grid_with : ℕ → ℕ → ℕ → Option ℕ → Option ℕ → Option ℕ → Option Grid
+grid_with b1 b2 b3 (Some s1) (Some s2) (Some s3) =
+    Some (record { shift1 = s1; shift2 = s2; shift3 = s3; size1 = b1; size2 = b2; size3 = b3 })
+grid_with b1 b2 b3 (Some s1) (Some s2) None = None
+grid_with b1 b2 b3 (Some s1) None t = None
+grid_with b1 b2 b3 None t u = None
 
 -- "A grid is three sizes B1, B2, B3"
-unfoldable pub grid_of : ℕ → ℕ → ℕ → Chosen
+unfoldable pub grid_of : ℕ → ℕ → ℕ → Option Grid
 grid_of b1 b2 b3 = grid_with b1 b2 b3 (shift_of b1) (shift_of b2) (shift_of b3)
 
 -- "`rgb()` is 16, 32, 16": the grid that grid_of answers for these (`rgb_accepted`)
@@ -34,23 +31,23 @@ unfoldable pub rgb_grid : Grid
 rgb_grid = record { shift1 = 4; shift2 = 3; shift3 = 4; size1 = 16; size2 = 32; size3 = 16 }
 
 -- the answer and the values of each case
-unfoldable pub grid_answer : Chosen → Answer
-grid_answer (chosen.Accepted g) =
+unfoldable pub grid_answer : Option Grid → Answer
+grid_answer (Some g) =
     record { number = 0; values = g.shift1 ∷ g.shift2 ∷ g.shift3 ∷ g.size1 ∷ g.size2 ∷ g.size3 ∷ [] }
-grid_answer chosen.Refused = record { number = 1; values = [] }
+grid_answer None = record { number = 1; values = [] }
 
 -- what a call gives on an accepted grid, and what it gives where the grid is refused
-unfoldable pub on_grid : {A : Type 0} → Chosen → A → (Grid → A) → A
-on_grid (chosen.Accepted g) refused f = f g
-on_grid chosen.Refused refused f = refused
+unfoldable pub on_grid : {A : Type 0} → Option Grid → A → (Grid → A) → A
+on_grid (Some g) refused f = f g
+on_grid None refused f = refused
 
 -- the answer of a call: the grid's refusal first
-unfoldable pub number_on : Chosen → (Grid → ℕ) → ℕ
+unfoldable pub number_on : Option Grid → (Grid → ℕ) → ℕ
 number_on c f = on_grid c (grid_answer c).number f
 
 -- the grid is one that grid_of answers: each size among the seven, with its shift
 pub record Accepted (g : Grid) : Type 0 where
-  pub size : (d : ℕ) → shift_of (size_at g d) ≡ shift.By (shift_at g d)
+  pub size : (d : ℕ) → shift_of (size_at g d) ≡ Some (shift_at g d)
 
 unfoldable pub bins_of : Grid → ℕ
 bins_of g = g.size1 * g.size2 * g.size3

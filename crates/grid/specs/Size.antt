@@ -1,7 +1,6 @@
 -- The seven sizes of a dimension and their shifts (Rules, Grid). Definitions only.
+use Rattle.std.specs.Prelude.{None, Option, Some}
 use Rattle.std.specs.Prelude.{cond, List, [], ◌∷◌, ℕ, ◌+◌, ◌-◌, ◌*◌, ◌/◌, ◌^◌, ◌<◌, eqb}
-use Rattle.grid.specs.declared.dimension.Shift.{Shift}
-use Rattle.grid.specs.declared.dimension.Shift.TheVariants.{By, Refused}
 use Rattle.grid.specs.declared.dimension.Span.{Span}
 use Rattle.basics.specs.Answer.{Answer}
 
@@ -9,11 +8,11 @@ use Rattle.basics.specs.Answer.{Answer}
 unfoldable pub choices : List (ℕ × ℕ)
 choices = (2, 7) ∷ (4, 6) ∷ (8, 5) ∷ (16, 4) ∷ (32, 3) ∷ (64, 2) ∷ (128, 1) ∷ []
 
-unfoldable pub shift_in : List (ℕ × ℕ) → ℕ → Shift
-shift_in [] size = Refused
-shift_in (c ∷ cs) size = cond (eqb size c.0) (By c.1) (shift_in cs size)
+unfoldable pub shift_in : List (ℕ × ℕ) → ℕ → Option ℕ
+shift_in [] size = None
+shift_in (c ∷ cs) size = cond (eqb size c.0) (Some c.1) (shift_in cs size)
 
-unfoldable pub shift_of : ℕ → Shift
+unfoldable pub shift_of : ℕ → Option ℕ
 shift_of size = shift_in choices size
 
 -- "The bin of component c at size B is c shifted right" by the size's shift
@@ -30,6 +29,6 @@ unfoldable pub span_of : ℕ → ℕ → Span
 span_of shift bin = record { low = bin * 2 ^ shift; high = bin * 2 ^ shift + (2 ^ shift - 1) }
 
 -- the answer and the values of each case
-unfoldable pub shift_answer : Shift → Answer
-shift_answer (By s) = record { number = 0; values = s ∷ [] }
-shift_answer Refused = record { number = 1; values = [] }
+unfoldable pub shift_answer : Option ℕ → Answer
+shift_answer (Some s) = record { number = 0; values = s ∷ [] }
+shift_answer None = record { number = 1; values = [] }

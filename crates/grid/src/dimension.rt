@@ -2,26 +2,19 @@
 ghost use Rattle.std.specs.Prelude.{◌≡◌, ◌<◌};
 ghost use Rattle.grid.specs.Size.{shift_of, bin_of, span_of, InSize};
 
-// What a size is answered with.
-#[derive(Clone, Copy)]
-pub enum Shift {
-    By(u8),
-    Refused,
-}
-
-// The shift of a size.
-pub fn shift_of(size: usize) -> Shift
+// The shift of a size, which is one of seven.
+pub fn shift_of(size: usize) -> Option<u8>
     ensures { result ≡ shift_of size }
 {
     match size {
-        2 => Shift::By(7),
-        4 => Shift::By(6),
-        8 => Shift::By(5),
-        16 => Shift::By(4),
-        32 => Shift::By(3),
-        64 => Shift::By(2),
-        128 => Shift::By(1),
-        _ => Shift::Refused,
+        2 => Some(7),
+        4 => Some(6),
+        8 => Some(5),
+        16 => Some(4),
+        32 => Some(3),
+        64 => Some(2),
+        128 => Some(1),
+        _ => None,
     }
 }
 

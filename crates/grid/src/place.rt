@@ -2,7 +2,7 @@
 ghost use Rattle.std.specs.Prelude.{◌≡◌};
 ghost use Rattle.grid.specs.Grid.{grid_of, rgb_grid, bins_of, place_of, Accepted, Inside};
 
-use crate::dimension::{Shift, shift_of};
+use crate::dimension::shift_of;
 
 // Three sizes with their shifts (`BinnerU8x3`).
 #[derive(Clone, Copy)]
@@ -31,27 +31,14 @@ impl Grid {
     }
 }
 
-// What three sizes are answered with.
-#[derive(Clone, Copy)]
-pub enum Chosen {
-    Accepted(Grid),
-    Refused,
-}
-
 // The grid of three sizes.
-pub fn grid_of(size1: usize, size2: usize, size3: usize) -> Chosen
+pub fn grid_of(size1: usize, size2: usize, size3: usize) -> Option<Grid>
     ensures { result ≡ grid_of size1 size2 size3 }
 {
-    let Shift::By(shift1) = shift_of(size1) else {
-        return Chosen::Refused;
-    };
-    let Shift::By(shift2) = shift_of(size2) else {
-        return Chosen::Refused;
-    };
-    let Shift::By(shift3) = shift_of(size3) else {
-        return Chosen::Refused;
-    };
-    Chosen::Accepted(Grid {
+    let shift1 = shift_of(size1)?;
+    let shift2 = shift_of(size2)?;
+    let shift3 = shift_of(size3)?;
+    Some(Grid {
         shift1,
         shift2,
         shift3,

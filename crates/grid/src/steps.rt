@@ -13,10 +13,8 @@ fn strides(shift: u8, stride: usize) -> [usize; 256]
     ensures { result ≡ list_from 0 256 (λ c. bin_of shift c * stride) }
 {
     let mut out = [0usize; 256];
-    let mut c = 0;
-    while c < 256 {
+    for c in 0..256 {
         out[c] = bin_of(shift, c as u8) * stride;
-        c = c + 1;
     }
     out
 }

@@ -1,6 +1,5 @@
 pub mod Cases
 pub mod Steps
-pub mod TwoArrays
 pub mod Keeps
 pub mod View
 pub mod Order

@@ -8,28 +8,30 @@ use Prim.Native.Nat.{ℕ, suc, ◌-◌}
 use lib.IntN.{pos}
 use lib.Ieee.{Float, nan, fin, lt, eq, le}
 use Rattle.heap.specs.Heap.{climb, put_in, sink, enter, take_out}
-use Rattle.heap.specs.TwoArrays.{PackedBox, by_spread, no_item}
+use Rattle.boxes.specs.Box.{no_box}
+use Rattle.heap.specs.declared.heap.BoxSpread.{BoxSpread}
+use Rattle.heap.specs.Boxes.{by_spread, no_item}
 
 -- a whole number as a spread
 number : ℕ → Float
 number n = fin false n (pos 0)
 
--- a box is a number of its own, so that equal spreads can be told apart
-of : ℕ → Float → PackedBox
-of box spread = record { spread = spread; box = box }
+-- a box has a first bin of its own, so that equal spreads can be told apart
+of : ℕ → Float → BoxSpread
+of first spread = record { bounds = record no_box { r0 = first }; spread = spread }
 
 data Step : Type 0 where
-  put : PackedBox → Step
+  put : BoxSpread → Step
   take : Step
 
 -- the room after some steps, from n places in use
-after : List PackedBox → ℕ → List Step → List PackedBox
+after : List BoxSpread → ℕ → List Step → List BoxSpread
 after h n [] = h
 after h n (put x ∷ steps) = after (put_in by_spread no_item h n x) (suc n) steps
 after h n (take ∷ steps) = after (take_out by_spread no_item h n) (n - 1) steps
 
 record Case : Type 0 where
-  room : List PackedBox
+  room : List BoxSpread
   used : ℕ
   steps : List Step
   expected : List ℕ
@@ -77,7 +79,7 @@ cases =
     ∷ []
 
 boxes : Case → List ℕ
-boxes c = map (λ x. x.box) (after c.room c.used c.steps)
+boxes c = map (λ x. x.bounds.r0) (after c.room c.used c.steps)
 
 worked : map boxes cases ≡ map (λ c. c.expected) cases
 unfolding lt eq le climb put_in sink enter take_out number of after cases boxes

@@ -1,2 +1,2 @@
 pub mod Heap
-pub mod TwoArrays
+pub mod Boxes

@@ -1,4 +1,5 @@
 // The heap (Rules, Heap).
 #![tactic(auto)]
 
-pub mod arrays;
+mod carry;
+pub mod heap;

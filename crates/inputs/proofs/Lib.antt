@@ -1,4 +1,3 @@
 pub mod Words
-pub mod Moving
 pub mod Answers
 pub mod Reading

@@ -6,15 +6,5 @@ ghost use Rattle.inputs.specs.Frames.{begins_with};
 pub fn begins_with(bytes: &[u8], word: &[u8]) -> bool
     ensures { result ≡ begins_with word.now bytes.now }
 {
-    if bytes.len() < word.len() {
-        return false;
-    }
-    let mut i = 0;
-    while i < word.len() {
-        if bytes[i] != word[i] {
-            return false;
-        }
-        i = i + 1;
-    }
-    true
+    bytes.starts_with(word)
 }

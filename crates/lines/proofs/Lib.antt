@@ -1,4 +1,5 @@
 pub mod Decimal
 pub mod Putting
+pub mod Writing
 pub mod Texts
 pub mod Reading

@@ -4,7 +4,7 @@ use mathlib.Core.Path.{◌≡◌, refl, ap, ◌∙◌}
 use mathlib.Core.List.{List, [], ◌∷◌, ◌++◌}
 use Prim.Native.Nat.{ℕ, suc, ◌+◌, ◌≤◌}
 use native.Mathlib.Omega.{arith}
-use lib.ListN.{length, drop, set, length-append}
+use lib.ListN.{length, drop, length-append}
 use lib.Seq.{sets, sets-eq, length-sets}
 use Rattle.lines.specs.Text.{with_text, Put}
 
@@ -14,9 +14,6 @@ sets_append a i (x ∷ xs) ys = ap (λ (k : ℕ). sets (sets a i (x ∷ xs)) k y
 
 pub put_none : {a : List ℕ} {i : ℕ} → Put a i [] a i
 put_none = record { later = refl; ends = omega arith }
-
-pub put_one : {a : List ℕ} {i x : ℕ} → Put a i (x ∷ []) (set a i x) (i + 1)
-put_one = record { later = refl; ends = refl }
 
 -- a text and another behind it are one text
 pub put_more : {a : List ℕ} {i : ℕ} {xs b : List ℕ} {j : ℕ} {ys c : List ℕ} {k : ℕ}

@@ -1,17 +1,20 @@
 -- Laws of what the program says: the lower of two answers, and the text by the answer so far and that of the cut.
 -- Assumes nothing.
-use mathlib.Core.Path.{◌≡◌, refl, sym, ap}
+use mathlib.Core.Path.{◌≡◌, refl, sym, ap, ◌∙◌}
 use mathlib.Core.List.{List}
 use Prim.Native.Nat.{ℕ, zero, suc, ◌*◌, ◌≤◌, ◌<◌}
 use native.Mathlib.Omega.{arith}
 use lib.ListN.{replicate}
 use Rattle.basics.specs.Answer.{when_done}
 use Rattle.table.proofs.Tables.{wide_empty}
-use Rattle.cutter.specs.declared.call.CutRecord.{CutRecord}
+use Rattle.cutter.specs.Record.{CutRecord}
 use Rattle.sums.specs.declared.source.Source.TheVariants.{Moments}
 use Rattle.cutter.specs.Cut.{Buffers, buffers, cut_record, cut_later}
-use Rattle.lines.specs.Text.{listing_of, refused_of}
-use Rattle.lines.specs.Listing.{lower_of, lent_zeros, cut_text, text_of}
+use Rattle.std.specs.Prelude.{Result, Ok, Err}
+use Rattle.lines.specs.declared.found.Found.{Found}
+use Rattle.lines.specs.Text.{refused_of}
+use Rattle.lines.specs.Listing.{lower_of, lent_zeros, cut_text, found_of, text_of}
+use Rattle.lines.specs.Inner.{listing_found}
 
 -- ---- the lower of two answers
 pub lower_first : (n m : ℕ) → n ≡ 0 → m ≡ lower_of n m
@@ -64,13 +67,46 @@ lent_zeros_lem =
     ap (λ (work : List ℕ). buffers work (replicate 48 0) (replicate 16 0) (replicate 48 0) (replicate 512 0))
     (sym (wide_empty (8 * 8 * 8)))
 
--- where the cut was refused, and where it is done
-module _ (t : List ℕ) {r : CutRecord} (e : r ≡ cut_record Moments 8 8 8 16 t lent_zeros) where
-  pub cut_refused : (r.number ≡ 0 → ⊥) → cut_text t ≡ refused_of r.number
-  unfolding cut_text
-  cut_refused h = rw (← e) (when_refused r.number _ _ h)
+-- where the cut was refused
+pub cut_refused : (t : List ℕ) {r : CutRecord} → r ≡ cut_record Moments 8 8 8 16 t lent_zeros → (r.number ≡ 0 → ⊥)
+    → cut_text t ≡ refused_of r.number
+unfolding cut_text
+cut_refused t {r} e h = rw (← e) (when_refused r.number _ _ h)
 
-  pub cut_listed : {later : Buffers} → later ≡ cut_later Moments 8 8 8 16 t lent_zeros → r.number ≡ 0
-      → cut_text t ≡ listing_of r.boxes r.rounds later.results.palette later.results.counts
-  unfolding cut_text
-  cut_listed l h = rw (← e, ← l) (when_done_lem r.number _ _ h)
+-- ---- what there is to list
+pub found_refused : (n : ℕ) (t : List ℕ) → (n ≡ 0 → ⊥) → Err n ≡ found_of n t
+unfolding found_of
+found_refused n t h = sym (when_refused n _ _ h)
+
+module _ (n : ℕ) (t : List ℕ) (none : n ≡ 0) {r : CutRecord} (e : r ≡ cut_record Moments 8 8 8 16 t lent_zeros) where
+  pub found_cut_refused : (r.number ≡ 0 → ⊥) → Err r.number ≡ found_of n t
+  unfolding found_of
+  found_cut_refused h = sym (when_done_lem n _ _ none ∙ rw (← e) (when_refused r.number _ _ h))
+
+  pub found_cut : {later : Buffers} → later ≡ cut_later Moments 8 8 8 16 t lent_zeros → r.number ≡ 0
+      → Ok (record {
+        boxes = r.boxes;
+        rounds = r.rounds;
+        palette = later.results.palette;
+        counts = later.results.counts;
+      })
+      ≡ found_of n t
+  unfolding found_of
+  found_cut l h = sym (when_done_lem n _ _ none ∙ rw (← e, ← l) (when_done_lem r.number _ _ h))
+
+-- a text by what there is to list
+abbrev pub said : (Found → List ℕ) → Result Found ℕ → List ℕ
+said list (Ok f) = list f
+said list (Err n) = refused_of n
+
+pub when_done_through : {A B : Type 0} (f : A → B) (n : ℕ) (x y : A) → when_done n (f x) (f y) ≡ f (when_done n x y)
+unfolding when_done
+when_done_through f zero x y = refl
+when_done_through f (suc n) x y = refl
+
+pub text_said : (n : ℕ) (t : List ℕ) → text_of n t ≡ said listing_found (found_of n t)
+unfolding text_of cut_text found_of
+text_said n t =
+    let say = said listing_found in
+    ap (λ (x : List ℕ). when_done n x (refused_of n)) (when_done_through say (cut_record Moments 8 8 8 16 t lent_zeros).number (Ok _) (Err _))
+    ∙ when_done_through say n _ (Err n)

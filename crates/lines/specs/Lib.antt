@@ -1,4 +1,5 @@
 pub mod Text
+pub mod Writing
 pub mod Inner
 pub mod Listing
 pub mod Reading

@@ -1,11 +1,12 @@
 -- The listing program (Rules, Listing) between reading and writing. Definitions only.
-use Rattle.std.specs.Prelude.{◌≡◌, false, List, [], ℕ, zero, suc, ◌*◌, ◌%◌, ◌≤◌, ◌<◌, min, eqb, length, take, replicate}
+use Rattle.std.specs.Prelude.{◌≡◌, false, List, [], ℕ, zero, suc, ◌*◌, ◌%◌, ◌≤◌, ◌<◌, min, eqb, length, take, replicate, Result, Ok, Err}
 use Rattle.basics.specs.Answer.{when_done}
 use Rattle.table.specs.Table.{Table, empty_of}
 use Rattle.loader.specs.Load.{load_number, load_later}
 use Rattle.sums.specs.declared.source.Source.TheVariants.{Moments}
 use Rattle.cutter.specs.Cut.{Buffers, buffers, cut_record, cut_later}
 use Rattle.lines.specs.declared.batches.Loaded.{Loaded}
+use Rattle.lines.specs.declared.found.Found.{Found}
 use Rattle.lines.specs.Text.{listing_of, refused_of}
 
 -- ---- "reads RGB triples from standard input in batches, grid 8,8,8"
@@ -46,6 +47,17 @@ cut_text t =
     let later = cut_later Moments 8 8 8 16 t lent_zeros in
     when_done r.number (listing_of r.boxes r.rounds later.results.palette later.results.counts)
     (refused_of r.number)
+
+-- the cut, or the number of a refusal: the lowest of the loads, or else that of the cut
+unfoldable pub found_of : ℕ → List ℕ → Result Found ℕ
+found_of number t =
+    let r = cut_record Moments 8 8 8 16 t lent_zeros in
+    let later = cut_later Moments 8 8 8 16 t lent_zeros in
+    when_done number
+    (when_done r.number
+    (Ok (record { boxes = r.boxes; rounds = r.rounds; palette = later.results.palette; counts = later.results.counts }))
+    (Err r.number))
+    (Err number)
 
 -- "On a refusal it writes only `refused N`": the lowest refusal of the loads, or else that of the cut
 unfoldable pub text_of : ℕ → List ℕ → List ℕ

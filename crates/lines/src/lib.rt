@@ -3,6 +3,7 @@
 #![tactic(auto)]
 
 pub mod batches;
+pub mod found;
 pub mod listing;
-pub mod parts;
 pub mod text;
+pub mod writer;

@@ -3,32 +3,21 @@
 // what is said of it `lines` and, for a terminal, `swatches`.
 #![tactic(auto)]
 
-ghost use Rattle.std.specs.Prelude.{◌≡◌, true, false, ◌+◌, ◌^◌, ◌≤◌, ◌<◌, length, take};
+ghost use Rattle.std.specs.Prelude.{◌≡◌, true, false, ◌+◌, ◌^◌, ◌≤◌, ◌<◌, length, take, IfOk};
 ghost use Rattle.lines.specs.Reading.{progress, AllCame};
-ghost use Rattle.inputs.specs.Frames.{Read, Room, CameBehind};
+ghost use Rattle.inputs.specs.Frames.{Room, CameBehind};
 
+use inputs::frames::{frame_number, to_front};
+use inputs::looks::begins_with;
+use lines::batches::{empty_table, load_batch};
+use lines::text::text;
 use ppm::header::{Header, read_header};
 use std::env::{Env, FillError};
+use std::io;
 use std::io::Read;
+use swatches::text::swatch_text;
 
 // ---- Arguments
-
-// Whether the first bytes of an argument are all there is of a word.
-fn is_word(argument: &[u8], filled: usize, word: &[u8]) -> bool
-    requires { filled ≤ length argument.now }
-{
-    if filled != word.len() {
-        return false;
-    }
-    let mut i = 0;
-    while i < filled {
-        if argument[i] != word[i] {
-            return false;
-        }
-        i = i + 1;
-    }
-    true
-}
 
 // Whether the program was started with this word among its arguments. A longer argument is none of the program's words.
 fn has_argument(rt: &HostRuntime, word: &[u8]) -> bool {
@@ -36,7 +25,7 @@ fn has_argument(rt: &HostRuntime, word: &[u8]) -> bool {
         let mut argument = [0; 16];
         match rt.arg(i, &mut argument) {
             Ok(filled) => {
-                if is_word(&argument, filled, word) {
+                if &argument[..filled] == word {
                     return true;
                 }
             }
@@ -49,345 +38,242 @@ fn has_argument(rt: &HostRuntime, word: &[u8]) -> bool {
 
 // ---- Writing
 
-// Writes to standard error. Where that fails there is no place left to say so.
-fn tell(rt: &HostRuntime, text: &[u8]) {
-    let _ = rt.stderr().write_all(text);
-}
-
-fn complain(rt: &HostRuntime, message: &[u8]) {
-    tell(rt, b"listing: ");
-    tell(rt, message);
-    tell(rt, b"\n");
+// Where standard error cannot be written there is no place left to say so.
+fn complain(rt: &HostRuntime, message: &str) {
+    let _ = eprintln!(rt; "listing: {message}");
 }
 
 fn write(rt: &HostRuntime, text: &[u8]) {
     if rt.stdout().write_all(text).is_err() {
-        complain(rt, b"standard output could not be written");
+        complain(rt, "standard output could not be written");
     }
 }
 
-// Says which kind of file the input looks like, what becomes of it, and how its pixels are listed.
-fn name_kind(rt: &HostRuntime, kind: &[u8], fate: &[u8]) {
-    tell(rt, b"listing: the input looks like ");
-    tell(rt, kind);
-    tell(rt, fate);
-    tell(
-        rt,
-        b"; to list its pixels: magick FILE -depth 8 ppm:- | ./listing --ppm\n",
-    );
-}
+// How files of other programs begin, and those of Netpbm that are no PPM of bytes: bitmaps, grey ones, text, and PAM.
+const KINDS: [(&[u8], &str); 14] = [
+    (b"\x89PNG\r\n\x1a\n", "a PNG"),
+    (b"\xff\xd8\xff", "a JPEG"),
+    (b"GIF8", "a GIF"),
+    (b"BM", "a BMP"),
+    (b"II*\x00", "a TIFF"),
+    (b"MM\x00*", "a TIFF"),
+    (b"RIFF", "a WebP"),
+    (b"qoif", "a QOI"),
+    (b"P1\n", "a PBM"),
+    (b"P2\n", "a PGM"),
+    (b"P3\n", "a PPM of text"),
+    (b"P4\n", "a PBM"),
+    (b"P5\n", "a PGM"),
+    (b"P7\n", "a PAM"),
+];
 
-// Says where bytes begin as a file of another program does. It is a hint, since a file of triples may begin so too.
-fn hint_of_program(rt: &HostRuntime, bytes: &[u8], fate: &[u8]) {
-    if inputs::looks::begins_with(bytes, b"\x89PNG\r\n\x1a\n") {
-        name_kind(rt, b"a PNG", fate);
-    }
-    if inputs::looks::begins_with(bytes, b"\xff\xd8\xff") {
-        name_kind(rt, b"a JPEG", fate);
-    }
-    if inputs::looks::begins_with(bytes, b"GIF8") {
-        name_kind(rt, b"a GIF", fate);
-    }
-    if inputs::looks::begins_with(bytes, b"BM") {
-        name_kind(rt, b"a BMP", fate);
-    }
-    if inputs::looks::begins_with(bytes, b"II*\x00") {
-        name_kind(rt, b"a TIFF", fate);
-    }
-    if inputs::looks::begins_with(bytes, b"MM\x00*") {
-        name_kind(rt, b"a TIFF", fate);
-    }
-    if inputs::looks::begins_with(bytes, b"RIFF") {
-        name_kind(rt, b"a WebP", fate);
-    }
-    if inputs::looks::begins_with(bytes, b"qoif") {
-        name_kind(rt, b"a QOI", fate);
-    }
-}
-
-// Likewise for the kinds of Netpbm that are no PPM of bytes: bitmaps, grey ones, text, and PAM.
-fn hint_of_netpbm(rt: &HostRuntime, bytes: &[u8], fate: &[u8]) {
-    if inputs::looks::begins_with(bytes, b"P1\n") {
-        name_kind(rt, b"a PBM", fate);
-    }
-    if inputs::looks::begins_with(bytes, b"P2\n") {
-        name_kind(rt, b"a PGM", fate);
-    }
-    if inputs::looks::begins_with(bytes, b"P3\n") {
-        name_kind(rt, b"a PPM of text", fate);
-    }
-    if inputs::looks::begins_with(bytes, b"P4\n") {
-        name_kind(rt, b"a PBM", fate);
-    }
-    if inputs::looks::begins_with(bytes, b"P5\n") {
-        name_kind(rt, b"a PGM", fate);
-    }
-    if inputs::looks::begins_with(bytes, b"P7\n") {
-        name_kind(rt, b"a PAM", fate);
+// Says which kind of file the input looks like, what becomes of it, and how its pixels are listed. It is a hint, since a
+// file of triples may begin so too.
+fn hint_of_kind(rt: &HostRuntime, bytes: &[u8], fate: &str) {
+    for (word, kind) in KINDS {
+        if begins_with(bytes, word) {
+            let _ = eprintln!(rt;
+                "listing: the input looks like {kind}{fate}; to list its pixels: magick FILE -depth 8 ppm:- | ./listing --ppm"
+            );
+        }
     }
 }
 
 // What is said of bare triples, which are listed all the same.
-fn hint(rt: &HostRuntime, space: &[u8], filled: usize)
-    requires { filled ≤ length space.now }
-{
-    let bytes = &space[0..filled];
-    hint_of_program(rt, bytes, b", and is listed as bare RGB triples");
-    hint_of_netpbm(rt, bytes, b", and is listed as bare RGB triples");
-    match read_header(bytes) {
-        Header::Malformed => return,
-        Header::Maximum => (),
-        Header::Image(f) => (),
-    }
-    complain(
-        rt,
-        b"the input looks like a PPM, and is listed as bare RGB triples: --ppm lists it as a PPM",
-    );
-}
-
-// What is said of an input that was to be a PPM and is none, before it is refused. A maximum other than 255 is a
-// PPM's, and has an answer of its own.
-fn hint_no_ppm(rt: &HostRuntime, space: &[u8], filled: usize)
-    requires { filled ≤ length space.now }
-{
-    let bytes = &space[0..filled];
+fn hint(rt: &HostRuntime, bytes: &[u8]) {
+    hint_of_kind(rt, bytes, ", and is listed as bare RGB triples");
     match read_header(bytes) {
         Header::Malformed => (),
-        Header::Maximum => return,
-        Header::Image(f) => return,
+        Header::Maximum | Header::Image(_) => complain(
+            rt,
+            "the input looks like a PPM, and is listed as bare RGB triples: --ppm lists it as a PPM",
+        ),
     }
-    hint_of_program(rt, bytes, b", and is no PPM");
-    hint_of_netpbm(rt, bytes, b", and is no PPM");
-    if filled == space.len() {
+}
+
+// What is said of an input that was to be a PPM and is none, before it is refused.
+fn hint_no_ppm(rt: &HostRuntime, bytes: &[u8]) {
+    hint_of_kind(rt, bytes, ", and is no PPM");
+    if bytes.len() == BATCH {
         complain(
             rt,
-            b"the header is no PPM's, or is longer than a batch, 49152 bytes",
+            "the header is no PPM's, or is longer than a batch, 49152 bytes",
         );
     }
 }
 
 // ---- Reading
 
-// The bytes at the start of a batch, and whether a read failed, which is not the end of the input.
-#[derive(Clone, Copy)]
-struct Batch {
-    bytes: usize,
-    failed: bool,
-}
+// The bytes of a batch, 16,384 pixels.
+const BATCH: usize = 49152;
 
-// One read, behind the bytes that are there. A read that fails has no bytes.
-fn read_behind(rt: &HostRuntime, space: &mut [u8], there: usize) -> Batch
-    requires { there ≤ length space.old }
-    ensures fits { there + result.bytes ≤ length space.new }
-    ensures kept { take there space.new ≡ take there space.old }
+// Reads behind the bytes that are filled until the batch is full or the input ends, so that only the last batch can
+// split a pixel. Where a read fails, `filled` tells what came before.
+fn fill(rt: &HostRuntime, space: &mut [u8], filled: &mut usize) -> io::Result<()>
+    requires { filled.old ≤ length space.old }
+    ensures fits { (filled.old ≤ filled.new) × (filled.new ≤ length space.new) }
+    ensures kept { take filled.old space.new ≡ take filled.old space.old }
 {
-    match rt.stdin().read(&mut space[there..]) {
-        Ok(bytes) => Batch {
-            bytes,
-            failed: false,
-        },
-        Err(_) => Batch {
-            bytes: 0,
-            failed: true,
-        },
-    }
-}
-
-// Reads behind the bytes that are there until the batch is full or the input ends, so that only the last batch can
-// split a pixel.
-fn fill(rt: &HostRuntime, space: &mut [u8], there: usize) -> Batch
-    requires { there ≤ length space.old }
-    ensures fits { (there ≤ result.bytes) × (result.bytes ≤ length space.new) }
-    ensures kept { take there space.new ≡ take there space.old }
-{
-    let mut n = there;
-    while n < space.len() {
-        let more = read_behind(rt, space, n);
-        if more.bytes == 0 {
-            return Batch {
-                bytes: n,
-                failed: more.failed,
-            };
+    while *filled < space.len() {
+        let more = rt.stdin().read(&mut space[*filled..])?;
+        if more == 0 {
+            break;
         }
-        n = n + more.bytes;
+        *filled += more;
     }
-    Batch {
-        bytes: n,
-        failed: false,
-    }
+    Ok(())
 }
 
-// The lowest refusal of the loads so far, 0 where there was none; how many bytes were loaded or refused; whether there
-// may be more to read; and whether a read failed.
+// The lowest refusal of the loads so far, 0 where there was none, how many bytes were loaded or refused, and whether
+// there may be more to read.
 #[derive(Clone, Copy)]
 struct Progress {
     number: u8,
     bytes: u64,
     more: bool,
-    failed: bool,
 }
 
-// Loads the next batch, the bytes that are there in front of it. A batch that is not full is the last one, and so is one
-// whose reading failed.
+// Before the first batch.
+const START: Progress = Progress {
+    number: 0,
+    bytes: 0,
+    more: true,
+};
+
+// Loads the next batch, the bytes that are there in front of it. A batch that is not full is the last one.
 fn load_next(
     rt: &HostRuntime,
     table: &mut [u64],
     space: &mut [u8],
-    there: usize,
+    filled: &mut usize,
     had: Progress,
-) -> Progress
-    requires there { there ≤ length space.old }
+) -> io::Result<Progress>
+    requires there { filled.old ≤ length space.old }
     requires room { Room space.old }
     requires few { had.bytes + 49152 < 2 ^ 64 }
-    ensures came { CameBehind (take there space.old)
+    ensures fits { filled.new ≤ length space.new }
+    ensures came { IfOk result (λ next. CameBehind (take filled.old space.old)
         (progress had.number table.old had.bytes)
-        (progress result.number table.new result.bytes) result.more }
-    ensures few { result.bytes ≤ had.bytes + length space.old }
+        (progress next.number table.new next.bytes) next.more) }
+    ensures few { IfOk result (λ next. next.bytes ≤ had.bytes + length space.old) }
 {
-    let batch = fill(rt, space, there);
-    let loaded = lines::batches::load_batch(table, space, batch.bytes, had.number);
-    Progress {
+    fill(rt, space, filled)?;
+    let loaded = load_batch(table, space, *filled, had.number);
+    Ok(Progress {
         number: loaded.number,
-        bytes: had.bytes + batch.bytes as u64,
+        bytes: had.bytes + *filled as u64,
         more: loaded.more,
-        failed: batch.failed,
-    }
+    })
 }
 
 // Loads what is left of the input, past a refusal too, since stray bytes at its end give a lower answer than a total
-// that is too large. A proved loop has to end, so it counts its turns down, from a number that no run uses up.
-fn load_rest(rt: &HostRuntime, table: &mut [u64], space: &mut [u8], begun: Progress) -> Progress
+// that is too large. A proved loop has to end, so it counts its turns, to a number that no run uses up.
+fn load_rest(
+    rt: &HostRuntime,
+    table: &mut [u64],
+    space: &mut [u8],
+    begun: Progress,
+) -> io::Result<Progress>
     requires room { Room space.old }
     requires more { begun.more ≡ true }
     requires few { begun.bytes ≤ 49152 }
-    ensures { AllCame (progress begun.number table.old begun.bytes)
-        (progress result.number table.new result.bytes) result.more }
+    ensures { IfOk result (λ end. AllCame (progress begun.number table.old begun.bytes)
+        (progress end.number table.new end.bytes) end.more) }
 {
     let mut so_far = begun;
-    let mut turns = 1099511627776u64;
-    while turns > 0 && so_far.more {
-        so_far = load_next(rt, table, space, 0, so_far);
-        turns = turns - 1;
+    for turn in 0..1099511627776u64 {
+        if !so_far.more {
+            break;
+        }
+        so_far = load_next(rt, table, space, &mut 0, so_far)?;
     }
-    so_far
+    Ok(so_far)
 }
 
 // Loads bare triples: all of the input.
-fn load_triples(rt: &HostRuntime, table: &mut [u64], space: &mut [u8]) -> Progress
+fn load_triples(rt: &HostRuntime, table: &mut [u64], space: &mut [u8]) -> io::Result<Progress>
     requires { Room space.old }
-    ensures { AllCame (progress 0 table.old 0) (progress result.number table.new result.bytes)
-        result.more }
+    ensures { IfOk result (λ end. AllCame (progress 0 table.old 0) (progress end.number table.new end.bytes)
+        end.more) }
 {
-    let none = Progress {
-        number: 0,
-        bytes: 0,
-        more: true,
-        failed: false,
-    };
-    let first = load_next(rt, table, space, 0, none);
-    let filled = first.bytes as usize;
-    hint(rt, space, filled);
+    let mut filled = 0;
+    let first = load_next(rt, table, space, &mut filled, START);
+    hint(rt, &space[..filled]);
+    let first = first?;
     if !first.more {
-        return first;
+        return Ok(first);
     }
     load_rest(rt, table, space, first)
 }
 
-// The header of a PPM, how many bytes of its pixels are at the front of a batch, and whether a read failed.
-#[derive(Clone, Copy)]
-struct Begun {
-    header: Header,
-    there: usize,
-    failed: bool,
-}
-
-// Reads a header from the first batch, and moves the pixels behind it to the front, so that the batches after it split
-// no pixel.
-fn begin_frame(rt: &HostRuntime, space: &mut [u8]) -> Begun
-    ensures read { Read result.header }
-    ensures there { result.there ≤ length space.new }
-{
-    let first = fill(rt, space, 0);
-    let filled = first.bytes;
-    let header = read_header(&space[0..filled]);
-    let Header::Image(f) = header else {
-        hint_no_ppm(rt, space, filled);
-        return Begun {
-            header,
-            there: 0,
-            failed: first.failed,
-        };
-    };
-    Begun {
-        header,
-        there: inputs::frames::to_front(space, f.pixels, filled),
-        failed: first.failed,
-    }
-}
-
 // Loads the pixels of a PPM, of which some bytes are at the front of a batch.
-fn load_pixels(rt: &HostRuntime, table: &mut [u64], space: &mut [u8], there: usize) -> Progress
-    requires there { there ≤ length space.old }
+fn load_pixels(
+    rt: &HostRuntime,
+    table: &mut [u64],
+    space: &mut [u8],
+    mut filled: usize,
+) -> io::Result<Progress>
+    requires there { filled ≤ length space.old }
     requires room { Room space.old }
 {
-    let none = Progress {
-        number: 0,
-        bytes: 0,
-        more: true,
-        failed: false,
-    };
-    let first = load_next(rt, table, space, there, none);
+    let first = load_next(rt, table, space, &mut filled, START)?;
     if !first.more {
-        return first;
+        return Ok(first);
     }
     load_rest(rt, table, space, first)
 }
 
 // ---- Listing
 
-// Writes the text for a table that was loaded, or that a read failed.
-fn list(rt: &HostRuntime, table: &[u64], number: u8, failed: bool) {
-    if failed {
-        complain(rt, b"standard input could not be read");
+// Writes the text for a table that was loaded with this lowest refusal, or for a read that failed, which is not the end
+// of the input.
+fn list(rt: &HostRuntime, table: &[u64], lowest: io::Result<u8>) {
+    let Ok(lowest) = lowest else {
+        complain(rt, "standard input could not be read");
         return;
-    }
-    let mut text = [0; 2752];
-    if has_argument(rt, b"--terminal") {
-        let n = swatches::text::swatch_text(table, number, &mut text);
-        write(rt, &text[0..n]);
+    };
+    let mut space = [0; 2752];
+    let n = if has_argument(rt, b"--terminal") {
+        swatch_text(table, lowest, &mut space)
     } else {
-        let n = lines::text::text(table, number, &mut text);
-        write(rt, &text[0..n]);
-    }
+        text(table, lowest, &mut space)
+    };
+    write(rt, &space[..n]);
 }
 
-// Lists a PPM. Where the header tells no image there is nothing to load.
+// Lists a PPM. Its header is read from the first batch, and the pixels behind it are moved to the front, so that the
+// batches after it split no pixel. Where the header tells no image there is nothing to load.
 fn list_frame(rt: &HostRuntime, table: &mut [u64], space: &mut [u8])
     requires { Room space.old }
 {
-    let begun = begin_frame(rt, space);
-    let header = begun.header;
-    let Header::Image(f) = header else {
-        list(
-            rt,
-            table,
-            inputs::frames::frame_number(header, 0, 0),
-            begun.failed,
-        );
-        return;
+    let mut filled = 0;
+    let read = fill(rt, space, &mut filled);
+    let bytes = &space[..filled];
+    let header = read_header(bytes);
+    let input = match header {
+        Header::Image(frame) => {
+            // A read that failed is tried again.
+            let there = to_front(space, frame.pixels, filled);
+            load_pixels(rt, table, space, there)
+        }
+        Header::Malformed => {
+            hint_no_ppm(rt, bytes);
+            read.map(|()| START)
+        }
+        // A maximum other than 255 is a PPM's, and has an answer of its own.
+        Header::Maximum => read.map(|()| START),
     };
-    let input = load_pixels(rt, table, space, begun.there);
-    let number = inputs::frames::frame_number(header, input.bytes, input.number);
-    list(rt, table, number, input.failed);
+    let lowest = input.map(|input| frame_number(header, input.bytes, input.number));
+    list(rt, table, lowest);
 }
 
 fn main(rt: HostRuntime) {
-    let mut table = lines::batches::empty_table();
-    let mut space = [0; 49152];
+    let mut table = empty_table();
+    let mut space = [0; BATCH];
     if has_argument(&rt, b"--ppm") {
         list_frame(&rt, &mut table, &mut space);
         return;
     }
     let input = load_triples(&rt, &mut table, &mut space);
-    list(&rt, &table, input.number, input.failed);
+    list(&rt, &table, input.map(|input| input.number));
 }

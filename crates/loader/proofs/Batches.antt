@@ -1,6 +1,7 @@
 -- Loading without weights, batch by batch: the colours of a list that is taken apart where a pixel ends, and how a load
 -- into the table of some colours ends.
 -- Assumes nothing.
+use Rattle.std.specs.Prelude.{Some}
 use mathlib.Core.Path.{◌≡◌, refl, sym, ap, ◌∙◌}
 use mathlib.Core.Bool.{false, true≢false}
 use mathlib.Core.List.{List, [], ◌++◌}
@@ -11,17 +12,16 @@ use native.Mathlib.Omega.{arith}
 use lib.ListN.{length, get_or, length-append, get_or-append}
 use lib.Seq.{get_or-append-add}
 use Rattle.grid.specs.declared.place.Grid.{Grid}
-use Rattle.grid.specs.declared.place.Chosen.TheVariants as chosen
 use Rattle.basics.specs.Range.{list_from}
 use Rattle.grid.specs.Grid.{grid_of, Accepted}
 use Rattle.pixels.specs.Colour.{colour_at}
 use Rattle.basics.proofs.Range.{length_list, list_at, list_is}
 use Rattle.grid.proofs.Places.{chose}
-use Rattle.table.specs.declared.layout.Layout.{Layout}
-use Rattle.table.specs.declared.layout.Layout.TheVariants.{Wide}
+use Rattle.table.specs.Layouts.{Layout}
+use Rattle.table.specs.Layouts.{Wide}
 use Rattle.table.specs.Sound.{limit, limit_of}
 use Rattle.adder.specs.Batch.{Weighted, weight_of, weighted_at, batch_of}
-use Rattle.adder.specs.Add.{passed_number}
+use Rattle.table.specs.Sound.{passed_number}
 use Rattle.loader.specs.Load.{load_number_in, load_later_in, load_number, load_later, table_in, table_of}
 use Rattle.adder.proofs.Loading.{AllBytes}
 use Rattle.adder.proofs.Parts.{batch_weight}
@@ -124,7 +124,7 @@ module _ (xs ys weights : List ℕ) (whole : length xs % 3 ≡ 0) where
       pixels = omega (arith, length-append xs ys, three)
 
 -- ---- a load into the table of some colours
-module _ (l : Layout) (b1 b2 b3 : ℕ) {g : Grid} (e : grid_of b1 b2 b3 ≡ chosen.Accepted g) (cs : List Weighted)
+module _ (l : Layout) (b1 b2 b3 : ℕ) {g : Grid} (e : grid_of b1 b2 b3 ≡ Some g) (cs : List Weighted)
     (y : AllBytes cs) (few : weight_of cs ≤ limit_of l) (bytes weights : List ℕ) where
   -- its answer, and the colours of the table that it leaves
   abbrev Loads : ℕ → List Weighted → Type 0
@@ -157,7 +157,7 @@ module _ (l : Layout) (b1 b2 b3 : ℕ) {g : Grid} (e : grid_of b1 b2 b3 ≡ chos
         (sym q.0, sym q.1)
 
 -- in the wide layout
-module _ (b1 b2 b3 : ℕ) {g : Grid} (e : grid_of b1 b2 b3 ≡ chosen.Accepted g) (cs : List Weighted) (y : AllBytes cs)
+module _ (b1 b2 b3 : ℕ) {g : Grid} (e : grid_of b1 b2 b3 ≡ Some g) (cs : List Weighted) (y : AllBytes cs)
     (few : weight_of cs ≤ limit) (bytes weights : List ℕ) where
   abbrev WideLoads : ℕ → List Weighted → Type 0
   WideLoads n ds =

@@ -1,5 +1,6 @@
 -- How the calls end: which answer they give and what they leave, case by case.
 -- Assumes nothing.
+use Rattle.std.specs.Prelude.{None, Some}
 use mathlib.Core.Path.{◌≡◌, refl, ap}
 use mathlib.Core.Bool.{Bool, true, false, not, ◌&&◌}
 use mathlib.Core.List.{List}
@@ -8,18 +9,17 @@ use borrow.Author.Tests.{eq-eqb, ne_eqb, lt-ltb, le-ltb}
 use lib.Dec.{eqb}
 use lib.ListN.{length}
 use Rattle.grid.specs.declared.place.Grid.{Grid}
-use Rattle.grid.specs.declared.place.Chosen.TheVariants as chosen
 use Rattle.basics.specs.Answer.{refuse, when_done}
 use Rattle.grid.specs.Grid.{grid_of, bins_of}
 use Rattle.grid.proofs.Ends.{grid_refused, ends}
-use Rattle.table.specs.declared.layout.Layout.{Layout}
-use Rattle.table.specs.declared.layout.Layout.TheVariants.{Wide, Narrow}
+use Rattle.table.specs.Layouts.{Layout}
+use Rattle.table.specs.Layouts.{Wide, Narrow}
 use Rattle.table.specs.Table.{Table, Sized, view_of, written}
 use Rattle.table.specs.Layout.{TableIn, SizedIn, is_sized_in, view_in, written_in}
 use Rattle.table.specs.Sound.{limit, limit_of, total, sound}
 use Rattle.table.proofs.Layouts.{in_sized}
 use Rattle.adder.specs.Batch.{weight_of, batch_of, loaded}
-use Rattle.adder.specs.Add.{passed_number}
+use Rattle.table.specs.Sound.{passed_number}
 use Rattle.loader.specs.Load.{load_number_on, load_number_in, load_later_in, load_number, load_later}
 use Rattle.loader.specs.Merge.{merged, merge_number_on, merge_number_in, merge_later_in}
 
@@ -43,11 +43,11 @@ module _ (l : Layout) (b1 b2 b3 : ℕ) (t s : TableIn l) where
   abbrev pub merge_after : Grid → TableIn l
   merge_after g = written_in l (bins_of g) (merged (view_in l t) (view_in l s))
 
-  pub merge_no_grid_in : grid_of b1 b2 b3 ≡ chosen.Refused → MergeEnds 1 t
+  pub merge_no_grid_in : grid_of b1 b2 b3 ≡ None → MergeEnds 1 t
   unfolding merge_number_in merge_later_in
   merge_no_grid_in e = grid_refused (grid_of b1 b2 b3) merge_on merge_after t e
 
-  module _ {g : Grid} (e : grid_of b1 b2 b3 ≡ chosen.Accepted g) where
+  module _ {g : Grid} (e : grid_of b1 b2 b3 ≡ Some g) where
     merge_ends : {n : ℕ} → merge_on g ≡ n → {x : TableIn l} → x ≡ when_done n (merge_after g) t → MergeEnds n x
     unfolding merge_number_in merge_later_in
     merge_ends q r = ends (grid_of b1 b2 b3) merge_on merge_after t e q r
@@ -103,11 +103,11 @@ module _ (l : Layout) (b1 b2 b3 : ℕ) (t : TableIn l) (colours : List ℕ) (wei
   abbrev pub load_after : Grid → TableIn l
   load_after g = written_in l (bins_of g) (loaded g (batch_of colours weighted weights) (view_in l t))
 
-  pub load_no_grid_in : grid_of b1 b2 b3 ≡ chosen.Refused → LoadEnds 1 t
+  pub load_no_grid_in : grid_of b1 b2 b3 ≡ None → LoadEnds 1 t
   unfolding load_number_in load_later_in
   load_no_grid_in e = grid_refused (grid_of b1 b2 b3) load_on load_after t e
 
-  module _ {g : Grid} (e : grid_of b1 b2 b3 ≡ chosen.Accepted g) where
+  module _ {g : Grid} (e : grid_of b1 b2 b3 ≡ Some g) where
     load_ends : {n : ℕ} → load_on g ≡ n → {x : TableIn l} → x ≡ when_done n (load_after g) t → LoadEnds n x
     unfolding load_number_in load_later_in
     load_ends q r = ends (grid_of b1 b2 b3) load_on load_after t e q r
@@ -145,11 +145,11 @@ module _ (l : Layout) (b1 b2 b3 : ℕ) (t : TableIn l) (colours : List ℕ) (wei
 
 -- ---- in the wide layout
 module _ (b1 b2 b3 : ℕ) (t : Table) (colours : List ℕ) (weighted : Bool) (weights : List ℕ) where
-  pub load_no_grid : grid_of b1 b2 b3 ≡ chosen.Refused
+  pub load_no_grid : grid_of b1 b2 b3 ≡ None
       → (1 ≡ load_number b1 b2 b3 t colours weighted weights) × (t ≡ load_later b1 b2 b3 t colours weighted weights)
   load_no_grid = load_no_grid_in Wide b1 b2 b3 t colours weighted weights
 
-  pub load_done : {g : Grid} → grid_of b1 b2 b3 ≡ chosen.Accepted g → length colours % 3 ≡ 0
+  pub load_done : {g : Grid} → grid_of b1 b2 b3 ≡ Some g → length colours % 3 ≡ 0
       → (weighted && not (eqb (length weights) (length colours / 3))) ≡ false → Sized t (bins_of g)
       → sound limit g (view_of t) ≡ true → total g (view_of t) + weight_of (batch_of colours weighted weights) ≤ limit
       → {x : Table} → x ≡ written (bins_of g) (loaded g (batch_of colours weighted weights) (view_of t))

@@ -10,7 +10,7 @@ use lib.ListN.{length}
 use Rattle.basics.specs.Answer.{refuse}
 use Rattle.grid.specs.declared.place.Grid.{Grid}
 use Rattle.grid.specs.Grid.{bins_of}
-use Rattle.table.specs.declared.layout.Layout.{Layout}
+use Rattle.table.specs.Layouts.{Layout}
 use Rattle.table.specs.Layout.{view_in}
 use Rattle.table.proofs.Layouts.{HoldsIn, holds_same_in}
 use Rattle.adder.specs.Batch.{Weighted, scaled_colour, batch_of}

@@ -2,6 +2,7 @@
 -- size stays, and where the answer is 0 the grid is accepted, the tables were sound, the total fits, and each number
 -- is known.
 -- Assumes nothing.
+use Rattle.std.specs.Prelude.{Some}
 use mathlib.Core.Path.{◌≡◌, refl, sym, subst, ◌∙◌}
 use mathlib.Core.Bool.{Bool, true, false, not, ◌&&◌}
 use mathlib.Core.List.{List}
@@ -10,20 +11,19 @@ use borrow.Author.Tests.{eqb-true, ltb-false, not-false}
 use lib.Dec.{eqb, ltb}
 use lib.ListN.{length, get_or}
 use Rattle.grid.specs.declared.place.Grid.{Grid}
-use Rattle.grid.specs.declared.place.Chosen.TheVariants as chosen
 use Rattle.basics.specs.Answer.{refuse}
 use Rattle.grid.specs.Grid.{grid_of, on_grid, number_on, bins_of}
 use Rattle.basics.proofs.Ends.{passed, same_length}
 use Rattle.grid.proofs.Ends.{call_refused, call_done}
 use Rattle.basics.proofs.Range.{and_left, and_right}
 use Rattle.grid.proofs.Places.{chose}
-use Rattle.table.specs.declared.layout.Layout.{Layout}
-use Rattle.table.specs.declared.layout.Layout.TheVariants.{Wide, Narrow}
+use Rattle.table.specs.Layouts.{Layout}
+use Rattle.table.specs.Layouts.{Wide, Narrow}
 use Rattle.table.specs.Table.{Table, Sized, is_sized, view_of}
 use Rattle.table.specs.Layout.{TableIn, SizedIn, is_sized_in, view_in}
 use Rattle.table.specs.Sound.{limit, limit_of, total, sound}
 use Rattle.adder.specs.Batch.{weight_of, batch_of, loaded}
-use Rattle.adder.specs.Add.{passed_number}
+use Rattle.table.specs.Sound.{passed_number}
 use Rattle.loader.specs.Load.{load_number_on, load_number_in, load_later_in, load_number, load_later}
 use Rattle.loader.specs.Merge.{merged, merge_number_on, merge_number_in, merge_later_in, merge_number, merge_later}
 use Rattle.table.proofs.Tables.{same_size}
@@ -58,7 +58,7 @@ module _ (l : Layout) (b1 b2 b3 : ℕ) (t : TableIn l) (colours : List ℕ) (wei
       (load_after l b1 b2 b3 t colours weighted weights) t e
 
   -- its tests on an accepted grid, in their order
-  pub load_tests_in : {g : Grid} → grid_of b1 b2 b3 ≡ chosen.Accepted g → number
+  pub load_tests_in : {g : Grid} → grid_of b1 b2 b3 ≡ Some g → number
       ≡ refuse (not (eqb (length colours % 3) 0)) 3
       (refuse (weighted && not (eqb (length weights) (length colours / 3))) 4
       (refuse (not (is_sized_in l t (bins_of g))) 5
@@ -71,7 +71,7 @@ module _ (l : Layout) (b1 b2 b3 : ℕ) (t : TableIn l) (colours : List ℕ) (wei
   -- what a load that is done tells
   pub record LoadDone : Type 0 where
     pub g : Grid
-    pub chosen : grid_of b1 b2 b3 ≡ chosen.Accepted g
+    pub chosen : grid_of b1 b2 b3 ≡ Some g
     pub threes : length colours % 3 ≡ 0
     pub paired : weighted ≡ true → length weights ≡ length colours / 3
     pub lent : SizedIn l t (bins_of g)
@@ -103,7 +103,7 @@ module _ (l : Layout) (b1 b2 b3 : ℕ) (t : TableIn l) (colours : List ℕ) (wei
       }
 
   -- and the other way round: "where none applies, the answer is 0"
-  pub load_accepts_in : {g : Grid} → grid_of b1 b2 b3 ≡ chosen.Accepted g → length colours % 3 ≡ 0
+  pub load_accepts_in : {g : Grid} → grid_of b1 b2 b3 ≡ Some g → length colours % 3 ≡ 0
       → (weighted ≡ true → length weights ≡ length colours / 3) → SizedIn l t (bins_of g)
       → sound (limit_of l) g (view_in l t) ≡ true
       → total g (view_in l t) + weight_of (batch_of colours weighted weights) ≤ limit_of l → number ≡ 0
@@ -149,7 +149,7 @@ module _ (l : Layout) (b1 b2 b3 : ℕ) (t s : TableIn l) where
   merge_refused_in e =
       call_refused (grid_of b1 b2 b3) (merge_on l b1 b2 b3 t s) (merge_after l b1 b2 b3 t s) t e
 
-  pub merge_tests_in : {g : Grid} → grid_of b1 b2 b3 ≡ chosen.Accepted g → merge_number_lem
+  pub merge_tests_in : {g : Grid} → grid_of b1 b2 b3 ≡ Some g → merge_number_lem
       ≡ refuse (not (is_sized_in l t (bins_of g) && is_sized_in l s (bins_of g))) 5
       (refuse (not (sound (limit_of l) g (view_in l t) && sound (limit_of l) g (view_in l s))) 6
       (refuse (ltb (limit_of l) (total g (view_in l t) + total g (view_in l s))) (passed_number l) 0))
@@ -159,7 +159,7 @@ module _ (l : Layout) (b1 b2 b3 : ℕ) (t s : TableIn l) where
   -- what a merge that is done tells
   pub record MergeDone : Type 0 where
     pub g : Grid
-    pub chosen : grid_of b1 b2 b3 ≡ chosen.Accepted g
+    pub chosen : grid_of b1 b2 b3 ≡ Some g
     pub lent : SizedIn l t (bins_of g) × SizedIn l s (bins_of g)
     pub sound_before : Sound (limit_of l) g (view_in l t) × Sound (limit_of l) g (view_in l s)
     pub under : total g (view_in l t) + total g (view_in l s) ≤ limit_of l
@@ -191,7 +191,7 @@ module _ (l : Layout) (b1 b2 b3 : ℕ) (t s : TableIn l) where
         holds = rw c.later (list_holds_in l (bins_of c.g) (merged (view_in l t) (view_in l s)));
       }
 
-  pub merge_accepts_in : {g : Grid} → grid_of b1 b2 b3 ≡ chosen.Accepted g → SizedIn l t (bins_of g)
+  pub merge_accepts_in : {g : Grid} → grid_of b1 b2 b3 ≡ Some g → SizedIn l t (bins_of g)
       → SizedIn l s (bins_of g)
       → sound (limit_of l) g (view_in l t) ≡ true → sound (limit_of l) g (view_in l s) ≡ true
       → total g (view_in l t) + total g (view_in l s) ≤ limit_of l → merge_number_lem ≡ 0
@@ -219,7 +219,7 @@ module _ (b1 b2 b3 : ℕ) (t : Table) (colours : List ℕ) (weighted : Bool) (we
       → load_later b1 b2 b3 t colours weighted weights ≡ t
   load_refused = load_refused_in Wide b1 b2 b3 t colours weighted weights
 
-  pub load_tests_lem : {g : Grid} → grid_of b1 b2 b3 ≡ chosen.Accepted g
+  pub load_tests_lem : {g : Grid} → grid_of b1 b2 b3 ≡ Some g
       → load_number b1 b2 b3 t colours weighted weights
       ≡ refuse (not (eqb (length colours % 3) 0)) 3
       (refuse (weighted && not (eqb (length weights) (length colours / 3))) 4
@@ -232,7 +232,7 @@ module _ (b1 b2 b3 : ℕ) (t : Table) (colours : List ℕ) (weighted : Bool) (we
       → LoadDone Wide b1 b2 b3 t colours weighted weights
   load_says = load_says_in Wide b1 b2 b3 t colours weighted weights
 
-  pub load_accepts : {g : Grid} → grid_of b1 b2 b3 ≡ chosen.Accepted g → length colours % 3 ≡ 0
+  pub load_accepts : {g : Grid} → grid_of b1 b2 b3 ≡ Some g → length colours % 3 ≡ 0
       → (weighted ≡ true → length weights ≡ length colours / 3) → Sized t (bins_of g) → sound limit g (view_of t) ≡ true
       → total g (view_of t) + weight_of (batch_of colours weighted weights) ≤ limit
       → load_number b1 b2 b3 t colours weighted weights ≡ 0
@@ -247,7 +247,7 @@ module _ (b1 b2 b3 : ℕ) (t s : Table) where
   pub merge_refused : {n : ℕ} → merge_number b1 b2 b3 t s ≡ suc n → merge_later b1 b2 b3 t s ≡ t
   merge_refused = merge_refused_in Wide b1 b2 b3 t s
 
-  pub merge_tests_lem : {g : Grid} → grid_of b1 b2 b3 ≡ chosen.Accepted g → merge_number b1 b2 b3 t s
+  pub merge_tests_lem : {g : Grid} → grid_of b1 b2 b3 ≡ Some g → merge_number b1 b2 b3 t s
       ≡ refuse (not (is_sized t (bins_of g) && is_sized s (bins_of g))) 5
       (refuse (not (sound limit g (view_of t) && sound limit g (view_of s))) 6
       (refuse (ltb limit (total g (view_of t) + total g (view_of s))) 7 0))

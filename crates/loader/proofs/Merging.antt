@@ -13,7 +13,7 @@ use Rattle.grid.specs.Grid.{Accepted, bins_of}
 use Rattle.basics.proofs.Range.{sum_plus}
 use Rattle.table.specs.declared.cell.Cell.{Cell}
 use Rattle.table.specs.Cell.{View, number_of, cell_of, plus_cell}
-use Rattle.table.specs.declared.layout.Layout.{Layout}
+use Rattle.table.specs.Layouts.{Layout}
 use Rattle.table.specs.Layout.{TableIn, SizedIn, view_in, written_in, put_in}
 use Rattle.table.specs.Sound.{limit_of, total}
 use Rattle.adder.specs.Add.{CellFits}

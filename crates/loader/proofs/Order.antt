@@ -1,6 +1,7 @@
 -- Demand 3, the table's half: loaded in any order, in any batches, into one table or several merged in any order, a
 -- list of weighted colours gives the same table.
 -- Assumes nothing.
+use Rattle.std.specs.Prelude.{Some}
 use mathlib.Core.Path.{◌≡◌, refl, sym, ap, ◌∙◌}
 use mathlib.Core.Bool.{true, ◌&&◌}
 use mathlib.Core.List.{List, [], ◌∷◌, ◌++◌, Perm}
@@ -9,18 +10,17 @@ use native.Mathlib.Nat.{zero-add}
 use native.Mathlib.Omega.{arith}
 use borrow.Author.Tests.{le-ltb}
 use Rattle.grid.specs.declared.place.Grid.{Grid}
-use Rattle.grid.specs.declared.place.Chosen.TheVariants as chosen
 use Rattle.basics.specs.Answer.{refuse, when_done}
 use Rattle.grid.specs.Grid.{grid_of, Accepted, bins_of, on_grid, number_on}
 use Rattle.grid.proofs.Places.{chose}
 use Rattle.table.specs.Cell.{zeros}
-use Rattle.table.specs.declared.layout.Layout.{Layout}
-use Rattle.table.specs.declared.layout.Layout.TheVariants.{Wide}
+use Rattle.table.specs.Layouts.{Layout}
+use Rattle.table.specs.Layouts.{Wide}
 use Rattle.table.specs.Table.{view_of, written, empty_of}
 use Rattle.table.specs.Layout.{TableIn, is_sized_in, view_in, written_in, empty_in}
 use Rattle.table.specs.Sound.{limit, limit_of, total, sound}
 use Rattle.adder.specs.Batch.{Weighted, sum_over, adds, weight_of, loaded, batch_of}
-use Rattle.adder.specs.Add.{passed_number}
+use Rattle.table.specs.Sound.{passed_number}
 use Rattle.loader.specs.Load.{table_in, table_of, load_number_on, load_number_in, load_later_in}
 use Rattle.loader.specs.Merge.{merged, merge_number_on, merge_number_in, merge_later_in}
 use Rattle.loader.specs.Plan.{Batch, Plan, empty, load, merge, EndedIn, Stopped, Filled, ended_of_in, ended_of}
@@ -105,7 +105,7 @@ unfolding ended_of_in when_done
 ended_done l zero x t = refl
 ended_done l (suc n) x t = refl
 
-module _ (l : Layout) (b1 b2 b3 : ℕ) {g : Grid} (e : grid_of b1 b2 b3 ≡ chosen.Accepted g) where
+module _ (l : Layout) (b1 b2 b3 : ℕ) {g : Grid} (e : grid_of b1 b2 b3 ≡ Some g) where
   a : Accepted g
   a = (chose b1 b2 b3 g e).accepted
 
@@ -241,7 +241,7 @@ module _ (g : Grid) where
     pub table_sound : weight_of cs ≤ limit → sound limit g (view_of (table_of g cs)) ≡ true
     table_sound = table_sound_in Wide g a cs b
 
-module _ (b1 b2 b3 : ℕ) {g : Grid} (e : grid_of b1 b2 b3 ≡ chosen.Accepted g) where
+module _ (b1 b2 b3 : ℕ) {g : Grid} (e : grid_of b1 b2 b3 ≡ Some g) where
   pub empty_table_lem : empty_of (b1 * b2 * b3) ≡ table_of g []
   empty_table_lem = empty_table_in Wide b1 b2 b3 e
 

@@ -1,17 +1,16 @@
 -- A plan that ends with a table: the weights of its colours total at most the limit, and the table is that of its
 -- colours.
 -- Assumes nothing.
+use Rattle.std.specs.Prelude.{Option, Some}
 use mathlib.Core.Path.{◌≡◌, refl, sym, ap, subst, ◌∙◌}
 use mathlib.Core.Bool.{Bool, true, false, true≢false}
 use mathlib.Core.List.{List, ◌++◌}
 use Prim.Native.Nat.{ℕ, zero, suc, ◌+◌, ◌≤◌}
 use native.Mathlib.Omega.{arith}
 use Rattle.grid.specs.declared.place.Grid.{Grid}
-use Rattle.grid.specs.declared.place.Chosen.{Chosen}
-use Rattle.grid.specs.declared.place.Chosen.TheVariants as chosen
 use Rattle.grid.specs.Grid.{grid_of, on_grid}
 use Rattle.grid.proofs.Places.{chose}
-use Rattle.table.specs.declared.layout.Layout.{Layout}
+use Rattle.table.specs.Layouts.{Layout}
 use Rattle.table.specs.Layout.{TableIn, view_in}
 use Rattle.table.specs.Sound.{limit_of, total}
 use Rattle.adder.specs.Batch.{Weighted, weight_of, sum_over, batch_of}
@@ -55,11 +54,11 @@ module _ {l : Layout} where
   filled_is zero x e = sym (same_table e)
   filled_is (suc n) x e = absurd (stopped_not e)
 
-same_grid : {g h : Grid} → ◌≡◌ {A = Chosen} (chosen.Accepted g) (chosen.Accepted h) → g ≡ h
+same_grid : {g h : Grid} → ◌≡◌ {A = Option Grid} (Some g) (Some h) → g ≡ h
 unfolding on_grid
-same_grid {g} e = ap (λ (c : Chosen). on_grid c g (λ x. x)) e
+same_grid {g} e = ap (λ (c : Option Grid). on_grid c g (λ x. x)) e
 
-module _ {l : Layout} (b1 b2 b3 : ℕ) {g : Grid} (e : grid_of b1 b2 b3 ≡ chosen.Accepted g) where
+module _ {l : Layout} (b1 b2 b3 : ℕ) {g : Grid} (e : grid_of b1 b2 b3 ≡ Some g) where
   table_is : (p : Plan) → BytesIn p → weight_of (leaves p) ≤ limit_of l → {t : TableIn l} → ends_in l b1 b2 b3 p ≡ Filled t
       → t ≡ table_in l g (leaves p)
   table_is p y h r = filled_is (first_malformed p) (table_in l g (leaves p)) (sym (ends_is_in l b1 b2 b3 e p y h) ∙ r)

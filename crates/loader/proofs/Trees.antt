@@ -1,6 +1,7 @@
 -- Merging in either order, merging zeros, and trees of merges: how a tree ends tells nothing but which tables stand in
 -- it. In either layout.
 -- Assumes nothing.
+use Rattle.std.specs.Prelude.{Some}
 use mathlib.Core.Path.{◌≡◌, refl, sym, ap, subst, ◌∙◌}
 use mathlib.Core.Bool.{Bool, true, false, not, ◌&&◌, cond}
 use mathlib.Core.List.Perm
@@ -12,18 +13,17 @@ use borrow.Author.Tests.{leb-true, leb-false, le-leb, lt-leb}
 use lib.Dec.{leb, ltb}
 use Rattle.basics.specs.Answer.{refuse}
 use Rattle.grid.specs.declared.place.Grid.{Grid}
-use Rattle.grid.specs.declared.place.Chosen.TheVariants as chosen
 use Rattle.grid.specs.Grid.{grid_of, number_on, bins_of}
 use Rattle.grid.proofs.Places.{chose}
-use Rattle.table.specs.declared.layout.Layout.{Layout}
-use Rattle.table.specs.declared.layout.Layout.TheVariants.{Wide, Narrow}
+use Rattle.table.specs.Layouts.{Layout}
+use Rattle.table.specs.Layouts.{Wide, Narrow}
 use Rattle.table.specs.Cell.{zeros}
 use Rattle.table.specs.Layout.{TableIn, is_sized_in, view_in, written_in, empty_in}
 use Rattle.table.specs.Sound.{limit_of, total, sound, unsound_number}
 use Rattle.table.proofs.Layouts.{HoldsIn, list_holds_in, holds_list_in, holds_same_in, holds_itself_in, empty_holds_in}
 use Rattle.table.proofs.Soundness.{Agree, Sound, total_high, total_same, sound_same, zeros_sound, zeros_total}
 use Rattle.adder.specs.Batch.{sum_over}
-use Rattle.adder.specs.Add.{passed_number}
+use Rattle.table.specs.Sound.{passed_number}
 use Rattle.adder.proofs.Loading.{over_append, over_perm}
 use Rattle.loader.specs.Merge.{merged, merge_number_on, merge_number_in, merge_later_in}
 use Rattle.loader.specs.Plan.{EndedIn, Filled, Stopped, ended_of_in, then_merge_in}
@@ -55,7 +55,7 @@ module _ (l : Layout) (b1 b2 b3 : ℕ) where
   abbrev none : TableIn l
   none = empty_in l (b1 * b2 * b3)
 
-  none_holds : {g : Grid} → grid_of b1 b2 b3 ≡ chosen.Accepted g → HoldsIn l (bins_of g) (empty_in l (b1 * b2 * b3)) zeros
+  none_holds : {g : Grid} → grid_of b1 b2 b3 ≡ Some g → HoldsIn l (bins_of g) (empty_in l (b1 * b2 * b3)) zeros
   unfolding bins_of
   none_holds {g} e =
       let c = chose b1 b2 b3 g e in
@@ -88,7 +88,7 @@ module _ (l : Layout) (b1 b2 b3 : ℕ) where
       ∙ ap (λ (x : ℕ). x + view_in l t p j) (sym ((none_holds d.chosen).at p j h k)))))
 
   -- which is done for every sound table
-  pub zeros_taken : {g : Grid} → grid_of b1 b2 b3 ≡ chosen.Accepted g → (t : TableIn l) → SoundTable l g t
+  pub zeros_taken : {g : Grid} → grid_of b1 b2 b3 ≡ Some g → (t : TableIn l) → SoundTable l g t
       → merge_number_in l b1 b2 b3 (empty_in l (b1 * b2 * b3)) t ≡ 0
   zeros_taken {g} e t s =
       let z = none_holds e in
@@ -104,7 +104,7 @@ unfolding ended_of_in
 passed_stops Wide x = refl
 passed_stops Narrow x = refl
 
-module _ (l : Layout) (b1 b2 b3 : ℕ) {g : Grid} (e : grid_of b1 b2 b3 ≡ chosen.Accepted g) where
+module _ (l : Layout) (b1 b2 b3 : ℕ) {g : Grid} (e : grid_of b1 b2 b3 ≡ Some g) where
   abbrev most : ℕ
   most = limit_of l
 

@@ -17,14 +17,14 @@ use Rattle.basics.specs.Range.{sum_from, list_from}
 use Rattle.grid.specs.Grid.{grid_of, on_grid, number_on, bins_of, colour_place}
 use Rattle.pixels.specs.Colour.{colour_at}
 use Rattle.basics.proofs.Range.{sum_same, sum_append, sum_shift}
-use Rattle.table.specs.declared.layout.Layout.{Layout}
-use Rattle.table.specs.declared.layout.Layout.TheVariants.{Wide}
+use Rattle.table.specs.Layouts.{Layout}
+use Rattle.table.specs.Layouts.{Wide}
 use Rattle.table.specs.Table.{Table}
 use Rattle.table.specs.Layout.{TableIn, is_sized_in, view_in, written_in}
 use Rattle.table.specs.Sound.{limit_of, total, sound, unsound_number}
 use Rattle.table.proofs.Layouts.{holds_list_in, holds_itself_in, holds_same_in}
 use Rattle.adder.specs.Batch.{Weighted, share, adds, sum_over, weight_of, loaded, weighted_at, batch_of}
-use Rattle.adder.specs.Add.{passed_number}
+use Rattle.table.specs.Sound.{passed_number}
 use Rattle.loader.specs.Load.{load_number_on, load_number_in, load_later_in, load_number, load_later}
 use Rattle.adder.proofs.Loading.{over_list}
 use Rattle.loader.proofs.Laws.{load_refused_in, load_says_in}

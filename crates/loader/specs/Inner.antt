@@ -1,7 +1,7 @@
 -- What the crate's own functions are told of merging. Definitions only.
 use Rattle.std.specs.Prelude.{◌≡◌, true, ◌+◌, ◌≤◌}
 use Rattle.grid.specs.declared.place.Grid.{Grid}
-use Rattle.table.specs.declared.layout.Layout.{Layout}
+use Rattle.table.specs.Layouts.{Layout}
 use Rattle.table.specs.Layout.{TableIn, TableOfIn, view_in}
 use Rattle.table.specs.Sound.{limit_of, sound, total}
 

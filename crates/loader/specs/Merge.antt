@@ -4,12 +4,12 @@ use Rattle.grid.specs.declared.place.Grid.{Grid}
 use Rattle.basics.specs.Answer.{refuse, when_done}
 use Rattle.grid.specs.Grid.{grid_of, on_grid, number_on, bins_of}
 use Rattle.table.specs.Cell.{View}
-use Rattle.table.specs.declared.layout.Layout.{Layout}
-use Rattle.table.specs.declared.layout.Layout.TheVariants.{Wide}
+use Rattle.table.specs.Layouts.{Layout}
+use Rattle.table.specs.Layouts.{Wide}
 use Rattle.table.specs.Table.{Table}
 use Rattle.table.specs.Layout.{TableIn, is_sized_in, view_in, written_in}
 use Rattle.table.specs.Sound.{limit_of, total, sound, unsound_number}
-use Rattle.adder.specs.Add.{passed_number}
+use Rattle.table.specs.Sound.{passed_number}
 
 -- "A merge adds a second table into a first, number by number."
 unfoldable pub merged : View → View → View

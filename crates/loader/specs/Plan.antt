@@ -2,8 +2,8 @@
 -- Definitions only.
 use Rattle.std.specs.Prelude.{Bool, not, ◌&&◌, List, [], ◌++◌, ℕ, zero, suc, ◌*◌, ◌/◌, ◌%◌, ◌<◌, eqb, length, get_or}
 use Rattle.basics.specs.Answer.{refuse}
-use Rattle.table.specs.declared.layout.Layout.{Layout}
-use Rattle.table.specs.declared.layout.Layout.TheVariants.{Wide}
+use Rattle.table.specs.Layouts.{Layout}
+use Rattle.table.specs.Layouts.{Wide}
 use Rattle.table.specs.Table.{Table}
 use Rattle.table.specs.Layout.{TableIn, empty_in}
 use Rattle.adder.specs.Batch.{Weighted, batch_of}

@@ -3,12 +3,12 @@
 use Rattle.std.specs.Prelude.{◌≡◌, true, cond, List, [], ◌∷◌, ◌++◌, ℕ, leb}
 use Rattle.grid.specs.declared.place.Grid.{Grid}
 use Rattle.grid.specs.Grid.{bins_of}
-use Rattle.table.specs.declared.layout.Layout.{Layout}
+use Rattle.table.specs.Layouts.{Layout}
 use Rattle.table.specs.Cell.{View}
 use Rattle.table.specs.Layout.{TableIn, SizedIn, view_in, written_in}
 use Rattle.table.specs.Sound.{limit_of, total, sound}
 use Rattle.adder.specs.Batch.{sum_over}
-use Rattle.adder.specs.Add.{passed_number}
+use Rattle.table.specs.Sound.{passed_number}
 use Rattle.loader.specs.Plan.{EndedIn, Filled, Stopped, then_merge_in}
 
 -- a table that no merge refuses for itself: of the grid's lengths, and sound

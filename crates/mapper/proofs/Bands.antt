@@ -1,5 +1,6 @@
 -- Mapping a frame in bands, in any order of bands that cover it, is mapping it whole.
 -- Assumes nothing.
+use Rattle.std.specs.Prelude.{Some}
 use mathlib.Core.Path.{◌≡◌, refl, sym, ap, ◌∙◌}
 use mathlib.Core.Bool.{Bool, true, false, cond, not, ◌&&◌, ◌||◌}
 use mathlib.Core.List.{List, [], ◌∷◌}
@@ -10,7 +11,6 @@ use lib.Dec.{eqb, leb}
 use lib.ListN.{length, get_or}
 use lib.Seq.{ext_get_or}
 use Rattle.grid.specs.declared.place.Grid.{Grid}
-use Rattle.grid.specs.declared.place.Chosen.TheVariants as chosen
 use Rattle.basics.specs.Answer.{refuse}
 use Rattle.grid.specs.Grid.{grid_of, number_on, bins_of}
 use Rattle.basics.proofs.Range.{and_left, and_right}
@@ -93,7 +93,7 @@ module _ (b1 b2 b3 : ℕ) (map : List ℕ) (palette_colours : ℕ) (frame : List
       ∙ map_length b1 b2 b3 map palette_colours frame indices b.first b.pixels
 
   -- and where it is done, each place that a band covers has its index
-  module _ {g : Grid} (is : grid_of b1 b2 b3 ≡ chosen.Accepted g) where
+  module _ {g : Grid} (is : grid_of b1 b2 b3 ≡ Some g) where
     bands_at : (bs : List Band) (indices : List ℕ) → all_inside size bs ≡ true → on g indices 0 size ≡ 0
         → (i : ℕ) → i < length indices
         → get_or (later_all bs indices) i 0 ≡ cond (covered bs i) (index_at g map frame i) (get_or indices i 0)

@@ -1,6 +1,7 @@
 -- What a caller of map may use: how it ends, that a refusal leaves all as it was and that lengths stay, and where the
 -- answer is 0 that the band has its indices, each below the palette's length.
 -- Assumes nothing.
+use Rattle.std.specs.Prelude.{None, Option, Some}
 use mathlib.Core.Path.{◌≡◌, refl, sym, ap, ◌∙◌}
 use mathlib.Core.Bool.{Bool, true, false}
 use mathlib.Core.List.{List}
@@ -10,8 +11,6 @@ use borrow.Author.Tests.{eqb-true, eq-eqb}
 use lib.Dec.{eqb}
 use lib.ListN.{length, get_or}
 use Rattle.grid.specs.declared.place.Grid.{Grid}
-use Rattle.grid.specs.declared.place.Chosen.{Chosen}
-use Rattle.grid.specs.declared.place.Chosen.TheVariants as chosen
 use Rattle.basics.specs.Answer.{when_done}
 use Rattle.grid.specs.Grid.{grid_of, grid_answer, on_grid, number_on}
 use Rattle.grid.proofs.Ends.{grid_refused, ends, call_refused, call_done}
@@ -79,11 +78,11 @@ module _ (b1 b2 b3 : ℕ) (map : List ℕ) (palette_colours : ℕ) (frame indice
   abbrev Ends : ℕ → List ℕ → Type 0
   Ends n l = (n ≡ number) × (l ≡ later)
 
-  pub map_no_grid : grid_of b1 b2 b3 ≡ chosen.Refused → Ends 1 indices
+  pub map_no_grid : grid_of b1 b2 b3 ≡ None → Ends 1 indices
   unfolding map_number map_later
   map_no_grid e = grid_refused (grid_of b1 b2 b3) on written indices e
 
-  pub map_ends : {g : Grid} → grid_of b1 b2 b3 ≡ chosen.Accepted g → {n : ℕ} → on g ≡ n
+  pub map_ends : {g : Grid} → grid_of b1 b2 b3 ≡ Some g → {n : ℕ} → on g ≡ n
       → {l : List ℕ} → l ≡ when_done n (written g) indices → Ends n l
   unfolding map_number map_later
   map_ends e q r = ends (grid_of b1 b2 b3) on written indices e q r
@@ -95,7 +94,7 @@ module _ (b1 b2 b3 : ℕ) (map : List ℕ) (palette_colours : ℕ) (frame indice
   -- what a mapping that is done tells
   pub record MapDone : Type 0 where
     pub g : Grid
-    pub chosen : grid_of b1 b2 b3 ≡ chosen.Accepted g
+    pub chosen : grid_of b1 b2 b3 ≡ Some g
     pub can : Can g
     pub writes : later ≡ written g
 
@@ -111,12 +110,12 @@ module _ (b1 b2 b3 : ℕ) (map : List ℕ) (palette_colours : ℕ) (frame indice
       }
 
   -- and the other way round, on a grid that is known: by its answer
-  pub map_done : {g : Grid} → grid_of b1 b2 b3 ≡ chosen.Accepted g → on g ≡ 0 → (number ≡ 0) × (later ≡ written g)
+  pub map_done : {g : Grid} → grid_of b1 b2 b3 ≡ Some g → on g ≡ 0 → (number ≡ 0) × (later ≡ written g)
   unfolding when_done
   map_done e q = let ends = map_ends e q refl in (sym ends.0, sym ends.1)
 
   -- by its tests: "where none applies, the answer is 0"
-  pub map_accepts : {g : Grid} → grid_of b1 b2 b3 ≡ chosen.Accepted g → Can g → (number ≡ 0) × (later ≡ written g)
+  pub map_accepts : {g : Grid} → grid_of b1 b2 b3 ≡ Some g → Can g → (number ≡ 0) × (later ≡ written g)
   map_accepts e c = map_done e (nothing_refuses _ map palette_colours frame indices first pixels c)
 
   -- 9 is given for an entry that is not below the palette's length, and for nothing else
@@ -126,9 +125,9 @@ module _ (b1 b2 b3 : ℕ) (map : List ℕ) (palette_colours : ℕ) (frame indice
       let one_each = eqb (length indices) (length frame / 3) in
       go (grid_of b1 b2 b3) (λ g. band_not_9 g map palette_colours one_each (length frame) first pixels below)
     where
-      go : (c : Chosen) → ((g : Grid) → on g ≡ 9 → ⊥) → number_on c on ≡ 9 → ⊥
-      go (chosen.Accepted g) not_on e = not_on g e
-      go chosen.Refused not_on e = omega arith
+      go : (c : Option Grid) → ((g : Grid) → on g ≡ 9 → ⊥) → number_on c on ≡ 9 → ⊥
+      go (Some g) not_on e = not_on g e
+      go None not_on e = omega arith
 
   pub map_length : length later ≡ length indices
   map_length =

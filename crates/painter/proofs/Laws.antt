@@ -1,6 +1,7 @@
 -- What a caller of paint may use: how it ends, that a refusal leaves all as it was and that lengths stay, and where the
 -- answer is 0 that the band has the palette's colours at its indices.
 -- Assumes nothing.
+use Rattle.std.specs.Prelude.{None, Option, Some}
 use mathlib.Core.Path.{◌≡◌, refl, sym, ap, ◌∙◌}
 use mathlib.Core.Bool.{Bool, true, false}
 use mathlib.Core.List.{List}
@@ -10,8 +11,6 @@ use borrow.Author.Tests.{eqb-true, eq-eqb}
 use lib.Dec.{eqb}
 use lib.ListN.{length, get_or}
 use Rattle.grid.specs.declared.place.Grid.{Grid}
-use Rattle.grid.specs.declared.place.Chosen.{Chosen}
-use Rattle.grid.specs.declared.place.Chosen.TheVariants as chosen
 use Rattle.basics.specs.Answer.{when_done}
 use Rattle.grid.specs.Grid.{grid_of, grid_answer, on_grid, number_on}
 use Rattle.grid.proofs.Ends.{grid_refused, ends, call_refused, call_done}
@@ -78,11 +77,11 @@ module _ (b1 b2 b3 : ℕ) (map palette frame : List ℕ) (first pixels : ℕ) wh
   abbrev Ends : ℕ → List ℕ → Type 0
   Ends n l = (n ≡ number) × (l ≡ later)
 
-  pub paint_no_grid : grid_of b1 b2 b3 ≡ chosen.Refused → Ends 1 frame
+  pub paint_no_grid : grid_of b1 b2 b3 ≡ None → Ends 1 frame
   unfolding paint_number paint_later
   paint_no_grid e = grid_refused (grid_of b1 b2 b3) on written frame e
 
-  pub paint_ends : {g : Grid} → grid_of b1 b2 b3 ≡ chosen.Accepted g → {n : ℕ} → on g ≡ n
+  pub paint_ends : {g : Grid} → grid_of b1 b2 b3 ≡ Some g → {n : ℕ} → on g ≡ n
       → {l : List ℕ} → l ≡ when_done n (written g) frame → Ends n l
   unfolding paint_number paint_later
   paint_ends e q r = ends (grid_of b1 b2 b3) on written frame e q r
@@ -94,7 +93,7 @@ module _ (b1 b2 b3 : ℕ) (map palette frame : List ℕ) (first pixels : ℕ) wh
   -- what a painting that is done tells
   pub record PaintDone : Type 0 where
     pub g : Grid
-    pub chosen : grid_of b1 b2 b3 ≡ chosen.Accepted g
+    pub chosen : grid_of b1 b2 b3 ≡ Some g
     pub can : Can g
     pub writes : later ≡ written g
 
@@ -110,7 +109,7 @@ module _ (b1 b2 b3 : ℕ) (map palette frame : List ℕ) (first pixels : ℕ) wh
       }
 
   -- and the other way round: "where none applies, the answer is 0"
-  pub paint_accepts : {g : Grid} → grid_of b1 b2 b3 ≡ chosen.Accepted g → Can g → (number ≡ 0) × (later ≡ written g)
+  pub paint_accepts : {g : Grid} → grid_of b1 b2 b3 ≡ Some g → Can g → (number ≡ 0) × (later ≡ written g)
   unfolding when_done
   paint_accepts e c =
       let ends = paint_ends e {n = 0} (nothing_refuses _ map palette frame first pixels c) refl in
@@ -123,9 +122,9 @@ module _ (b1 b2 b3 : ℕ) (map palette frame : List ℕ) (first pixels : ℕ) wh
       let whole = eqb (length palette % 3) 0 in
       go (grid_of b1 b2 b3) (λ g. band_not_9 g map (length palette / 3) whole (length frame) first pixels below)
     where
-      go : (c : Chosen) → ((g : Grid) → on g ≡ 9 → ⊥) → number_on c on ≡ 9 → ⊥
-      go (chosen.Accepted g) not_on e = not_on g e
-      go chosen.Refused not_on e = omega arith
+      go : (c : Option Grid) → ((g : Grid) → on g ≡ 9 → ⊥) → number_on c on ≡ 9 → ⊥
+      go (Some g) not_on e = not_on g e
+      go None not_on e = omega arith
 
   pub paint_length : length later ≡ length frame
   paint_length =

@@ -1,14 +1,15 @@
-// The call: a band is refused by its answer, or painted.
+// The call: a band is refused, or painted.
 ghost use Rattle.std.specs.Prelude.{◌≡◌, ◌+◌, ◌*◌, ◌≤◌, length};
+ghost use Rattle.basics.specs.Refusal.{answer_of};
 ghost use Rattle.band.specs.Band.{write_band};
 ghost use Rattle.painter.specs.Paint.{paint_at, paint_number, paint_later};
 ghost use Rattle.painter.specs.Inner.{PaletteFits};
 
 use crate::blocks::paint_part;
-use crate::palette::packed_palette;
+use crate::brush::Brush;
 use band::band_number;
-use grid::place::{Chosen, Grid, grid_of};
-use grid::steps::steps;
+use basics::refusal::Refusal;
+use grid::place::{Grid, grid_of};
 
 // Hands the band of the frame on as a part.
 fn paint_band(g: Grid, map: &[u8], palette: &[u8], frame: &mut [u8], first: usize, pixels: usize)
@@ -18,12 +19,10 @@ fn paint_band(g: Grid, map: &[u8], palette: &[u8], frame: &mut [u8], first: usiz
         ≡ write_band (3 * first) (3 * pixels)
         (paint_at g map.now palette.now frame.old) frame.old }
 {
-    let t1 = steps(g, 0);
-    let t2 = steps(g, 1);
+    let brush = Brush::of(g, map, palette);
     let from = 3 * first;
     let to = from + 3 * pixels;
-    let packed = packed_palette(palette);
-    paint_part(g, &t1, &t2, map, &packed, &mut frame[from..to]);
+    paint_part(&brush, &mut frame[from..to]);
 }
 
 // The palette's colour at each pixel's index, in the place of a band of a frame.
@@ -36,21 +35,16 @@ pub fn paint(
     frame: &mut [u8],
     first: usize,
     pixels: usize,
-) -> u8
-    ensures number { result
+) -> Result<(), Refusal>
+    ensures number { answer_of result
         ≡ paint_number b1 b2 b3 map.now palette.now frame.old first pixels }
     ensures later { frame.new
         ≡ paint_later b1 b2 b3 map.now palette.now frame.old first pixels }
 {
-    let Chosen::Accepted(g) = grid_of(b1, b2, b3) else {
-        return 1;
-    };
+    let g = grid_of(b1, b2, b3).ok_or(Refusal::Grid)?;
     let palette_colours = palette.len() / 3;
     let whole = palette.len() % 3 == 0;
-    let number = band_number(g, map, palette_colours, whole, frame.len(), first, pixels);
-    if number != 0 {
-        return number;
-    }
+    band_number(g, map, palette_colours, whole, frame.len(), first, pixels)?;
     paint_band(g, map, palette, frame, first, pixels);
-    0
+    Ok(())
 }

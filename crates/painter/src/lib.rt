@@ -2,6 +2,7 @@
 #![tactic(auto)]
 
 mod blocks;
+mod brush;
 pub mod call;
 mod palette;
 

@@ -9,7 +9,7 @@ use pixels::colour::{Rgb, colour};
 fn pack(x: Rgb) -> u32
     ensures { (d : ℕ) → unpacked result d ≡ component_at x d }
 {
-    x.c1 as u32 + 256 * (x.c2 as u32) + 65536 * (x.c3 as u32)
+    u32::from(x.c1) + 256 * u32::from(x.c2) + 65536 * u32::from(x.c3)
 }
 
 // Each colour of a palette as one number, so that painting a pixel reads its colour at once.
@@ -18,11 +18,8 @@ pub(crate) fn packed_palette(palette: &[u8]) -> [u32; 256]
     ensures { PackedPalette palette.now result }
 {
     let mut out = [0u32; 256];
-    let n = palette.len() / 3;
-    let mut i = 0;
-    while i < n {
+    for i in 0..palette.len() / 3 {
         out[i] = pack(colour(palette, i));
-        i = i + 1;
     }
     out
 }

@@ -1,22 +1,9 @@
 // Whether many colours of a row of bytes are equal, so that a loop over pixels can take them at once.
 ghost use Rattle.std.specs.Prelude.{◌≡◌, ◌+◌, ◌*◌, ◌<◌, length};
 ghost use Rattle.basics.specs.Range.{sum_from};
-ghost use Rattle.pixels.specs.Equal.{same_colour, equal_colours, differs};
+ghost use Rattle.pixels.specs.Equal.{equal_colours, differs};
 
-use crate::colour::{Rgb, colour};
-
-// Whether two colours are equal.
-fn same_colour(x: Rgb, y: Rgb) -> bool
-    ensures { result ≡ same_colour x y }
-{
-    if x.c1 != y.c1 {
-        return false;
-    }
-    if x.c2 != y.c2 {
-        return false;
-    }
-    x.c3 == y.c3
-}
+use crate::colour::colour;
 
 // How many of 192 bytes differ from the byte three after. All are compared, whatever the first give, so that the
 // machine can compare many at once.
@@ -25,12 +12,10 @@ fn differences(bytes: &[u8], at: usize) -> u8
     ensures { result ≡ sum_from at 192 (differs bytes.now) }
 {
     let mut count = 0u8;
-    let mut k = 0;
-    while k < 192 {
+    for k in 0..192 {
         if bytes[at + k] != bytes[at + k + 3] {
-            count = count + 1;
+            count += 1;
         }
-        k = k + 1;
     }
     count
 }
@@ -40,8 +25,5 @@ pub fn equal_colours(bytes: &[u8], i: usize) -> bool
     requires { 3 * i + 194 < length bytes.now }
     ensures { result ≡ equal_colours bytes.now i }
 {
-    if !same_colour(colour(bytes, i + 64), colour(bytes, i)) {
-        return false;
-    }
-    differences(bytes, 3 * i) == 0
+    colour(bytes, i + 64) == colour(bytes, i) && differences(bytes, 3 * i) == 0
 }

@@ -1,5 +1,7 @@
 -- Laws of gaps: a byte of one, its end, and the whole of one read byte by byte.
 -- Assumes nothing.
+use Rattle.std.specs.Prelude.{Some, None}
+use Rattle.std.specs.Bool.{then_some}
 use mathlib.Core.Path.{◌≡◌, refl, sym, ap, ◌∙◌}
 use mathlib.Core.Bool.{Bool, true, false, not, ◌&&◌, ◌||◌, cond}
 use mathlib.Core.List.{List, [], ◌∷◌}
@@ -85,3 +87,12 @@ module _ {file : List ℕ} {at : ℕ} {within blank : Bool} {p : ℕ} (g : GapTo
         sym (or_none blank) ∙ ap (λ (l : List ℕ). blank || has_blank within l) (sym none) ∙ g.seen,
         sym (behind_drop file p g.there) ∙ ap (behind file) (none ∙ ap (after_gap within) (sym none) ∙ g.rest),
       )
+
+-- ---- where a gap has whitespace, the place behind it
+pub gap_there : (b : Bool) (e : ℕ) {end : ℕ} → Some end ≡ then_some b e → (b ≡ true) × (end ≡ e)
+gap_there true e q = (refl, cc)
+gap_there false e q = cc
+
+pub gap_bare : (b : Bool) (e : ℕ) → None ≡ then_some b e → b ≡ false
+gap_bare true e q = cc
+gap_bare false e q = refl

@@ -10,8 +10,8 @@ use lib.Dec.{eqb, leb}
 use lib.ListN.{length, get_or, drop, length-drop}
 use Rattle.basics.proofs.Range.{and_left, and_right, and_first, and_stop, and_false, tests_same}
 use Rattle.ppm.specs.declared.fields.Digits.{Digits}
-use Rattle.ppm.specs.declared.fields.Found.{Found}
-use Rattle.ppm.specs.declared.fields.Found.TheVariants as found
+use Rattle.std.specs.Prelude.{Option, Some}
+use Rattle.std.specs.Prelude as std
 use Rattle.ppm.specs.declared.header.Header.{Header}
 use Rattle.ppm.specs.declared.header.Header.TheVariants.{Image, Maximum, Malformed}
 use Rattle.ppm.specs.Header.{is_blank, is_digit, after_gap, has_blank, is_number, value_from, after_number, Field, None, Read, field_of, on_field}
@@ -52,20 +52,20 @@ pub record Reads (file xs : List ℕ) (d : Digits) : Type 0 where
   pub kept : d.value ≡ min value most
   pub starts : StartsAt file rest d.end
 
-is_read : Found → Bool
-is_read (found.Read d) = true
-is_read found.None = false
+is_read : Option Digits → Bool
+is_read (Some d) = true
+is_read std.None = false
 
-digits_or : Digits → Found → Digits
-digits_or z (found.Read d) = d
-digits_or z found.None = z
+digits_or : Digits → Option Digits → Digits
+digits_or z (Some d) = d
+digits_or z std.None = z
 
 module _ (file xs : List ℕ) where
-  pub field_read : Tail file xs → {d : Digits} → read_as file (field_of xs) ≡ found.Read d → Reads file xs d
+  pub field_read : Tail file xs → {d : Digits} → read_as file (field_of xs) ≡ Some d → Reads file xs d
   unfolding read_as is_read digits_or
   field_read t {d} e = go (field_of xs) refl e
     where
-      go : (f : Field) → field_of xs ≡ f → read_as file f ≡ found.Read d → Reads file xs d
+      go : (f : Field) → field_of xs ≡ f → read_as file f ≡ Some d → Reads file xs d
       go None q p = absurd (true≢false (sym (ap is_read p)))
       go (Read value rest) q p =
           let same : record { value = min value most; end = behind file rest } ≡ d = ap (digits_or d) p in
@@ -78,11 +78,11 @@ module _ (file xs : List ℕ) where
                 (starts_behind (tail_of t (field_tail xs q)));
           }
 
-  pub field_none : read_as file (field_of xs) ≡ found.None → field_of xs ≡ None
+  pub field_none : read_as file (field_of xs) ≡ std.None → field_of xs ≡ None
   unfolding read_as is_read
   field_none e = go (field_of xs) e
     where
-      go : (f : Field) → read_as file f ≡ found.None → f ≡ None
+      go : (f : Field) → read_as file f ≡ std.None → f ≡ None
       go None p = refl
       go (Read value rest) p = absurd (true≢false (ap is_read p))
 
@@ -98,11 +98,11 @@ module _ (file : List ℕ) (at : ℕ) {end : ℕ} (h : at ≤ length file)
   pub gap_end : end ≤ length file
   gap_end = behind_gap.there
 
-  pub field_no_blank : has_blank false (drop at file) ≡ false → found.None ≡ read_as file (field_of (drop at file))
+  pub field_no_blank : has_blank false (drop at file) ≡ false → std.None ≡ read_as file (field_of (drop at file))
   unfolding field_of read_as
   field_no_blank b = rw b refl
 
-  pub field_cut : (end < length file → ⊥) → found.None ≡ read_as file (field_of (drop at file))
+  pub field_cut : (end < length file → ⊥) → std.None ≡ read_as file (field_of (drop at file))
   unfolding field_of read_as is_number
   field_cut n =
       rw (sym behind_gap.left ∙ no_byte file end gap_end n, and_false (has_blank false (drop at file))) refl
@@ -112,17 +112,17 @@ module _ (file : List ℕ) (at : ℕ) {end : ℕ} (h : at ≤ length file)
     unfolding is_number
     digit_is = ap is_number (sym behind_gap.left ∙ next_byte file end l)
 
-    pub field_no_digit : is_digit (get_or file end 0) ≡ false → found.None ≡ read_as file (field_of (drop at file))
+    pub field_no_digit : is_digit (get_or file end 0) ≡ false → std.None ≡ read_as file (field_of (drop at file))
     unfolding field_of read_as
     field_no_digit d = rw (digit_is ∙ d, and_false (has_blank false (drop at file))) refl
 
     pub field_is : has_blank false (drop at file) ≡ true → is_digit (get_or file end 0) ≡ true → {d : Digits}
         → d.value ≡ min (value_from 0 (drop end file)) most → d.end ≡ behind file (after_number (drop end file))
-        → found.Read d ≡ read_as file (field_of (drop at file))
+        → Some d ≡ read_as file (field_of (drop at file))
     unfolding field_of read_as
     field_is b d p q =
         rw (b, digit_is ∙ d)
-        (λ i. found.Read (record {
+        (λ i. Some (record {
           value = (p ∙ ap (λ (l : List ℕ). min (value_from 0 l) most) behind_gap.left) i;
           end = (q ∙ ap (λ (l : List ℕ). behind file (after_number l)) behind_gap.left) i;
         }))

@@ -3,10 +3,12 @@ use Rattle.std.specs.Prelude.{◌≡◌, Bool, false, not, ◌&&◌, ◌||◌, L
 use Rattle.basics.specs.Answer.{refuse, when_done}
 use Rattle.table.specs.Table.{Table}
 use Rattle.loader.specs.Load.{load_number, load_later}
-use Rattle.ppm.specs.declared.fields.Found.{Found}
-use Rattle.ppm.specs.declared.fields.Found.TheVariants as found
+use Rattle.std.specs.Prelude.{Option, Some}
+use Rattle.std.specs.Prelude as std
+use Rattle.std.specs.Bool.{then_some}
+use Rattle.ppm.specs.declared.fields.Digits.{Digits}
 use Rattle.ppm.specs.declared.header.Frame.{Frame}
-use Rattle.ppm.specs.Header.{is_blank, Field, None, Read}
+use Rattle.ppm.specs.Header.{is_blank, has_blank, after_gap, Field, None, Read}
 use Rattle.ppm.specs.Load.{pixels_fit}
 
 -- a value as the code keeps it: no field asks for one of 65,536 or more
@@ -21,15 +23,19 @@ blank_seen blank within c = blank || (not within && is_blank c)
 abbrev pub behind : List ℕ → List ℕ → ℕ
 behind file rest = length file - length rest
 
+-- the place behind a gap in front of what is left of a file, where the gap has whitespace that is no part of a comment
+unfoldable pub blank_gap : List ℕ → List ℕ → Option ℕ
+blank_gap file rest = then_some (has_blank false rest) (behind file (after_gap false rest))
+
 -- what is left of a file starts at a place of it
 pub record StartsAt (file rest : List ℕ) (p : ℕ) : Type 0 where
   pub there : p ≤ length file
   pub left : drop p file ≡ rest
 
 -- a field as the code hands it back
-unfoldable pub read_as : List ℕ → Field → Found
-read_as file None = found.None
-read_as file (Read value rest) = found.Read (record { value = min value most; end = behind file rest })
+unfoldable pub read_as : List ℕ → Field → Option Digits
+read_as file None = std.None
+read_as file (Read value rest) = Some (record { value = min value most; end = behind file rest })
 
 -- an image whose header stands in a file of so many bytes
 pub record InFile (bytes : ℕ) (f : Frame) : Type 0 where

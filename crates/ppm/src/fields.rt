@@ -2,104 +2,70 @@
 ghost use Rattle.std.specs.Prelude.{◌≡◌, false, ◌+◌, ◌-◌, ◌*◌, ◌≤◌, min, length, drop};
 ghost use Rattle.ppm.specs.Header.{is_blank, is_line_end, is_digit, opens, in_gap, after_gap, has_blank};
 ghost use Rattle.ppm.specs.Header.{value_from, after_number, field_of};
-ghost use Rattle.ppm.specs.Inner.{most, blank_seen, behind, read_as};
+ghost use Rattle.ppm.specs.Inner.{most, blank_seen, behind, blank_gap, read_as};
 
 // Whitespace.
+#[tactic(auto, unfolding(crate::specs::Header::is_blank))]
 pub fn is_blank(c: u8) -> bool
     ensures { result ≡ is_blank c }
 {
-    if c == 32 {
-        return true;
-    }
-    if c == 9 {
-        return true;
-    }
-    is_line_end(c)
+    c == b' ' || c == b'\t' || is_line_end(c)
 }
 
+#[tactic(auto, unfolding(crate::specs::Header::is_line_end))]
 fn is_line_end(c: u8) -> bool
     ensures { result ≡ is_line_end c }
 {
-    if c == 13 {
-        return true;
-    }
-    c == 10
+    c == b'\r' || c == b'\n'
 }
 
+#[tactic(auto, unfolding(crate::specs::Header::is_digit))]
 fn is_digit(c: u8) -> bool
     ensures { result ≡ is_digit c }
 {
-    if c < 48 {
-        return false;
-    }
-    c <= 57
+    b'0' <= c && c <= b'9'
 }
 
 // Whether a byte belongs to a gap, within a comment or not.
+#[tactic(auto, unfolding(crate::specs::Header::in_gap))]
 fn in_gap(within: bool, c: u8) -> bool
     ensures { result ≡ in_gap within c }
 {
-    if within {
-        return true;
-    }
-    if is_blank(c) {
-        return true;
-    }
-    c == b'#'
+    within || is_blank(c) || c == b'#'
 }
 
 // Whether a comment is open after a byte.
+#[tactic(auto, unfolding(crate::specs::Header::opens))]
 fn opens_comment(within: bool, c: u8) -> bool
     ensures { result ≡ opens within c }
 {
-    if is_line_end(c) {
-        return false;
-    }
-    if within {
-        return true;
-    }
-    c == b'#'
+    !is_line_end(c) && (within || c == b'#')
 }
 
 // Whether whitespace that is no part of a comment was seen, a byte later.
+#[tactic(auto, unfolding(crate::specs::Inner::blank_seen))]
 fn blank_seen(blank: bool, within: bool, c: u8) -> bool
     ensures { result ≡ blank_seen blank within c }
 {
-    if blank {
-        return true;
-    }
-    if within {
-        return false;
-    }
-    is_blank(c)
+    blank || !within && is_blank(c)
 }
 
-// A gap: whether it has whitespace that is no part of a comment, and the place behind it.
-#[derive(Clone, Copy)]
-struct Skipped {
-    blank: bool,
-    end: usize,
-}
-
-// The gap from a place on.
-fn gap(file: &[u8], at: usize) -> Skipped
+// The place behind the gap from a place on, where it has whitespace that is no part of a comment.
+fn gap(file: &[u8], at: usize) -> Option<usize>
     requires { at ≤ length file.now }
-    ensures blank { result.blank ≡ has_blank false (drop at file.now) }
-    ensures end { result.end ≡ behind file.now (after_gap false (drop at file.now)) }
+    ensures { result ≡ blank_gap file.now (drop at file.now) }
 {
     let mut within = false;
     let mut blank = false;
-    let mut p = at;
-    while p < file.len() {
+    for p in at..file.len() {
         let c = file[p];
         if !in_gap(within, c) {
-            return Skipped { blank, end: p };
+            return blank.then_some(p);
         }
         blank = blank_seen(blank, within, c);
         within = opens_comment(within, c);
-        p = p + 1;
     }
-    Skipped { blank, end: p }
+    blank.then_some(file.len())
 }
 
 // A number: its value, kept at 65,536 where it is more, and the place behind it.
@@ -125,40 +91,27 @@ fn number(file: &[u8], at: usize) -> Digits
     ensures end { result.end ≡ behind file.now (after_number (drop at file.now)) }
 {
     let mut value = 0;
-    let mut p = at;
-    while p < file.len() {
+    for p in at..file.len() {
         let c = file[p];
         if !is_digit(c) {
             return Digits { value, end: p };
         }
         value = longer(value, c);
-        p = p + 1;
     }
-    Digits { value, end: p }
-}
-
-// A field, or that there is none.
-#[derive(Clone, Copy)]
-pub enum Found {
-    Read(Digits),
-    None,
+    Digits {
+        value,
+        end: file.len(),
+    }
 }
 
 // The field from a place on.
-pub fn field(file: &[u8], at: usize) -> Found
+pub fn field(file: &[u8], at: usize) -> Option<Digits>
     requires { at ≤ length file.now }
     ensures { result ≡ read_as file.now (field_of (drop at file.now)) }
 {
-    let g = gap(file, at);
-    if !g.blank {
-        return Found::None;
+    let end = gap(file, at)?;
+    if file.len() <= end || !is_digit(file[end]) {
+        return None;
     }
-    let end = g.end;
-    if file.len() <= end {
-        return Found::None;
-    }
-    if !is_digit(file[end]) {
-        return Found::None;
-    }
-    Found::Read(number(file, end))
+    Some(number(file, end))
 }

@@ -2,7 +2,7 @@
 ghost use Rattle.std.specs.Prelude.{◌≡◌, ◌≤◌, length, drop};
 ghost use Rattle.ppm.specs.Header.{is_magic, is_side, image_of, header_of};
 
-use crate::fields::{Found, field, is_blank};
+use crate::fields::{field, is_blank};
 
 // An image: its width and height in pixels, and the place of its first pixel's byte in the file.
 #[derive(Clone, Copy)]
@@ -23,22 +23,14 @@ pub enum Header {
 fn is_magic(file: &[u8]) -> bool
     ensures { result ≡ is_magic file.now }
 {
-    if file.len() < 2 {
-        return false;
-    }
-    if file[0] != b'P' {
-        return false;
-    }
-    file[1] == b'6'
+    2 <= file.len() && file[0] == b'P' && file[1] == b'6'
 }
 
+#[tactic(auto, unfolding(crate::specs::Header::is_side))]
 fn is_side(n: usize) -> bool
     ensures { result ≡ is_side n }
 {
-    if n < 1 {
-        return false;
-    }
-    n <= 65535
+    1 <= n && n <= 65535
 }
 
 // What three numbers say, the last of which ends at a place.
@@ -47,16 +39,7 @@ fn image(file: &[u8], width: usize, height: usize, maximum: usize, end: usize) -
     ensures { result
         ≡ image_of (length file.now) width height maximum (drop end file.now) }
 {
-    if file.len() <= end {
-        return Header::Malformed;
-    }
-    if !is_blank(file[end]) {
-        return Header::Malformed;
-    }
-    if !is_side(width) {
-        return Header::Malformed;
-    }
-    if !is_side(height) {
+    if file.len() <= end || !is_blank(file[end]) || !is_side(width) || !is_side(height) {
         return Header::Malformed;
     }
     if maximum != 255 {
@@ -76,13 +59,13 @@ pub fn read_header(file: &[u8]) -> Header
     if !is_magic(file) {
         return Header::Malformed;
     }
-    let Found::Read(width) = field(file, 2) else {
+    let Some(width) = field(file, 2) else {
         return Header::Malformed;
     };
-    let Found::Read(height) = field(file, width.end) else {
+    let Some(height) = field(file, width.end) else {
         return Header::Malformed;
     };
-    let Found::Read(maximum) = field(file, height.end) else {
+    let Some(maximum) = field(file, height.end) else {
         return Header::Malformed;
     };
     image(file, width.value, height.value, maximum.value, maximum.end)

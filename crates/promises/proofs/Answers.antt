@@ -2,6 +2,7 @@
 -- promises use that definition.": what a caller is told of a size, of three sizes, of a table, of a batch added to one
 -- and of the best position of a box.
 -- Assumes nothing.
+use Rattle.std.specs.Prelude.{None, Option, Some}
 use mathlib.Core.Path.{◌≡◌, refl, ap, ◌∙◌}
 use mathlib.Core.Logic.{◌⊎◌, inl, inr}
 use mathlib.Core.Bool.{Bool, true, false, cond}
@@ -10,9 +11,6 @@ use Prim.Native.Nat.{ℕ}
 use borrow.Author.Tests.{eqb-true}
 use lib.Dec.{eqb}
 use Rattle.grid.specs.declared.place.Grid.{Grid}
-use Rattle.grid.specs.declared.dimension.Shift.{Shift}
-use Rattle.grid.specs.declared.dimension.Shift.TheVariants as shift
-use Rattle.grid.specs.declared.place.Chosen.TheVariants as chosen
 use Rattle.grid.specs.Size.{choices, shift_in, shift_of, shift_answer}
 use Rattle.grid.specs.Grid.{grid_with, grid_of, grid_answer}
 use Rattle.table.specs.Cell.{View}
@@ -30,21 +28,21 @@ use Rattle.promises.specs.Answers.{Among, NotAmong, ShiftTold, GridTold, SoundTo
 use Rattle.promises.proofs.Each.{each}
 
 -- ---- a size
-among_shift : {size s : ℕ} → Among size s → shift_of size ≡ shift.By s
+among_shift : {size s : ℕ} → Among size s → shift_of size ≡ Some s
 unfolding shift_of shift_in choices
-among_shift m = each (λ (c : ℕ × ℕ). shift_of c.0) (λ c. shift.By c.1) choices refl m
+among_shift m = each (λ (c : ℕ × ℕ). shift_of c.0) (λ c. Some c.1) choices refl m
 
-none_in : (cs : List (ℕ × ℕ)) (size : ℕ) → ((s : ℕ) → Memᴰ (size, s) cs → ⊥) → shift_in cs size ≡ shift.Refused
+none_in : (cs : List (ℕ × ℕ)) (size : ℕ) → ((s : ℕ) → Memᴰ (size, s) cs → ⊥) → shift_in cs size ≡ None
 unfolding shift_in
 none_in [] size n = refl
 none_in (c ∷ cs) size n = go (eqb size c.0) refl (none_in cs size (λ s m. n s (Memᴰ.tail m)))
   where
-    go : (b : Bool) → eqb size c.0 ≡ b → shift_in cs size ≡ shift.Refused
-        → cond b (shift.By c.1) (shift_in cs size) ≡ shift.Refused
+    go : (b : Bool) → eqb size c.0 ≡ b → shift_in cs size ≡ None
+        → cond b (Some c.1) (shift_in cs size) ≡ None
     go true e rest = absurd (n c.1 (Memᴰ.head (λ i. (eqb-true size c.0 e i, c.1))))
     go false e rest = rest
 
-not_among : (size : ℕ) → NotAmong size → shift_of size ≡ shift.Refused
+not_among : (size : ℕ) → NotAmong size → shift_of size ≡ None
 unfolding shift_of
 not_among size n = none_in choices size n
 
@@ -57,23 +55,23 @@ shift_told size =
     }
 
 -- ---- three sizes
-second_refused : (b1 b2 b3 : ℕ) (x z : Shift) → grid_with b1 b2 b3 x shift.Refused z ≡ chosen.Refused
+second_refused : (b1 b2 b3 : ℕ) (x z : Option ℕ) → grid_with b1 b2 b3 x None z ≡ None
 unfolding grid_with
-second_refused b1 b2 b3 (shift.By s) z = refl
-second_refused b1 b2 b3 shift.Refused z = refl
+second_refused b1 b2 b3 (Some s) z = refl
+second_refused b1 b2 b3 None z = refl
 
-third_refused : (b1 b2 b3 : ℕ) (x y : Shift) → grid_with b1 b2 b3 x y shift.Refused ≡ chosen.Refused
+third_refused : (b1 b2 b3 : ℕ) (x y : Option ℕ) → grid_with b1 b2 b3 x y None ≡ None
 unfolding grid_with
-third_refused b1 b2 b3 (shift.By s) (shift.By u) = refl
-third_refused b1 b2 b3 (shift.By s) shift.Refused = refl
-third_refused b1 b2 b3 shift.Refused y = refl
+third_refused b1 b2 b3 (Some s) (Some u) = refl
+third_refused b1 b2 b3 (Some s) None = refl
+third_refused b1 b2 b3 None y = refl
 
-no_grid_lem : (b1 b2 b3 : ℕ) → NotAmong b1 ⊎ (NotAmong b2 ⊎ NotAmong b3) → grid_of b1 b2 b3 ≡ chosen.Refused
+no_grid_lem : (b1 b2 b3 : ℕ) → NotAmong b1 ⊎ (NotAmong b2 ⊎ NotAmong b3) → grid_of b1 b2 b3 ≡ None
 unfolding grid_of grid_with
-no_grid_lem b1 b2 b3 (inl n) = ap (λ (x : Shift). grid_with b1 b2 b3 x (shift_of b2) (shift_of b3)) (not_among b1 n)
-no_grid_lem b1 b2 b3 (inr (inl n)) = ap (λ (x : Shift). grid_with b1 b2 b3 (shift_of b1) x (shift_of b3)) (not_among b2 n)
+no_grid_lem b1 b2 b3 (inl n) = ap (λ (x : Option ℕ). grid_with b1 b2 b3 x (shift_of b2) (shift_of b3)) (not_among b1 n)
+no_grid_lem b1 b2 b3 (inr (inl n)) = ap (λ (x : Option ℕ). grid_with b1 b2 b3 (shift_of b1) x (shift_of b3)) (not_among b2 n)
     ∙ second_refused b1 b2 b3 (shift_of b1) (shift_of b3)
-no_grid_lem b1 b2 b3 (inr (inr n)) = ap (λ (x : Shift). grid_with b1 b2 b3 (shift_of b1) (shift_of b2) x) (not_among b3 n)
+no_grid_lem b1 b2 b3 (inr (inr n)) = ap (λ (x : Option ℕ). grid_with b1 b2 b3 (shift_of b1) (shift_of b2) x) (not_among b3 n)
     ∙ third_refused b1 b2 b3 (shift_of b1) (shift_of b2)
 
 pub grid_told : (b1 b2 b3 : ℕ) → GridTold b1 b2 b3 (grid_answer (grid_of b1 b2 b3))

@@ -12,13 +12,13 @@ use lib.ListN.{length, get_or, get_or-map}
 use lib.Seq.{get_or-take}
 use lib.Ieee.{Float, nan}
 use Rattle.basics.specs.Answer.{when_done}
-use Rattle.rounds.specs.declared.gather.BoxSpread.{BoxSpread}
+use Rattle.heap.specs.declared.heap.BoxSpread.{BoxSpread}
 use Rattle.boxes.specs.Box.{no_box}
 use Rattle.rounds.specs.Loop.{with_zero}
 use Rattle.sums.specs.declared.source.Source.{Source}
-use Rattle.table.specs.declared.layout.Layout.{Layout}
+use Rattle.table.specs.Layouts.{Layout}
 use Rattle.table.specs.Layout.{TableIn}
-use Rattle.cutter.specs.declared.call.CutRecord.{CutRecord}
+use Rattle.cutter.specs.Record.{CutRecord}
 use Rattle.cutter.specs.Fronts.{filled}
 use Rattle.cutter.specs.Cut.{list_of, cut_number_in, cut_record_in, cut_later_in}
 use Rattle.cutter.proofs.RecordSize.{few, all_places}

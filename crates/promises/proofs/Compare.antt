@@ -1,5 +1,6 @@
 -- Comparing two tables: in the other order, added up, of equal tables, and which bins it counts.
 -- Assumes nothing.
+use Rattle.std.specs.Prelude.{Some}
 use mathlib.Core.Path.{◌≡◌, refl, sym, ap, ◌∙◌}
 use mathlib.Core.Bool.{Bool, not, cond}
 use mathlib.Core.List.{List, ◌∷◌, map}
@@ -11,7 +12,6 @@ use lib.ListN.{get_or}
 use Rattle.basics.specs.Range.{list_from, sum_from}
 use Rattle.basics.proofs.Range.{list_is, sum_same, all_same}
 use Rattle.basics.proofs.Lists.{map_list}
-use Rattle.grid.specs.declared.place.Chosen.TheVariants as chosen
 use Rattle.grid.specs.declared.place.Grid.{Grid}
 use Rattle.grid.specs.Grid.{grid_of, on_grid, bins_of}
 use Rattle.grid.proofs.Places.{chose}
@@ -48,7 +48,7 @@ signed_list : {t : Table} {n : ℕ} → Sized t n
 signed_list {t} {n} s =
     ap (map pos) (table_list s) ∙ map_list pos 0 (table_len n) (λ i. view_of t (i / 5) (i % 5))
 
-bins_are : (b1 b2 b3 : ℕ) {g : Grid} → grid_of b1 b2 b3 ≡ chosen.Accepted g → bins_for b1 b2 b3 ≡ bins_of g
+bins_are : (b1 b2 b3 : ℕ) {g : Grid} → grid_of b1 b2 b3 ≡ Some g → bins_for b1 b2 b3 ≡ bins_of g
 unfolding bins_for on_grid
 bins_are b1 b2 b3 e = rw e refl
 

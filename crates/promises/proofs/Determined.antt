@@ -1,18 +1,33 @@
 -- For every public function of every crate: any two results, and any two later contents of what it was lent, that its
 -- contract allows are equal. `Learnt` is what a contract tells its caller of the arguments a, the result r and the
--- parameters at exit e. What is lent in a layout is seen by `lent_lists`: a wide table has no small list.
+-- parameters at exit e. What is lent in a layout is
+-- seen by `lent_lists`: a wide table has no small list.
 -- Assumes nothing.
-use mathlib.Core.Path.{◌≡◌, ap}
+use Rattle.std.specs.Prelude.{Option, Result, Ok, Err}
+use mathlib.Core.Path.{◌≡◌, sym, ap, ◌∙◌}
+use mathlib.Core.Bool.{true≢false}
+use lib.Dec.{eqb}
 use mathlib.Core.List.{List}
-use Prim.Native.Nat.{ℕ}
+use Prim.Native.Nat.{ℕ, ◌≤◌}
+use native.Mathlib.Bridge.{le_prop}
+use mathlib.Core.HLevel.{is_prop→PathP}
 use lib.IntN.{ℤ}
-use lib.Ieee.{Float}
 use Rattle.basics.proofs.Determined.{determined}
-use Rattle.cutter.specs.declared.call.CutRecord.{CutRecord}
-use Rattle.table.specs.declared.layout.Layout.TheVariants.{Narrow}
+use Rattle.basics.proofs.Refusals.{number_tells, answer_tells, not_done}
+use Rattle.basics.specs.declared.refusal.Refusal.{Refusal}
+use Rattle.basics.proofs.refusal.Refusal.number as number
+use Rattle.basics.proofs.refusal.answer as answer
+use Rattle.grid.specs.declared.place.Grid.{Grid}
+use Rattle.table.specs.declared.cell.Cell.{Cell}
+use Rattle.sums.specs.declared.box_sums.Stats.{Stats}
+use Rattle.spread.specs.declared.both_sides.BestCut.{BestCut}
+use Rattle.rounds.specs.declared.gather.Boxes.{Boxes}
+use Rattle.cutter.specs.Record.{CutRecord}
+use Rattle.table.specs.Layouts.{Wide, Narrow}
 use Rattle.table.specs.Narrow.{NarrowTable, narrow_table}
-use Rattle.cutter.specs.Cut.{Results, Buffers, buffers, no_work, buffers_in, no_work_in}
-use Rattle.promises.specs.Layouts.{lists_in, lent_lists, DeterminesBy}
+use Rattle.cutter.specs.Cut.{Results, buffers, no_work, buffers_in, no_work_in, record_of, done_record, refused_record}
+use Rattle.promises.specs.Seen.{written}
+use Rattle.promises.specs.Layouts.{lists_in, lent_lists, DeterminesIn}
 use Rattle.grid.proofs.dimension.shift_of as Shift-of
 use Rattle.grid.proofs.place.grid_of as grid-of
 use Rattle.grid.proofs.place.Grid.rgb as rgb
@@ -26,27 +41,27 @@ use Rattle.pixels.proofs.equal.equal_colours as equal-colours
 use Rattle.table.proofs.wide.table_len as table-len
 use Rattle.table.proofs.wide.cell_at as Cell-at
 use Rattle.table.proofs.wide.put_at as put-at
-use Rattle.table.proofs.layout.lengths_fit as lengths_fit_lem
-use Rattle.table.proofs.layout.cell_in as cell_in
-use Rattle.table.proofs.layout.put_cell as put-cell
+use Rattle.table.proofs.layout.WideLayout.fits as wide-fits
+use Rattle.table.proofs.layout.WideLayout.cell as wide-cell
+use Rattle.table.proofs.layout.WideLayout.put as wide-put
+use Rattle.table.proofs.layout.WideLayout.limit as wide-limit
+use Rattle.table.proofs.layout.WideLayout.too_heavy as wide-too-heavy
+use Rattle.table.proofs.layout.NarrowLayout.fits as narrow-fits
+use Rattle.table.proofs.layout.NarrowLayout.cell as narrow-cell
+use Rattle.table.proofs.layout.NarrowLayout.put as narrow-put
+use Rattle.table.proofs.layout.NarrowLayout.limit as narrow-limit
+use Rattle.table.proofs.layout.NarrowLayout.too_heavy as narrow-too-heavy
 use Rattle.table.proofs.cell.plus as plus
 use Rattle.table.proofs.cell.minus as minus
 use Rattle.table.proofs.spans.row_spans as row-spans
-use Rattle.table.proofs.spans.fill_spans as fill-spans
+use Rattle.table.proofs.spans.Spans.of as spans-of
 use Rattle.table.proofs.sound.keeps_bounds as keeps-bounds
-use Rattle.table.proofs.sound.limit_of as limit-of
-use Rattle.table.proofs.sound.total_in as total-in
 use Rattle.table.proofs.sound.sound_total as sound-total
-use Rattle.adder.specs.declared.add.Added.{Added}
 use Rattle.adder.proofs.shares.add_at as add_at
-use Rattle.adder.proofs.steps.fill_steps as fill-steps
-use Rattle.adder.proofs.add.add_batch_in as add-batch-in
+use Rattle.adder.proofs.steps.Steps.of as steps-of
 use Rattle.adder.proofs.add.add_batch as add-batch
-use Rattle.loader.proofs.load.load_scaled_in as load-scaled-in
 use Rattle.loader.proofs.load.load_scaled as load-scaled
-use Rattle.loader.proofs.load.load_in as load-in
 use Rattle.loader.proofs.load.load as load
-use Rattle.loader.proofs.merge.merge_in as merge_in
 use Rattle.loader.proofs.merge.merge as merge
 use Rattle.recorder.specs.declared.session.SessionAnswer.{SessionAnswer}
 use Rattle.recorder.proofs.session.begin as begin
@@ -69,21 +84,28 @@ use Rattle.spread.proofs.spread.spread as spread
 use Rattle.spread.proofs.spread.score as score
 use Rattle.spread.proofs.position.position_between as position-between
 use Rattle.spread.proofs.position.better as better
-use Rattle.boxes.proofs.sides.first_bin as first-bin
-use Rattle.boxes.proofs.sides.end_bin as end-bin
-use Rattle.boxes.proofs.sides.is_one_bin as is-one-bin
-use Rattle.boxes.proofs.sides.whole as whole
+use Rattle.boxes.proofs.sides.Bounds.first_bin as first-bin
+use Rattle.boxes.proofs.sides.Bounds.end_bin as end-bin
+use Rattle.boxes.proofs.sides.Bounds.is_one_bin as is-one-bin
+use Rattle.boxes.proofs.sides.Bounds.whole as whole
 use Rattle.boxes.proofs.bytes.packed as packed
 use Rattle.boxes.proofs.bytes.unpacked as unpacked
-use Rattle.boxes.proofs.sides.low_side as low-side
-use Rattle.boxes.proofs.sides.high_side as high-side
+use Rattle.boxes.proofs.sides.Bounds.low_side as low-side
+use Rattle.boxes.proofs.sides.Bounds.high_side as high-side
 use Rattle.spread.proofs.search.best_cut as best-cut
-use Rattle.heap.proofs.arrays.put_in as put_in
-use Rattle.heap.proofs.arrays.take_out as take_out
+use Rattle.heap.specs.declared.heap.BoxSpread.{BoxSpread}
+use Rattle.heap.specs.declared.heap.Heap.{Heap}
+use Rattle.heap.proofs.heap.Heap.new as heap-new
+use Rattle.heap.proofs.heap.Heap.len as heap-len
+use Rattle.heap.proofs.heap.Heap.room as heap-room
+use Rattle.heap.proofs.heap.Heap.top as heap-top
+use Rattle.heap.proofs.heap.Heap.put_in as put_in
+use Rattle.heap.proofs.heap.Heap.take_out as take_out
 use Rattle.rounds.proofs.gather.cut_boxes as cut-boxes
 use Rattle.cutter.proofs.palette.front as front
 use Rattle.band.proofs.number.band_number as band-number
-use Rattle.band.proofs.look_up.index_at as index_at
+use Rattle.band.proofs.look_up.LookUp.of as look-up-of
+use Rattle.band.proofs.look_up.LookUp.index_at as index_at
 use Rattle.mapper.proofs.call.map as map
 use Rattle.painter.proofs.call.paint as paint
 use Rattle.inputs.proofs.looks.begins_with as begins-with
@@ -93,17 +115,18 @@ use Rattle.terminal.proofs.call.nearest as nearest
 use Rattle.lines.specs.declared.batches.Loaded.{Loaded}
 use Rattle.lines.proofs.batches.empty_table as empty_table_lem
 use Rattle.lines.proofs.batches.load_batch as load-batch
-use Rattle.lines.proofs.parts.word as word
-use Rattle.lines.proofs.parts.named as named
-use Rattle.lines.proofs.listing.head as head
+use Rattle.lines.specs.declared.writer.Writer.{Writer}
+use Rattle.lines.specs.Writing.{Writes}
+use Rattle.lines.proofs.found.cut_loaded as cut-loaded
+use Rattle.lines.proofs.writer.Writer.word as word
+use Rattle.lines.proofs.writer.Writer.named as named
+use Rattle.lines.proofs.writer.Writer.head as head
 use Rattle.lines.proofs.listing.total as total
-use Rattle.lines.proofs.listing.box_line as box-line
+use Rattle.lines.proofs.writer.Writer.box_line as box-line
 use Rattle.lines.proofs.listing.refused as refused
 use Rattle.lines.proofs.text.text as text
 use Rattle.swatches.proofs.text.swatch_text as swatch-text
-use Rattle.cutter.proofs.call.cut_from as cut-from
 use Rattle.cutter.proofs.call.cut as cut
-use Rattle.cutter.proofs.call.cut_slowly as cut-slowly
 use Rattle.seluvava.specs.declared.cut.CutAnswer.{CutAnswer}
 use Rattle.seluvava.specs.Cut.{Lent, lent, LentIn, lent_in}
 use Rattle.seluvava.proofs.version.seluvava_version as exported-version
@@ -133,6 +156,13 @@ use Rattle.basics.specs.Determines.{Determines}
 
 both : {A B : Type 0} {a c : A} {b d : B} → a ≡ c → b ≡ d → ◌≡◌ {A = A × B} (a, b) (c, d)
 both p q = λ i. (p i, q i)
+
+-- ---- basics
+pub number_determined : Determines 0 number.Kinds.ps number.Kinds.r number.Reads.Learnt (λ κs r e. r)
+number_determined κs a r s x y p q = determined p q
+
+pub answer_determined : Determines 0 answer.Kinds.ps answer.Kinds.r answer.Reads.Learnt (λ κs r e. r)
+answer_determined κs a r s x y p q = determined p q
 
 -- ---- pixels
 pub colour_determined : Determines 1 colour.Kinds.ps colour.Kinds.r colour.Reads.Learnt (λ κs r e. r)
@@ -199,18 +229,41 @@ table_len_determined κs a r s x y p q = determined p q
 pub cell_at_determined : Determines 1 Cell-at.Kinds.ps Cell-at.Kinds.r Cell-at.Reads.Learnt (λ κs r e. r)
 cell_at_determined κs a r s x y p q = determined p q
 
-pub lengths_fit_determined : Determines 0 lengths_fit_lem.Kinds.ps lengths_fit_lem.Kinds.r lengths_fit_lem.Reads.Learnt (λ κs r e. r)
-lengths_fit_determined κs a r s x y p q = determined p q
-
-pub cell_in_determined : Determines 2 cell_in.Kinds.ps cell_in.Kinds.r cell_in.Reads.Learnt (λ κs r e. r)
-cell_in_determined κs a r s x y p q = determined p q
-
-pub put_cell_determined : DeterminesBy 2 put-cell.Kinds.ps put-cell.Kinds.r put-cell.Reads.Learnt
-    (λ κs a r e. lent_lists a.0 e.1.0.now e.1.1.0.now)
-put_cell_determined κs a r s x y p q = ap (lists_in a.0) (determined p q)
-
 pub put_at_determined : Determines 1 put-at.Kinds.ps put-at.Kinds.r put-at.Reads.Learnt (λ κs r e. e.0.now)
 put_at_determined κs a r s x y p q = determined p q
+
+pub wide_fits_determined : Determines 0 wide-fits.Kinds.ps wide-fits.Kinds.r wide-fits.Reads.Learnt (λ κs r e. r)
+wide_fits_determined κs a r s x y p q = determined p q
+
+pub wide_cell_determined : Determines 2 wide-cell.Kinds.ps wide-cell.Kinds.r wide-cell.Reads.Learnt (λ κs r e. r)
+wide_cell_determined κs a r s x y p q = determined p q
+
+pub wide_put_determined : Determines 2 wide-put.Kinds.ps wide-put.Kinds.r wide-put.Reads.Learnt
+    (λ κs r e. lent_lists Wide e.0.now e.1.0.now)
+wide_put_determined κs a r s x y p q = ap (lists_in Wide) (determined p q)
+
+pub wide_limit_determined : Determines 0 wide-limit.Kinds.ps wide-limit.Kinds.r wide-limit.Reads.Learnt (λ κs r e. r)
+wide_limit_determined κs a r s x y p q = determined p q
+
+pub wide_too_heavy_determined : Determines 0 wide-too-heavy.Kinds.ps wide-too-heavy.Kinds.r wide-too-heavy.Reads.Learnt
+    (λ κs r e. r)
+wide_too_heavy_determined κs a r s x y p q = number_tells r s (determined p q)
+
+pub narrow_fits_determined : Determines 0 narrow-fits.Kinds.ps narrow-fits.Kinds.r narrow-fits.Reads.Learnt (λ κs r e. r)
+narrow_fits_determined κs a r s x y p q = determined p q
+
+pub narrow_cell_determined : Determines 2 narrow-cell.Kinds.ps narrow-cell.Kinds.r narrow-cell.Reads.Learnt (λ κs r e. r)
+narrow_cell_determined κs a r s x y p q = determined p q
+
+pub narrow_put_determined : Determines 2 narrow-put.Kinds.ps narrow-put.Kinds.r narrow-put.Reads.Learnt (λ κs r e. narrow_table e.0.now e.1.0.now)
+narrow_put_determined κs a r s x y p q = determined p q
+
+pub narrow_limit_determined : Determines 0 narrow-limit.Kinds.ps narrow-limit.Kinds.r narrow-limit.Reads.Learnt (λ κs r e. r)
+narrow_limit_determined κs a r s x y p q = determined p q
+
+pub narrow_too_heavy_determined : Determines 0 narrow-too-heavy.Kinds.ps narrow-too-heavy.Kinds.r narrow-too-heavy.Reads.Learnt
+    (λ κs r e. r)
+narrow_too_heavy_determined κs a r s x y p q = number_tells r s (determined p q)
 
 pub plus_determined : Determines 0 plus.Kinds.ps plus.Kinds.r plus.Reads.Learnt (λ κs r e. r)
 plus_determined κs a r s x y p q = determined p q
@@ -221,70 +274,43 @@ minus_determined κs a r s x y p q = determined p q
 pub row_spans_determined : Determines 0 row-spans.Kinds.ps row-spans.Kinds.r row-spans.Reads.Learnt (λ κs r e. r)
 row_spans_determined κs a r s x y p q = determined p q
 
-pub fill_spans_determined : Determines 1 fill-spans.Kinds.ps fill-spans.Kinds.r fill-spans.Reads.Learnt
-    (λ κs r e. e.0.now)
-fill_spans_determined κs a r s x y p q = determined p q
+pub spans_of_determined : Determines {A = Grid × List ℕ} 0 spans-of.Kinds.ps spans-of.Kinds.r spans-of.Reads.Learnt (λ κs r e. (r.g, r.third))
+spans_of_determined κs a r s x y p q = both (determined p.0 q.0) (determined p.1 q.1)
 
-pub keeps_bounds_determined : Determines 1 keeps-bounds.Kinds.ps keeps-bounds.Kinds.r keeps-bounds.Reads.Learnt
-    (λ κs r e. r)
+pub keeps_bounds_determined : Determines 1 keeps-bounds.Kinds.ps keeps-bounds.Kinds.r keeps-bounds.Reads.Learnt (λ κs r e. r)
 keeps_bounds_determined κs a r s x y p q = determined p q
 
-pub limit_of_determined : Determines 0 limit-of.Kinds.ps limit-of.Kinds.r limit-of.Reads.Learnt (λ κs r e. r)
-limit_of_determined κs a r s x y p q = determined p q
-
-pub total_in_determined : Determines 2 total-in.Kinds.ps total-in.Kinds.r total-in.Reads.Learnt (λ κs r e. r)
-total_in_determined κs a r s x y p q = determined p q
-
-pub sound_total_determined : Determines 1 sound-total.Kinds.ps sound-total.Kinds.r sound-total.Reads.Learnt
-    (λ κs r e. r)
-sound_total_determined κs a r s x y p q = determined p q
+pub sound_total_determined : DeterminesIn {A = Option ℕ} 3 sound-total.Kinds.ps sound-total.Kinds.r sound-total.Reads.Learnt
+    (λ T laws l κs r e. r)
+sound_total_determined T laws l d κs a r s x y p q = determined p q
 
 -- ---- adder
-pub add_at_determined : DeterminesBy 2 add_at.Kinds.ps add_at.Kinds.r add_at.Reads.Learnt
-    (λ κs a r e. lent_lists a.0 e.1.0.now e.1.1.0.now)
-add_at_determined κs a r s x y p q = ap (lists_in a.0) (determined p q)
+pub add_at_determined : DeterminesIn 3 add_at.Kinds.ps add_at.Kinds.r add_at.Reads.Learnt
+    (λ T laws l κs r e. lent_lists l e.0.now e.1.0.now)
+add_at_determined T laws l d κs a r s x y p q = ap (lists_in l.layout) (determined p q)
 
-pub fill_steps_determined : Determines 1 fill-steps.Kinds.ps fill-steps.Kinds.r fill-steps.Reads.Learnt
-    (λ κs r e. e.0.now)
-fill_steps_determined κs a r s x y p q = determined p q
+pub steps_of_determined : Determines {A = Grid × List ℕ} 0 steps-of.Kinds.ps steps-of.Kinds.r steps-of.Reads.Learnt (λ κs r e. (r.g, r.numbers))
+steps_of_determined κs a r s x y p q = both (determined p.0 q.0) (determined p.1 q.1)
 
-pub add_batch_in_determined : DeterminesBy {A = Added × (List ℕ × List ℕ)} 5 add-batch-in.Kinds.ps
-    add-batch-in.Kinds.r add-batch-in.Reads.Learnt (λ κs a r e. (r, lent_lists a.0 e.1.1.0.now e.1.1.1.0.now))
-add_batch_in_determined κs a r s x y p q =
-    both (determined p.0 q.0) (ap (lists_in a.0) (determined p.1 q.1))
-
-pub add_batch_determined : Determines {A = Added × List ℕ} 4 add-batch.Kinds.ps add-batch.Kinds.r add-batch.Reads.Learnt
-    (λ κs r e. (r, e.1.0.now))
-add_batch_determined κs a r s x y p q = both (determined p.0 q.0) (determined p.1 q.1)
+pub add_batch_determined : DeterminesIn {A = Option ℕ × (List ℕ × List ℕ)} 6 add-batch.Kinds.ps add-batch.Kinds.r add-batch.Reads.Learnt
+    (λ T laws l κs r e. (r, lent_lists l e.1.0.now e.1.1.0.now))
+add_batch_determined T laws l d κs a r s x y p q = both (determined p.0 q.0) (ap (lists_in l.layout) (determined p.1 q.1))
 
 -- ---- loader
-pub load_scaled_in_determined : DeterminesBy {A = ℕ × (List ℕ × List ℕ)} 4 load-scaled-in.Kinds.ps
-    load-scaled-in.Kinds.r load-scaled-in.Reads.Learnt
-    (λ κs a r e. (r, lent_lists a.0 e.1.1.1.1.1.0.now e.1.1.1.1.1.1.0.now))
-load_scaled_in_determined κs a r s x y p q =
-    both (determined p.0 q.0) (ap (lists_in a.0) (determined p.1 q.1))
+pub load_scaled_determined : DeterminesIn {A = Result (Unit {0}) Refusal × (List ℕ × List ℕ)} 5 load-scaled.Kinds.ps load-scaled.Kinds.r load-scaled.Reads.Learnt
+    (λ T laws l κs r e. (r, lent_lists l e.1.1.1.1.0.now e.1.1.1.1.1.0.now))
+load_scaled_determined T laws l d κs a r s x y p q =
+    both (answer_tells r s (determined p.0 q.0)) (ap (lists_in l.layout) (determined p.1 q.1))
 
-pub load_scaled_determined : Determines {A = ℕ × List ℕ} 3 load-scaled.Kinds.ps load-scaled.Kinds.r
-    load-scaled.Reads.Learnt (λ κs r e. (r, e.1.1.1.1.0.now))
-load_scaled_determined κs a r s x y p q = both (determined p.0 q.0) (determined p.1 q.1)
+pub load_determined : DeterminesIn {A = Result (Unit {0}) Refusal × (List ℕ × List ℕ)} 5 load.Kinds.ps load.Kinds.r load.Reads.Learnt
+    (λ T laws l κs r e. (r, lent_lists l e.1.1.1.0.now e.1.1.1.1.0.now))
+load_determined T laws l d κs a r s x y p q =
+    both (answer_tells r s (determined p.0 q.0)) (ap (lists_in l.layout) (determined p.1 q.1))
 
-pub load_in_determined : DeterminesBy {A = ℕ × (List ℕ × List ℕ)} 4 load-in.Kinds.ps load-in.Kinds.r
-    load-in.Reads.Learnt (λ κs a r e. (r, lent_lists a.0 e.1.1.1.1.0.now e.1.1.1.1.1.0.now))
-load_in_determined κs a r s x y p q =
-    both (determined p.0 q.0) (ap (lists_in a.0) (determined p.1 q.1))
-
-pub load_determined : Determines {A = ℕ × List ℕ} 3 load.Kinds.ps load.Kinds.r load.Reads.Learnt
-    (λ κs r e. (r, e.1.1.1.0.now))
-load_determined κs a r s x y p q = both (determined p.0 q.0) (determined p.1 q.1)
-
-pub merge_in_determined : DeterminesBy {A = ℕ × (List ℕ × List ℕ)} 4 merge_in.Kinds.ps merge_in.Kinds.r
-    merge_in.Reads.Learnt (λ κs a r e. (r, lent_lists a.0 e.1.1.1.1.0.now e.1.1.1.1.1.0.now))
-merge_in_determined κs a r s x y p q =
-    both (determined p.0 q.0) (ap (lists_in a.0) (determined p.1 q.1))
-
-pub merge_determined : Determines {A = ℕ × List ℕ} 2 merge.Kinds.ps merge.Kinds.r merge.Reads.Learnt
-    (λ κs r e. (r, e.1.1.1.0.now))
-merge_determined κs a r s x y p q = both (determined p.0 q.0) (determined p.1 q.1)
+pub merge_determined : DeterminesIn {A = Result (Unit {0}) Refusal × (List ℕ × List ℕ)} 5 merge.Kinds.ps merge.Kinds.r merge.Reads.Learnt
+    (λ T laws l κs r e. (r, lent_lists l e.1.1.1.0.now e.1.1.1.1.0.now))
+merge_determined T laws l d κs a r s x y p q =
+    both (answer_tells r s (determined p.0 q.0)) (ap (lists_in l.layout) (determined p.1 q.1))
 
 -- ---- recorder
 pub begin_determined : Determines 0 begin.Kinds.ps begin.Kinds.r begin.Reads.Learnt (λ κs r e. r)
@@ -293,9 +319,9 @@ begin_determined κs a r s x y p q = determined p q
 pub reload_determined : Determines 0 reload.Kinds.ps reload.Kinds.r reload.Reads.Learnt (λ κs r e. r)
 reload_determined κs a r s x y p q = determined p q
 
-pub batch_determined : Determines {A = ℕ × List ℕ} 3 batch.Kinds.ps batch.Kinds.r batch.Reads.Learnt
+pub batch_determined : Determines {A = Result (Unit {0}) Refusal × List ℕ} 3 batch.Kinds.ps batch.Kinds.r batch.Reads.Learnt
     (λ κs r e. (r, e.1.1.1.1.1.0.now))
-batch_determined κs a r s x y p q = both (determined p.0 q.0) (determined p.1 q.1)
+batch_determined κs a r s x y p q = both (answer_tells r s (determined p.0 q.0)) (determined p.1 q.1)
 
 pub replay_determined : Determines {A = SessionAnswer × (List ℕ × List ℕ)} 5 replay.Kinds.ps replay.Kinds.r
     replay.Reads.Learnt (λ κs r e. (r, (e.1.1.1.1.0.now, e.1.1.1.1.1.1.1.1.0.now)))
@@ -306,9 +332,9 @@ replay_determined κs a r s x y p q =
 pub read_header_determined : Determines 1 read-header.Kinds.ps read-header.Kinds.r read-header.Reads.Learnt (λ κs r e. r)
 read_header_determined κs a r s x y p q = determined p q
 
-pub load_ppm_determined : Determines {A = ℕ × List ℕ} 2 load-ppm.Kinds.ps load-ppm.Kinds.r load-ppm.Reads.Learnt
+pub load_ppm_determined : Determines {A = Result (Unit {0}) Refusal × List ℕ} 2 load-ppm.Kinds.ps load-ppm.Kinds.r load-ppm.Reads.Learnt
     (λ κs r e. (r, e.1.1.1.0.now))
-load_ppm_determined κs a r s x y p q = both (determined p.0 q.0) (determined p.1 q.1)
+load_ppm_determined κs a r s x y p q = both (answer_tells r s (determined p.0 q.0)) (determined p.1 q.1)
 
 -- ---- compare
 pub compare_determined : Determines {A = Compared × List ℤ} 3 compare.Kinds.ps compare.Kinds.r compare.Reads.Learnt
@@ -316,24 +342,25 @@ pub compare_determined : Determines {A = Compared × List ℤ} 3 compare.Kinds.p
 compare_determined κs a r s x y p q = both (determined p.0 q.0) (determined p.1 q.1)
 
 -- ---- rescue
-pub rescue_determined : Determines {A = ℕ × (List ℕ × List ℕ)} 2 rescue.Kinds.ps rescue.Kinds.r rescue.Reads.Learnt
+pub rescue_determined : Determines {A = Result (Unit {0}) Refusal × (List ℕ × List ℕ)} 2 rescue.Kinds.ps rescue.Kinds.r rescue.Reads.Learnt
     (λ κs r e. (r, (e.1.1.1.0.now, e.1.1.1.1.0.now)))
 rescue_determined κs a r s x y p q =
-    both (determined p.0 q.0) (both (determined p.1.0 q.1.0) (determined p.1.1 q.1.1))
+    both (answer_tells r s (determined p.0 q.0)) (both (determined p.1.0 q.1.0) (determined p.1.1 q.1.1))
 
 -- ---- widen
-pub widen_determined : Determines {A = ℕ × List ℕ} 3 widen.Kinds.ps widen.Kinds.r widen.Reads.Learnt
+pub widen_determined : Determines {A = Result (Unit {0}) Refusal × List ℕ} 3 widen.Kinds.ps widen.Kinds.r widen.Reads.Learnt
     (λ κs r e. (r, e.1.1.1.1.1.0.now))
-widen_determined κs a r s x y p q = both (determined p.0 q.0) (determined p.1 q.1)
+widen_determined κs a r s x y p q = both (answer_tells r s (determined p.0 q.0)) (determined p.1 q.1)
 
 -- ---- bins
-pub add_up_determined : Determines 2 add-up.Kinds.ps add-up.Kinds.r add-up.Reads.Learnt (λ κs r e. r)
-add_up_determined κs a r s x y p q = determined p q
+pub add_up_determined : DeterminesIn {A = Cell} 3 add-up.Kinds.ps add-up.Kinds.r add-up.Reads.Learnt
+    (λ T laws l κs r e. r)
+add_up_determined T laws l d κs a r s x y p q = determined p q
 
 -- ---- sums
-pub moments_determined : DeterminesBy 4 moments.Kinds.ps moments.Kinds.r moments.Reads.Learnt
-    (λ κs a r e. lent_lists a.0 e.1.1.1.1.0.now e.1.1.1.1.1.0.now)
-moments_determined κs a r s x y p q = ap (lists_in a.0) (determined p q)
+pub moments_determined : DeterminesIn 5 moments.Kinds.ps moments.Kinds.r moments.Reads.Learnt
+    (λ T laws l κs r e. lent_lists l e.1.1.1.0.now e.1.1.1.1.0.now)
+moments_determined T laws l d κs a r s x y p q = ap (lists_in l.layout) (determined p q)
 
 pub in_float_determined : Determines 0 in_float_lem.Kinds.ps in_float_lem.Kinds.r in_float_lem.Reads.Learnt (λ κs r e. r)
 in_float_determined κs a r s x y p q = determined p q
@@ -341,12 +368,13 @@ in_float_determined κs a r s x y p q = determined p q
 pub stats_of_determined : Determines 0 stats-of.Kinds.ps stats-of.Kinds.r stats-of.Reads.Learnt (λ κs r e. r)
 stats_of_determined κs a r s x y p q = determined p q
 
-pub sum_of_bins_determined : Determines 2 sum-of-bins.Kinds.ps sum-of-bins.Kinds.r sum-of-bins.Reads.Learnt
-    (λ κs r e. r)
-sum_of_bins_determined κs a r s x y p q = determined p q
+pub sum_of_bins_determined : DeterminesIn {A = Stats} 3 sum-of-bins.Kinds.ps sum-of-bins.Kinds.r sum-of-bins.Reads.Learnt
+    (λ T laws l κs r e. r)
+sum_of_bins_determined T laws l d κs a r s x y p q = determined p q
 
-pub box_sum_determined : Determines 4 box-sum.Kinds.ps box-sum.Kinds.r box-sum.Reads.Learnt (λ κs r e. r)
-box_sum_determined κs a r s x y p q = determined p q
+pub box_sum_determined : DeterminesIn {A = Stats} 5 box-sum.Kinds.ps box-sum.Kinds.r box-sum.Reads.Learnt
+    (λ T laws l κs r e. r)
+box_sum_determined T laws l d κs a r s x y p q = determined p q
 
 -- ---- spread
 pub spread_determined : Determines 0 spread.Kinds.ps spread.Kinds.r spread.Reads.Learnt (λ κs r e. r)
@@ -355,83 +383,101 @@ spread_determined κs a r s x y p q = determined p q
 pub score_determined : Determines 0 score.Kinds.ps score.Kinds.r score.Reads.Learnt (λ κs r e. r)
 score_determined κs a r s x y p q = determined p q
 
-pub position_between_determined : Determines 0 position-between.Kinds.ps position-between.Kinds.r
-    position-between.Reads.Learnt (λ κs r e. r)
+pub position_between_determined : Determines 0 position-between.Kinds.ps position-between.Kinds.r position-between.Reads.Learnt (λ κs r e. r)
 position_between_determined κs a r s x y p q = determined p q
 
 pub better_determined : Determines 0 better.Kinds.ps better.Kinds.r better.Reads.Learnt (λ κs r e. r)
 better_determined κs a r s x y p q = determined p q
 
-pub best_cut_determined : Determines 4 best-cut.Kinds.ps best-cut.Kinds.r best-cut.Reads.Learnt (λ κs r e. r)
-best_cut_determined κs a r s x y p q = determined p q
+pub best_cut_determined : DeterminesIn {A = Option BestCut} 5 best-cut.Kinds.ps best-cut.Kinds.r best-cut.Reads.Learnt
+    (λ T laws l κs r e. r)
+best_cut_determined T laws l d κs a r s x y p q = determined p q
 
 -- ---- heap
-pub put_in_determined : Determines {A = List Float × List ℕ} 2 put_in.Kinds.ps put_in.Kinds.r put_in.Reads.Learnt
-    (λ κs r e. (e.0.now, e.1.0.now))
-put_in_determined κs a r s x y p q = both (determined p.0 q.0) (determined p.1 q.1)
+-- two heaps are one where they have the same room and as many places in use
+same_heap : {x y : Heap} → x.room ≡ y.room → x.len ≡ y.len → x ≡ y
+same_heap {x} {y} p q = λ i. record {
+  room = p i;
+  len = q i;
+  in_room = is_prop→PathP (λ j. q j ≤ 256) (λ j. le_prop) x.in_room y.in_room i;
+}
 
-pub take_out_determined : Determines {A = List Float × List ℕ} 2 take_out.Kinds.ps take_out.Kinds.r
-    take_out.Reads.Learnt (λ κs r e. (e.0.now, e.1.0.now))
-take_out_determined κs a r s x y p q = both (determined p.0 q.0) (determined p.1 q.1)
+pub heap_new_determined : Determines 0 heap-new.Kinds.ps heap-new.Kinds.r heap-new.Reads.Learnt (λ κs r e. r)
+heap_new_determined κs a r s x y p q = same_heap (determined p.0 q.0) (determined p.1 q.1)
+
+pub heap_len_determined : Determines 1 heap-len.Kinds.ps heap-len.Kinds.r heap-len.Reads.Learnt (λ κs r e. r)
+heap_len_determined κs a r s x y p q = determined p q
+
+pub heap_room_determined : Determines 1 heap-room.Kinds.ps heap-room.Kinds.r heap-room.Reads.Learnt (λ κs r e. r.now)
+heap_room_determined κs a r s x y p q = determined p.0 q.0
+
+pub heap_top_determined : Determines 1 heap-top.Kinds.ps heap-top.Kinds.r heap-top.Reads.Learnt (λ κs r e. r)
+heap_top_determined κs a r s x y p q = determined p q
+
+pub put_in_determined : Determines 1 put_in.Kinds.ps put_in.Kinds.r put_in.Reads.Learnt (λ κs r e. e.0.now)
+put_in_determined κs a r s x y p q = same_heap (determined p.0 q.0) (determined p.1 q.1)
+
+pub take_out_determined : Determines {A = BoxSpread × Heap} 1 take_out.Kinds.ps take_out.Kinds.r take_out.Reads.Learnt
+    (λ κs r e. (r, e.0.now))
+take_out_determined κs a r s x y p q =
+    both (determined p.0 q.0) (same_heap {x = x.0.now} {y = y.0.now} (determined p.1.0 q.1.0) (determined p.1.1 q.1.1))
 
 -- ---- rounds
-pub cut_boxes_determined : Determines 4 cut-boxes.Kinds.ps cut-boxes.Kinds.r cut-boxes.Reads.Learnt (λ κs r e. r)
-cut_boxes_determined κs a r s x y p q = determined p q
+pub cut_boxes_determined : DeterminesIn {A = Boxes} 5 cut-boxes.Kinds.ps cut-boxes.Kinds.r cut-boxes.Reads.Learnt
+    (λ T laws l κs r e. r)
+cut_boxes_determined T laws l d κs a r s x y p q = determined p q
 
 -- ---- cutter
 pub front_determined : Determines 1 front.Kinds.ps front.Kinds.r front.Reads.Learnt (λ κs r e. r.now)
 front_determined κs a r s x y p q = determined p q
 
-pub cut_from_determined : DeterminesBy {A = CutRecord × (List ℕ × List ℕ) × Results} 8 cut-from.Kinds.ps
-    cut-from.Kinds.r cut-from.Reads.Learnt
-    (λ κs a r e. (
+-- two results of a cut with one record are the same
+record_tells : (r s : Result Boxes Refusal) → record_of r ≡ record_of s → r ≡ s
+unfolding done_record refused_record
+record_tells (Ok b) (Ok c) e =
+    ap (λ (x : CutRecord). Ok (record { boxes = x.boxes; rounds = x.rounds; places = x.places })) e
+record_tells (Ok b) (Err s) e = absurd (true≢false (ap (λ (x : CutRecord). eqb x.number 0) e ∙ not_done s))
+record_tells (Err r) (Ok c) e = absurd (true≢false (sym (ap (λ (x : CutRecord). eqb x.number 0) e) ∙ not_done r))
+record_tells (Err r) (Err s) e =
+    ap (λ (x : Refusal). Err x) (number_tells r s (ap (λ (x : CutRecord). x.number) e))
+
+pub cut_determined : DeterminesIn {A = Result Boxes Refusal × (List ℕ × List ℕ) × Results} 9 cut.Kinds.ps cut.Kinds.r
+    cut.Reads.Learnt
+    (λ T laws l κs r e. (
       r,
-      lent_lists a.1.0 e.1.1.1.1.1.1.1.1.0.now e.1.1.1.1.1.1.1.1.1.0.now,
+      lent_lists l e.1.1.1.1.1.1.1.0.now e.1.1.1.1.1.1.1.1.0.now,
       record {
-        palette = e.1.1.1.1.1.1.1.1.1.1.0.now;
-        counts = e.1.1.1.1.1.1.1.1.1.1.1.0.now;
-        remainders = e.1.1.1.1.1.1.1.1.1.1.1.1.0.now;
-        map = e.1.1.1.1.1.1.1.1.1.1.1.1.1.0.now;
+        palette = e.1.1.1.1.1.1.1.1.1.0.now;
+        counts = e.1.1.1.1.1.1.1.1.1.1.0.now;
+        remainders = e.1.1.1.1.1.1.1.1.1.1.1.0.now;
+        map = e.1.1.1.1.1.1.1.1.1.1.1.1.0.now;
       },
     ))
-cut_from_determined κs a r s x y p q =
+cut_determined T laws l d κs a r s x y p q =
     let later = determined p.1 q.1 in
-    λ i. (determined p.0 q.0 i, lists_in a.1.0 (later i).work, (later i).results)
-
-pub cut_determined : Determines {A = CutRecord × Buffers} 6 cut.Kinds.ps cut.Kinds.r cut.Reads.Learnt
-    (λ κs r e. (
-      r,
-      buffers e.1.1.1.1.1.0.now e.1.1.1.1.1.1.0.now e.1.1.1.1.1.1.1.0.now
-          e.1.1.1.1.1.1.1.1.0.now e.1.1.1.1.1.1.1.1.1.0.now,
-    ))
-cut_determined κs a r s x y p q = both (determined p.0 q.0) (determined p.1 q.1)
-
-pub cut_slowly_determined : Determines {A = CutRecord × Buffers} 5 cut-slowly.Kinds.ps cut-slowly.Kinds.r
-    cut-slowly.Reads.Learnt
-    (λ κs r e. (
-      r,
-      buffers no_work e.1.1.1.1.1.0.now e.1.1.1.1.1.1.0.now e.1.1.1.1.1.1.1.0.now
-          e.1.1.1.1.1.1.1.1.0.now,
-    ))
-cut_slowly_determined κs a r s x y p q = both (determined p.0 q.0) (determined p.1 q.1)
+    λ i. (record_tells r s (determined p.0 q.0) i, lists_in l.layout (later i).work, (later i).results)
 
 -- ---- band
-pub band_number_determined : Determines 1 band-number.Kinds.ps band-number.Kinds.r band-number.Reads.Learnt
-    (λ κs r e. r)
-band_number_determined κs a r s x y p q = determined p q
+pub band_number_determined : Determines {A = Result (Unit {0}) Refusal} 1 band-number.Kinds.ps band-number.Kinds.r
+    band-number.Reads.Learnt (λ κs r e. r)
+band_number_determined κs a r s x y p q = answer_tells r s (determined p q)
 
-pub index_at_determined : Determines 4 index_at.Kinds.ps index_at.Kinds.r index_at.Reads.Learnt (λ κs r e. r)
+pub look_up_of_determined : Determines {A = Grid × List ℕ} 1 look-up-of.Kinds.ps look-up-of.Kinds.r
+    look-up-of.Reads.Learnt (λ κs r e. (r.g, r.map.now))
+look_up_of_determined κs a r s x y p q = both (determined p.0 q.0) (determined p.1 q.1)
+
+pub index_at_determined : Determines 3 index_at.Kinds.ps index_at.Kinds.r index_at.Reads.Learnt (λ κs r e. r)
 index_at_determined κs a r s x y p q = determined p q
 
 -- ---- mapper
-pub map_determined : Determines {A = ℕ × List ℕ} 3 map.Kinds.ps map.Kinds.r map.Reads.Learnt
+pub map_determined : Determines {A = Result (Unit {0}) Refusal × List ℕ} 3 map.Kinds.ps map.Kinds.r map.Reads.Learnt
     (λ κs r e. (r, e.1.1.1.1.1.1.0.now))
-map_determined κs a r s x y p q = both (determined p.0 q.0) (determined p.1 q.1)
+map_determined κs a r s x y p q = both (answer_tells r s (determined p.0 q.0)) (determined p.1 q.1)
 
 -- ---- painter
-pub paint_determined : Determines {A = ℕ × List ℕ} 3 paint.Kinds.ps paint.Kinds.r paint.Reads.Learnt
+pub paint_determined : Determines {A = Result (Unit {0}) Refusal × List ℕ} 3 paint.Kinds.ps paint.Kinds.r paint.Reads.Learnt
     (λ κs r e. (r, e.1.1.1.1.1.0.now))
-paint_determined κs a r s x y p q = both (determined p.0 q.0) (determined p.1 q.1)
+paint_determined κs a r s x y p q = both (answer_tells r s (determined p.0 q.0)) (determined p.1 q.1)
 
 -- ---- inputs
 pub begins_with_determined : Determines 2 begins-with.Kinds.ps begins-with.Kinds.r begins-with.Reads.Learnt (λ κs r e. r)
@@ -446,9 +492,9 @@ pub frame_number_determined : Determines 0 frame-number.Kinds.ps frame-number.Ki
 frame_number_determined κs a r s x y p q = determined p q
 
 -- ---- terminal
-pub nearest_determined : Determines {A = ℕ × List ℕ} 2 nearest.Kinds.ps nearest.Kinds.r nearest.Reads.Learnt
+pub nearest_determined : Determines {A = Result (Unit {0}) Refusal × List ℕ} 2 nearest.Kinds.ps nearest.Kinds.r nearest.Reads.Learnt
     (λ κs r e. (r, e.1.0.now))
-nearest_determined κs a r s x y p q = both (determined p.0 q.0) (determined p.1 q.1)
+nearest_determined κs a r s x y p q = both (answer_tells r s (determined p.0 q.0)) (determined p.1 q.1)
 
 -- ---- lines
 pub empty_table_determined : Determines 0 empty_table_lem.Kinds.ps empty_table_lem.Kinds.r empty_table_lem.Reads.Learnt
@@ -459,26 +505,31 @@ pub load_batch_determined : Determines {A = Loaded × List ℕ} 2 load-batch.Kin
     load-batch.Reads.Learnt (λ κs r e. (r, e.0.now))
 load_batch_determined κs a r s x y p q = both (determined p.0 q.0) (determined p.1 q.1)
 
-pub word_determined : Determines {A = ℕ × List ℕ} 2 word.Kinds.ps word.Kinds.r word.Reads.Learnt
-    (λ κs r e. (r, e.0.now))
-word_determined κs a r s x y p q = both (determined p.ends q.ends) (determined p.later q.later)
+same_written : {before one two : Writer} {text : List ℕ} {room : ℕ} → Writes before text room one
+    → Writes before text room two → written one ≡ written two
+same_written p q = both (determined p.put.ends q.put.ends) (determined p.put.later q.put.later)
 
-pub named_determined : Determines {A = ℕ × List ℕ} 2 named.Kinds.ps named.Kinds.r named.Reads.Learnt
-    (λ κs r e. (r, e.0.now))
-named_determined κs a r s x y p q =
-    both (determined p.0.ends q.0.ends) (determined p.0.later q.0.later)
+pub cut_loaded_determined : Determines 1 cut-loaded.Kinds.ps cut-loaded.Kinds.r cut-loaded.Reads.Learnt (λ κs r e. r)
+cut_loaded_determined κs a r s x y p q = determined p.0 q.0
 
-pub head_determined : Determines {A = ℕ × List ℕ} 1 head.Kinds.ps head.Kinds.r head.Reads.Learnt
-    (λ κs r e. (r, e.0.now))
-head_determined κs a r s x y p q = both (determined p.0.ends q.0.ends) (determined p.0.later q.0.later)
+pub word_determined : Determines {A = ℕ × List ℕ} 3 word.Kinds.ps word.Kinds.r word.Reads.Learnt
+    (λ κs r e. written e.0.now)
+word_determined κs a r s x y p q = same_written p q
+
+pub named_determined : Determines {A = ℕ × List ℕ} 3 named.Kinds.ps named.Kinds.r named.Reads.Learnt
+    (λ κs r e. written e.0.now)
+named_determined κs a r s x y p q = same_written p q
+
+pub head_determined : Determines {A = ℕ × List ℕ} 2 head.Kinds.ps head.Kinds.r head.Reads.Learnt
+    (λ κs r e. written e.0.now)
+head_determined κs a r s x y p q = same_written p q
 
 pub total_determined : Determines 1 total.Kinds.ps total.Kinds.r total.Reads.Learnt (λ κs r e. r)
 total_determined κs a r s x y p q = determined p q
 
-pub box_line_determined : Determines {A = ℕ × List ℕ} 3 box-line.Kinds.ps box-line.Kinds.r box-line.Reads.Learnt
-    (λ κs r e. (r, e.0.now))
-box_line_determined κs a r s x y p q =
-    both (determined p.0.ends q.0.ends) (determined p.0.later q.0.later)
+pub box_line_determined : Determines {A = ℕ × List ℕ} 4 box-line.Kinds.ps box-line.Kinds.r box-line.Reads.Learnt
+    (λ κs r e. written e.0.now)
+box_line_determined κs a r s x y p q = same_written p q
 
 pub refused_determined : Determines {A = ℕ × List ℕ} 1 refused.Kinds.ps refused.Kinds.r refused.Reads.Learnt
     (λ κs r e. (r, e.1.0.now))

@@ -1,15 +1,15 @@
 -- Doubling (Rules, Doubling), where a table comes from: a plan of loads and merges whose weights are all multiplied by
 -- a power of two runs to the multiplied table. In either layout.
 -- Assumes nothing.
+use Rattle.std.specs.Prelude.{Some}
 use mathlib.Core.Path.{◌≡◌, sym, ap, ◌∙◌}
 use mathlib.Core.List.{List, map}
 use Prim.Native.Nat.{ℕ, ◌*◌, ◌^◌, ◌≤◌}
 use native.Mathlib.Nat.{mul_comm, le_trans, le_of_eq}
 use Rattle.grid.specs.declared.place.Grid.{Grid}
-use Rattle.grid.specs.declared.place.Chosen.TheVariants as chosen
 use Rattle.grid.specs.Grid.{grid_of, bins_of}
 use Rattle.grid.proofs.Places.{chose}
-use Rattle.table.specs.declared.layout.Layout.{Layout}
+use Rattle.table.specs.Layouts.{Layout}
 use Rattle.table.specs.Layout.{TableIn, view_in}
 use Rattle.table.specs.Sound.{limit_of, total}
 use Rattle.table.proofs.Layouts.{holds_list_in, holds_same_in}
@@ -37,7 +37,7 @@ table_doubled l g e cs =
     }))
 
 -- "is what loading with multiplied weights gives"
-pub plan_doubles : (l : Layout) (b1 b2 b3 : ℕ) {g : Grid} → grid_of b1 b2 b3 ≡ chosen.Accepted g → (p : Plan)
+pub plan_doubles : (l : Layout) (b1 b2 b3 : ℕ) {g : Grid} → grid_of b1 b2 b3 ≡ Some g → (p : Plan)
     → BytesIn p → {t : TableIn l} → ends_in l b1 b2 b3 p ≡ Filled t → (e : ℕ)
     → total g (view_in l t) * 2 ^ e ≤ limit_of l → ends_in l b1 b2 b3 (doubled_plan e p) ≡ Filled (doubled_in l e t)
 plan_doubles l b1 b2 b3 {g} grid p y {t} r e fits =

@@ -1,6 +1,7 @@
 -- Doubling (Rules, Doubling): a cut of a sound table whose numbers are all multiplied by a power of two. In either
 -- layout, and with either source of sums.
 -- Assumes nothing.
+use Rattle.std.specs.Prelude.{Some}
 use mathlib.Core.Path.{◌≡◌, refl, sym, ap, ap₂, subst, ◌∙◌}
 use mathlib.Core.Bool.{Bool, true, false, not, ◌&&◌, cond}
 use mathlib.Core.List.{List, [], ◌∷◌, map, ◌++◌, map-append}
@@ -18,10 +19,9 @@ use Rattle.basics.specs.Range.{list_from}
 use Rattle.basics.proofs.Range.{length_list, tests_same}
 use Rattle.basics.proofs.Lists.{map_list}
 use Rattle.grid.specs.declared.place.Grid.{Grid}
-use Rattle.grid.specs.declared.place.Chosen.TheVariants as chosen
 use Rattle.grid.specs.Grid.{grid_of, on_grid, number_on, Accepted, bins_of, colour_place}
-use Rattle.table.specs.declared.layout.Layout.{Layout}
-use Rattle.table.specs.declared.layout.Layout.TheVariants.{Wide, Narrow}
+use Rattle.table.specs.Layouts.{Layout}
+use Rattle.table.specs.Layouts.{Wide, Narrow}
 use Rattle.table.specs.Cell.{View}
 use Rattle.table.specs.Narrow.{NarrowTable, narrow_view}
 use Rattle.table.specs.Layout.{TableIn, SizedIn, is_sized_in, view_in, written_in}
@@ -38,7 +38,7 @@ use Rattle.sums.specs.declared.source.Source.{Source}
 use Rattle.sums.specs.declared.source.Source.TheVariants.{Moments}
 use Rattle.sums.specs.Moments.{moments_of}
 use Rattle.heap.specs.Heap.{item}
-use Rattle.rounds.specs.declared.gather.BoxSpread.{BoxSpread}
+use Rattle.heap.specs.declared.heap.BoxSpread.{BoxSpread}
 use Rattle.rounds.specs.declared.gather.Boxes.{Boxes}
 use Rattle.rounds.specs.Loop.{no_item, with_zero, places_of, heap_of, boxes_of}
 use Rattle.rounds.proofs.Filled.{Each, heap_in_use}
@@ -257,7 +257,7 @@ list_long g v k most =
     ))
 
 -- ---- the law
-module _ (l : Layout) (b1 b2 b3 : ℕ) {g : Grid} (grid : grid_of b1 b2 b3 ≡ chosen.Accepted g) (t : TableIn l) (e : ℕ)
+module _ (l : Layout) (b1 b2 b3 : ℕ) {g : Grid} (grid : grid_of b1 b2 b3 ≡ Some g) (t : TableIn l) (e : ℕ)
     (can : CanDouble l g t e) where
   abbrev v : View
   v = view_in l t

@@ -1,6 +1,7 @@
 -- The two engines (Rules, Engines): the cut that adds up bins gives what the cut with moments gives, refusals too, and
 -- touches nothing else. So Tiling, Full, Rounds, Remainders and Order, which speak of either, say the same of both.
 -- Assumes nothing.
+use Rattle.std.specs.Prelude.{None, Option, Some}
 use mathlib.Core.Path.{◌≡◌, refl, ap, ◌∙◌, sym}
 use mathlib.Core.Logic.{◌⊎◌, inl, inr, ⊎_elim}
 use mathlib.Core.Bool.{Bool, true, false, not, ◌&&◌}
@@ -12,17 +13,15 @@ use lib.ListN.{length}
 use lib.Ieee.{Float}
 use Rattle.basics.specs.Answer.{refuse, when_done}
 use Rattle.grid.specs.declared.place.Grid.{Grid}
-use Rattle.grid.specs.declared.place.Chosen.{Chosen}
-use Rattle.grid.specs.declared.place.Chosen.TheVariants as chosen
 use Rattle.grid.specs.Grid.{grid_of, grid_answer, on_grid, number_on}
-use Rattle.table.specs.declared.layout.Layout.{Layout}
+use Rattle.table.specs.Layouts.{Layout}
 use Rattle.table.specs.Cell.{View}
 use Rattle.table.specs.Layout.{TableIn, view_in}
 use Rattle.table.specs.Sound.{limit_of, total, sound}
 use Rattle.sums.specs.declared.source.Source.{Source}
 use Rattle.sums.specs.declared.source.Source.TheVariants.{Moments, Bins}
 use Rattle.rounds.specs.Loop.{boxes_of}
-use Rattle.cutter.specs.declared.call.CutRecord.{CutRecord}
+use Rattle.cutter.specs.Record.{CutRecord}
 use Rattle.cutter.specs.Cut.{Results, BuffersIn, work_fits, long_enough, lengths_right, cut_number_on, cut_number_in}
 use Rattle.cutter.specs.Cut.{refused_record, done_record, record_on, cut_record_in, later_on, cut_later_in}
 use Rattle.cutter.specs.Fronts.{filled}
@@ -67,12 +66,12 @@ module _ (layout : Layout) (b1 b2 b3 k : ℕ) (t work : TableIn layout) (r : Res
   number_on_lem source g = cut_number_on (limit_of layout) g k (fit source g) (view_in layout t)
 
   -- no grid: neither looks at anything else
-  same_without_grid : grid_of b1 b2 b3 ≡ chosen.Refused → SameEngines layout b1 b2 b3 k t work r
+  same_without_grid : grid_of b1 b2 b3 ≡ None → SameEngines layout b1 b2 b3 k t work r
   unfolding cut_number_in cut_record_in cut_later_in number_on on_grid grid_answer
   same_without_grid e = record { number = rw e refl; hands = rw e refl; leaves = rw e refl }
 
   -- on a grid the answer decides
-  same_by_number : {g : Grid} → grid_of b1 b2 b3 ≡ chosen.Accepted g → number_on_lem Bins g ≡ number_on_lem Moments g
+  same_by_number : {g : Grid} → grid_of b1 b2 b3 ≡ Some g → number_on_lem Bins g ≡ number_on_lem Moments g
       → SameEngines layout b1 b2 b3 k t work r
   unfolding cut_number_in cut_record_in cut_later_in record_on number_on on_grid when_done later_on
   same_by_number {g} e m =
@@ -95,18 +94,18 @@ module _ (layout : Layout) (b1 b2 b3 k : ℕ) (t work : TableIn layout) (r : Res
   same_fit g h = sym (rw (fit_moments h) refl)
 
   -- "the same boxes, order, palette, counts and map on every sound table, and the same refusals"
-  pub engines_agree : {g : Grid} → grid_of b1 b2 b3 ≡ chosen.Accepted g → ExactWork layout g work
+  pub engines_agree : {g : Grid} → grid_of b1 b2 b3 ≡ Some g → ExactWork layout g work
       → SameEngines layout b1 b2 b3 k t work r
   engines_agree {g} e h = same_by_number e (ap (λ (b : Bool). cut_number_on (limit_of layout) g k b (view_in layout t)) (same_fit g h))
 
   -- 1 and 2, whatever is lent as a work table, by either engine's answer
-  first_two : (c : Chosen) → grid_of b1 b2 b3 ≡ c
+  first_two : (c : Option Grid) → grid_of b1 b2 b3 ≡ c
       → FirstTwo (number_on c (number_on_lem Bins)) ⊎ FirstTwo (number_on c (number_on_lem Moments))
       → SameEngines layout b1 b2 b3 k t work r
   unfolding number_on on_grid
-  first_two chosen.Refused e f = same_without_grid e
-  first_two (chosen.Accepted g) e (inl f) = same_by_number e (numbers_two (limit_of layout) g k (view_in layout t) (fit Bins g) (fit Moments g) f)
-  first_two (chosen.Accepted g) e (inr f) = same_by_number e (sym (numbers_two (limit_of layout) g k (view_in layout t) (fit Moments g) (fit Bins g) f))
+  first_two None e f = same_without_grid e
+  first_two (Some g) e (inl f) = same_by_number e (numbers_two (limit_of layout) g k (view_in layout t) (fit Bins g) (fit Moments g) f)
+  first_two (Some g) e (inr f) = same_by_number e (sym (numbers_two (limit_of layout) g k (view_in layout t) (fit Moments g) (fit Bins g) f))
 
   pub first_refusals : FirstTwo (cut_number_in layout Bins b1 b2 b3 k t (without_work layout r))
       ⊎ FirstTwo (cut_number_in layout Moments b1 b2 b3 k t (with_work layout work r)) → SameEngines layout b1 b2 b3 k t work r
@@ -173,21 +172,21 @@ module _ (layout : Layout) (b1 b2 b3 k : ℕ) (t work : TableIn layout) (r : Res
       ∙ sym (in_stages layout Moments b1 b2 b3 k t fast)
 
   -- the calls agree on a grid with a work table of its length
-  pub calls_agree : {g : Grid} → grid_of b1 b2 b3 ≡ chosen.Accepted g → ExactWork layout g work
+  pub calls_agree : {g : Grid} → grid_of b1 b2 b3 ≡ Some g → ExactWork layout g work
       → SameCalls layout b1 b2 b3 k t work r boxes spreads
   calls_agree e h =
       let s = engines_agree layout b1 b2 b3 k t work r e h in calls_by_number (same_call_number s) (λ z. s)
 
   -- and by 1 and 2 whatever is lent as a work table
-  first_two_calls : (c : Chosen) → grid_of b1 b2 b3 ≡ c
+  first_two_calls : (c : Option Grid) → grid_of b1 b2 b3 ≡ c
       → FirstTwo (number_on c (λ g. call_number_on layout Bins g k t slow))
       ⊎ FirstTwo (number_on c (λ g. call_number_on layout Moments g k t fast))
       → number_on c (λ g. call_number_on layout Bins g k t slow) ≡ number_on c (λ g. call_number_on layout Moments g k t fast)
   unfolding number_on on_grid call_number_on
-  first_two_calls chosen.Refused e f = refl
-  first_two_calls (chosen.Accepted g) e (inl f) =
+  first_two_calls None e f = refl
+  first_two_calls (Some g) e (inl f) =
       numbers_two (limit_of layout) g k (view_in layout t) (all_long layout Bins g k t slow) (all_long layout Moments g k t fast) f
-  first_two_calls (chosen.Accepted g) e (inr f) =
+  first_two_calls (Some g) e (inr f) =
       sym (numbers_two (limit_of layout) g k (view_in layout t) (all_long layout Moments g k t fast) (all_long layout Bins g k t slow) f)
 
   pub first_call_refusals : FirstTwo (call_number_in layout Bins b1 b2 b3 k t (lent_in layout (without_work layout r) boxes spreads))

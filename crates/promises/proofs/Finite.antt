@@ -19,7 +19,7 @@ use Rattle.boxes.specs.declared.sides.Bounds.{Bounds}
 use Rattle.boxes.specs.Box.{low_side, high_side}
 use Rattle.boxes.proofs.Within.{low_within, high_within}
 use Rattle.spread.proofs.Finite.{spread_finite, score_finite}
-use Rattle.rounds.specs.declared.gather.BoxSpread.{BoxSpread}
+use Rattle.heap.specs.declared.heap.BoxSpread.{BoxSpread}
 use Rattle.rounds.specs.Loop.{Heap, with_spread, with_zero, start_room, start, round_room, round_boxes, round, rounds}
 use Rattle.rounds.specs.Loop.{heap_of}
 use Rattle.rounds.proofs.OneRound.{round_cases, rounds_keep}
@@ -52,9 +52,11 @@ module _ {g : Grid} {v : View} (s : Sound limit g v) where
   measured_kept =
       record {
         zero_too = λ x m q. zero_measured x m.fit;
-        sides_too = λ x m {d} {i} q.
-            let both = (fit_kept g v).sides_too x m.fit q in
-            (side_measured (low_side x.bounds d i) both.0, side_measured (high_side x.bounds d i) both.1);
+        sides_too = λ x m {at} q.
+            let both = (fit_kept g v).sides_too x m.fit q in (
+              side_measured (low_side x.bounds at.dimension at.bin) both.0,
+              side_measured (high_side x.bounds at.dimension at.bin) both.1,
+            );
       }
 
   module _ (a : Accepted g) (l : 0 < total g v) where
@@ -66,12 +68,12 @@ module _ {g : Grid} {v : View} (s : Sound limit g v) where
         (λ off. absurd (true≢false off))
         (λ on none. each_put (Measured g v) _ (left_long (start_in_use g)) (omega arith) (λ p m. absurd (omega arith))
         (zero_measured (at_start g) (start_fit a l)))
-        (λ d i sc on q.
+        (λ p on q.
         let both = (fit_kept g v).sides_too (at_start g) (start_fit a l) q in
         let low = each_put (Measured g v) _ (left_long (start_in_use g)) (omega arith) (λ p m. absurd (omega arith))
-        (side_measured (low_side (at_start g).bounds d i) both.0) in
+        (side_measured (low_side (at_start g).bounds p.dimension p.bin) both.0) in
         each_put (Measured g v) _ low.in_use.long (omega arith) low.each
-        (side_measured (high_side (at_start g).bounds d i) both.1))
+        (side_measured (high_side (at_start g).bounds p.dimension p.bin) both.1))
 
     -- one round more
     next_stage : (h : Heap) → h.boxes < 256 → Stage g v h → Stage g v (round g v h)

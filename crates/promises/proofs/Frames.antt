@@ -1,6 +1,8 @@
 -- Loading a PPM (Rules, Frames): a file that none of 10, 11 and 12 refuses is loaded as its bare triples; the earliest
 -- answer that applies is given, never 3 or 4; what is given where none applies; and a refusal writes nothing.
 -- Assumes nothing.
+use Rattle.std.specs.Prelude.{None, Option, Some}
+use Rattle.grid.specs.declared.place.Grid.{Grid}
 use mathlib.Core.Path.{◌≡◌, refl, sym, ap, ◌∙◌}
 use mathlib.Core.Logic.{◌↔◌}
 use mathlib.Core.Bool.{Bool, true, false, true≢false, not, ◌&&◌, ◌||◌}
@@ -11,8 +13,6 @@ use borrow.Author.Tests.{eq-eqb}
 use lib.Dec.{eqb, ltb}
 use lib.ListN.{length}
 use Rattle.basics.specs.Answer.{refuse, when_done}
-use Rattle.grid.specs.declared.place.Chosen.{Chosen}
-use Rattle.grid.specs.declared.place.Chosen.TheVariants as chosen
 use Rattle.grid.specs.Grid.{grid_of, grid_answer, on_grid, bins_of}
 use Rattle.table.specs.Table.{Table, is_sized, view_of}
 use Rattle.table.specs.Sound.{limit, total, sound}
@@ -71,17 +71,17 @@ module _ (b1 b2 b3 : ℕ) (t : Table) (file : List ℕ) where
   unfolding pixel_tests chain no_grid on_bins on_grid grid_answer refuse
   load_chain threes = go (grid_of b1 b2 b3) refl
     where
-      go : (c : Chosen) → grid_of b1 b2 b3 ≡ c
+      go : (c : Option Grid) → grid_of b1 b2 b3 ≡ c
           → load_number b1 b2 b3 t (pixels_of file) false []
           ≡ chain (pixel_tests (grid_of b1 b2 b3) t (length (pixels_of file) / 3))
-      go (chosen.Accepted g) e =
+      go (Some g) e =
           load_tests_lem b1 b2 b3 t (pixels_of file) false [] e
           ∙ (λ j.
           refuse (not (eq-eqb (length (pixels_of file) % 3) 0 threes j)) 3
           (refuse (not (is_sized t (bins_of g))) 5
           (refuse (not (sound limit g (view_of t))) 6 (refuse (ltb limit (total g (view_of t) + weighs j)) 7 0))))
           ∙ rw e refl
-      go chosen.Refused e = sym (load_no_grid b1 b2 b3 t (pixels_of file) false [] e).0 ∙ rw e refl
+      go None e = sym (load_no_grid b1 b2 b3 t (pixels_of file) false [] e).0 ∙ rw e refl
 
   ppm_chain : ppm_number b1 b2 b3 t file ≡ chain (ppm_tests (grid_of b1 b2 b3) t file)
   unfolding ppm_number ppm_tests file_tests as_image chain when_done

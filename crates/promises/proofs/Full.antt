@@ -1,15 +1,15 @@
 -- How many boxes (Rules, Demands): of "every table loaded from colours with a total of 1 to 4,294,967,295", as many as
 -- the smaller of k and the occupied bins.
 -- Assumes nothing.
+use Rattle.std.specs.Prelude.{Some}
 use mathlib.Core.Path.{◌≡◌, sym, ap, ◌∙◌}
 use mathlib.Core.List.{List}
 use Prim.Native.Nat.{ℕ, ◌≤◌, ◌<◌, min}
 use lib.Dec.{lit<}
 use Rattle.grid.specs.declared.place.Grid.{Grid}
-use Rattle.grid.specs.declared.place.Chosen.TheVariants as chosen
 use Rattle.grid.specs.Grid.{grid_of, bins_of}
 use Rattle.grid.proofs.Places.{chose}
-use Rattle.table.specs.declared.layout.Layout.TheVariants.{Wide}
+use Rattle.table.specs.Layouts.{Wide}
 use Rattle.table.specs.Table.{view_of}
 use Rattle.table.specs.Sound.{limit, total}
 use Rattle.table.proofs.Tables.{sized_test}
@@ -29,7 +29,7 @@ use Rattle.cutter.proofs.Laws.{cut_says, cut_accepts}
 use Rattle.promises.specs.Full.{occupied_bins, Lends}
 
 module _ (source : Source) (b1 b2 b3 k : ℕ) (t : List ℕ) (b : Buffers) {g : Grid}
-    (e : grid_of b1 b2 b3 ≡ chosen.Accepted g) where
+    (e : grid_of b1 b2 b3 ≡ Some g) where
   -- over the one property of the spreads: a box with two occupied bins has a computed spread above 0
   pub full_above : cut_number source b1 b2 b3 k t b ≡ 0 → SpreadsAbove g (view_of t)
       → (cut_record source b1 b2 b3 k t b).boxes ≡ min k (occupied_bins g t)

@@ -1,6 +1,7 @@
 -- The listing program (Rules, Listing): its example, that a refusal is all that is written, and that the batches in
 -- which its input comes are no matter.
 -- Assumes nothing.
+use Rattle.std.specs.Prelude.{Some}
 use mathlib.Core.Path.{◌≡◌, refl, sym, ap, ◌∙◌}
 use mathlib.Core.Bool.{true, false, cond, true≢false}
 use mathlib.Core.List.{List, [], ◌∷◌, ◌++◌, append_assoc, append-nil}
@@ -13,7 +14,6 @@ use lib.Dec.{ltb, lit<, lit≤}
 use lib.ListN.{length, get_or, replicate, length-replicate, length-append, get_or-append}
 use lib.Pow.{are_bytes}
 use lib.Seq.{get_or-append-add}
-use Rattle.grid.specs.declared.place.Chosen.TheVariants as chosen
 use Rattle.basics.specs.Answer.{when_done}
 use Rattle.basics.specs.Range.{list_from, sum_from}
 use Rattle.grid.specs.Size.{choices, shift_in, shift_of}
@@ -21,7 +21,7 @@ use Rattle.basics.specs.Dimension.{choose}
 use Rattle.grid.specs.Grid.{grid_with, grid_of, on_grid, number_on, Accepted, bins_of, place_of}
 use Rattle.basics.proofs.Range.{and_left, and_right}
 use Rattle.grid.proofs.Places.{chose}
-use Rattle.table.specs.declared.layout.Layout.TheVariants.{Wide}
+use Rattle.table.specs.Layouts.{Wide}
 use Rattle.table.specs.Cell.{View}
 use Rattle.table.specs.Table.{is_sized, view_of}
 use Rattle.table.specs.Sound.{limit, total, sound}
@@ -39,7 +39,7 @@ use Rattle.spread.specs.Spread.{zero_of, quotient_of, spread_of, score_of}
 use Rattle.boxes.specs.Box.{one_bin}
 use Rattle.spread.specs.Cut.{position_of, position_at, later_wins, better, best_run, best_in, best_cut}
 use Rattle.heap.specs.Heap.{climb, put_in, sink, enter, take_out}
-use Rattle.rounds.specs.declared.gather.BoxSpread.{BoxSpread}
+use Rattle.heap.specs.declared.heap.BoxSpread.{BoxSpread}
 use Rattle.rounds.specs.declared.gather.Boxes.{Boxes}
 use Rattle.rounds.specs.Loop.{with_spread, start_room, start, room_after, boxes_after, round_room, round_boxes}
 use Rattle.rounds.specs.Loop.{round}
@@ -63,7 +63,7 @@ use Rattle.promises.specs.Listing.{three_lines, refused3, refused8}
 use Rattle.promises.proofs.Worked.{four_added}
 
 -- ---- a load on the program's grid
-is_grid8 : grid_of 8 8 8 ≡ chosen.Accepted grid8
+is_grid8 : grid_of 8 8 8 ≡ Some grid8
 unfolding choices shift_in shift_of grid_with grid_of
 is_grid8 = refl
 

@@ -1,5 +1,6 @@
 -- "Weight 0 adds nothing. An empty batch changes nothing; it is refused only as any other load is."
 -- Assumes nothing.
+use Rattle.std.specs.Prelude.{Some}
 use mathlib.Core.Path.{◌≡◌, ◌∙◌}
 use mathlib.Core.Bool.{Bool, true}
 use mathlib.Core.List.{List, [], ◌∷◌, ◌++◌}
@@ -7,7 +8,6 @@ use Prim.Native.Nat.{ℕ, ◌*◌}
 use native.Mathlib.Omega.{arith}
 use lib.ListN.{length}
 use Rattle.grid.specs.declared.place.Grid.{Grid}
-use Rattle.grid.specs.declared.place.Chosen.TheVariants as chosen
 use Rattle.grid.specs.Grid.{grid_of, bins_of}
 use Rattle.table.specs.Table.{Sized, view_of}
 use Rattle.table.specs.Sound.{limit, sound}
@@ -35,7 +35,7 @@ module _ (b1 b2 b3 : ℕ) (t : List ℕ) where
   weight_0_alone c1 c2 c3 = (weight_0_adds_nothing [] [] [] [] c1 c2 c3 (omega arith)).1 ∙ empty_batch true []
 
   -- "it is refused only as any other load is": not for a table of the right length that is sound, however full
-  pub empty_accepted : (weighted : Bool) (weights : List ℕ) {g : Grid} → grid_of b1 b2 b3 ≡ chosen.Accepted g
+  pub empty_accepted : (weighted : Bool) (weights : List ℕ) {g : Grid} → grid_of b1 b2 b3 ≡ Some g
       → (weighted ≡ true → length weights ≡ 0) → Sized t (bins_of g) → sound limit g (view_of t) ≡ true
       → load_number b1 b2 b3 t [] weighted weights ≡ 0
   empty_accepted weighted weights {g} e none lent is_sound =

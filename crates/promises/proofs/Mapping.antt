@@ -2,6 +2,7 @@
 -- with 9 for the palette that came with it, and plans over the same colours give every pixel of every frame the same
 -- index. And mapping in bands, and painting, which is looking up the palette at the mapped index.
 -- Assumes nothing.
+use Rattle.std.specs.Prelude.{Some}
 use mathlib.Core.Path.{◌≡◌, refl, sym, ap, ◌∙◌}
 use mathlib.Core.Bool.{true}
 use mathlib.Core.List.{List}
@@ -10,11 +11,10 @@ use native.Mathlib.Omega.{arith}
 use lib.Dec.{eqb}
 use lib.ListN.{length, get_or}
 use Rattle.grid.specs.declared.place.Grid.{Grid}
-use Rattle.grid.specs.declared.place.Chosen.TheVariants as chosen
 use Rattle.grid.specs.Grid.{grid_of, on_grid, number_on, bins_of, colour_place}
 use Rattle.pixels.specs.Colour.{colour_at}
 use Rattle.grid.proofs.Places.{chose, colour_place_lt}
-use Rattle.table.specs.declared.layout.Layout.TheVariants.{Wide}
+use Rattle.table.specs.Layouts.{Wide}
 use Rattle.table.specs.Table.{view_of}
 use Rattle.adder.proofs.Parts.{colour_bytes}
 use Rattle.sums.specs.declared.source.Source.{Source}
@@ -40,7 +40,7 @@ use Rattle.promises.specs.Mapping.{cut_boxes, cut_map, cut_front, SameIndices}
 use Rattle.promises.proofs.Tiling.{tiling}
 
 module _ (source : Source) (b1 b2 b3 k : ℕ) (t : List ℕ) (b : Buffers) {g : Grid}
-    (e : grid_of b1 b2 b3 ≡ chosen.Accepted g) (n : cut_number source b1 b2 b3 k t b ≡ 0) where
+    (e : grid_of b1 b2 b3 ≡ Some g) (n : cut_number source b1 b2 b3 k t b ≡ 0) where
   -- "every bin of it gets index i in the map" and "A pixel's index is the map's byte at its bin", over the call: a
   -- pixel of a mapped band has index i exactly where box i holds its bin
   pub pixel_index : (palette_colours : ℕ) (frame indices : List ℕ) (first pixels : ℕ) → ((j : ℕ) → get_or frame j 0 < 256)

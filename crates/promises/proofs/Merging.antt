@@ -1,14 +1,14 @@
 -- Merging is commutative and associative, an empty table changes nothing, and a tree of merges tells nothing but which
 -- tables stand in it (Rules, Merge). In either layout.
 -- Assumes nothing.
+use Rattle.std.specs.Prelude.{Some}
 use mathlib.Core.Path.{◌≡◌, sym, ◌∙◌}
 use mathlib.Core.List.{Perm}
 use Prim.Native.Nat.{ℕ, ◌+◌, ◌*◌, ◌≤◌}
 use native.Mathlib.Omega.{arith}
 use Rattle.grid.specs.declared.place.Grid.{Grid}
-use Rattle.grid.specs.declared.place.Chosen.TheVariants as chosen
 use Rattle.grid.specs.Grid.{grid_of}
-use Rattle.table.specs.declared.layout.Layout.{Layout}
+use Rattle.table.specs.Layouts.{Layout}
 use Rattle.table.specs.Layout.{TableIn, view_in, empty_in}
 use Rattle.table.specs.Sound.{limit_of, total}
 use Rattle.loader.specs.Merge.{merge_number_in, merge_later_in}
@@ -33,7 +33,7 @@ module _ (l : Layout) (b1 b2 b3 : ℕ) where
       → merge_later_in l b1 b2 b3 (empty_in l (b1 * b2 * b3)) t ≡ t
   into_zeros t = zeros_become l b1 b2 b3 t
 
-  module _ {g : Grid} (e : grid_of b1 b2 b3 ≡ chosen.Accepted g) where
+  module _ {g : Grid} (e : grid_of b1 b2 b3 ≡ Some g) where
     -- which is done for every sound table
     pub zeros_accepted : (t : TableIn l) → SoundTable l g t
         → merge_number_in l b1 b2 b3 (empty_in l (b1 * b2 * b3)) t ≡ 0

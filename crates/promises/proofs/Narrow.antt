@@ -2,6 +2,7 @@
 -- gives what the wide one gives on the widened table, and its weights and sums and their moments fit 32 bits. So all that
 -- is promised of a wide cut is promised of a narrow one.
 -- Assumes nothing.
+use Rattle.std.specs.Prelude.{Option, Some}
 use mathlib.Core.Path.{◌≡◌, refl, sym, ap, subst, ◌∙◌}
 use mathlib.Core.Bool.{Bool, true, not, ◌&&◌}
 use mathlib.Core.List.Perm
@@ -15,12 +16,10 @@ use Rattle.basics.specs.Answer.{refuse, when_done}
 use Rattle.basics.specs.Range.{sum_from}
 use Rattle.basics.proofs.Range.{term_le}
 use Rattle.grid.specs.declared.place.Grid.{Grid}
-use Rattle.grid.specs.declared.place.Chosen.{Chosen}
-use Rattle.grid.specs.declared.place.Chosen.TheVariants as chosen
 use Rattle.grid.specs.Grid.{grid_of, on_grid, number_on, Accepted, bins_of, bin_at}
 use Rattle.grid.proofs.Places.{chose, bins_inside}
-use Rattle.table.specs.declared.layout.Layout.{Layout}
-use Rattle.table.specs.declared.layout.Layout.TheVariants.{Wide, Narrow}
+use Rattle.table.specs.Layouts.{Layout}
+use Rattle.table.specs.Layouts.{Wide, Narrow}
 use Rattle.table.specs.Cell.{View, zeros}
 use Rattle.table.specs.Table.{Table, is_sized, view_of, written}
 use Rattle.table.specs.Narrow.{NarrowTable, narrow_view, narrow_written}
@@ -54,7 +53,7 @@ use Rattle.promises.specs.Narrow.{SamePlans, Widening}
 
 -- ---- what fits 32 bits
 -- "No weight, no component sum and no moment of these reaches 2^32", of any view that is sound for the narrow limit
-pub narrow_below : (b1 b2 b3 : ℕ) {g : Grid} → grid_of b1 b2 b3 ≡ chosen.Accepted g → (u : View)
+pub narrow_below : (b1 b2 b3 : ℕ) {g : Grid} → grid_of b1 b2 b3 ≡ Some g → (u : View)
     → sound (limit_of Narrow) g u ≡ true → (p : ℕ) → p < bins_of g → Below g u p
 unfolding moments_of
 narrow_below b1 b2 b3 {g} e u is_sound p h =
@@ -108,9 +107,9 @@ module _ {g : Grid} {t : NarrowTable} (f : Fits g t) where
   same_sound = sound_limit {few = limit_of Narrow} g (narrow_view t) (omega (arith, f.under)) (lit≤ tt)
 
 -- three sizes have one grid
-same_grid : {c : Chosen} {g h : Grid} → c ≡ chosen.Accepted g → c ≡ chosen.Accepted h → g ≡ h
+same_grid : {c : Option Grid} {g h : Grid} → c ≡ Some g → c ≡ Some h → g ≡ h
 unfolding on_grid
-same_grid {g = g} e f = ap (λ (c : Chosen). on_grid {A = Grid} c g (λ x. x)) (sym e ∙ f)
+same_grid {g = g} e f = ap (λ (c : Option Grid). on_grid {A = Grid} c g (λ x. x)) (sym e ∙ f)
 
 -- what a call leaves that answers the same: the tables as they were, or what was written
 same_left : (n m : ℕ) → n ≡ m → (t later : NarrowTable) (w wider : Table) → narrow_view t ≡ view_of w
@@ -121,7 +120,7 @@ same_left n (suc m) q t later w wider before kept stays done =
     ap narrow_view (kept m q) ∙ before ∙ sym (ap view_of (stays m refl))
 
 -- ---- the load
-module _ (b1 b2 b3 : ℕ) {g : Grid} (e : grid_of b1 b2 b3 ≡ chosen.Accepted g) {t : NarrowTable} (f : Fits g t)
+module _ (b1 b2 b3 : ℕ) {g : Grid} (e : grid_of b1 b2 b3 ≡ Some g) {t : NarrowTable} (f : Fits g t)
     (colours : List ℕ) (weighted : Bool) (weights : List ℕ)
     (under : total g (narrow_view t) + weight_of (batch_of colours weighted weights) ≤ limit_of Narrow) where
   abbrev now_wide : Table
@@ -180,7 +179,7 @@ module _ (b1 b2 b3 : ℕ) {g : Grid} (e : grid_of b1 b2 b3 ≡ chosen.Accepted g
       }
 
 -- ---- the merge
-module _ (b1 b2 b3 : ℕ) {g : Grid} (e : grid_of b1 b2 b3 ≡ chosen.Accepted g) {t s : NarrowTable} (f : Fits g t)
+module _ (b1 b2 b3 : ℕ) {g : Grid} (e : grid_of b1 b2 b3 ≡ Some g) {t s : NarrowTable} (f : Fits g t)
     (h : Fits g s) (under : total g (narrow_view t) + total g (narrow_view s) ≤ limit_of Narrow) where
   abbrev first_wide : Table
   first_wide = widened (bins_of g) t
@@ -233,7 +232,7 @@ module _ (b1 b2 b3 : ℕ) {g : Grid} (e : grid_of b1 b2 b3 ≡ chosen.Accepted g
       }
 
 -- ---- the cut
-module _ (source : Source) (b1 b2 b3 k : ℕ) {g : Grid} (e : grid_of b1 b2 b3 ≡ chosen.Accepted g) {t : NarrowTable}
+module _ (source : Source) (b1 b2 b3 k : ℕ) {g : Grid} (e : grid_of b1 b2 b3 ≡ Some g) {t : NarrowTable}
     (f : Fits g t) (narrow : NarrowTable) (wide : Table) (same : SameWork g narrow wide) (r : Results) where
   abbrev w : Table
   w = widened (bins_of g) t
@@ -328,7 +327,7 @@ module _ (source : Source) (b1 b2 b3 k : ℕ) {g : Grid} (e : grid_of b1 b2 b3 �
       }
 
 -- ---- the widening
-module _ (b1 b2 b3 : ℕ) {g : Grid} (e : grid_of b1 b2 b3 ≡ chosen.Accepted g) (t : NarrowTable) (old : Table)
+module _ (b1 b2 b3 : ℕ) {g : Grid} (e : grid_of b1 b2 b3 ≡ Some g) (t : NarrowTable) (old : Table)
     (n : widen_number b1 b2 b3 t old ≡ 0) where
   -- the narrow table of a widening that is done is sound on the grid, and its wide table is the one above
   fits_widened : Fits g t × (sound (limit_of Narrow) g (narrow_view t) ≡ true)
@@ -366,7 +365,7 @@ widened_table g cs =
 
 -- a plan that ran to a narrow table runs in the wide layout to the widened one; so with `narrow_cut_is_wide` what Full
 -- and Tiling say of the tables that plans ran to is true of narrow ones
-pub narrow_plan_is_wide : (b1 b2 b3 : ℕ) {g : Grid} → grid_of b1 b2 b3 ≡ chosen.Accepted g → (p : Plan) → BytesIn p
+pub narrow_plan_is_wide : (b1 b2 b3 : ℕ) {g : Grid} → grid_of b1 b2 b3 ≡ Some g → (p : Plan) → BytesIn p
     → {t : NarrowTable} → ends_in Narrow b1 b2 b3 p ≡ Filled t → SamePlans b1 b2 b3 g p t
 narrow_plan_is_wide b1 b2 b3 {g} e p y ran =
     let d = filled_table b1 b2 b3 e p y ran in

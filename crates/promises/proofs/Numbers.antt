@@ -2,6 +2,8 @@
 -- it is given where none applies. And "A refusal writes nothing. A refused cut hands back its answer, zero boxes, zero
 -- rounds and box places all zero."
 -- Assumes nothing.
+use Rattle.std.specs.Prelude.{None, Option, Some}
+use Rattle.grid.specs.declared.place.Grid.{Grid}
 use mathlib.Core.Path.{◌≡◌, refl, sym, ap, ◌∙◌}
 use mathlib.Core.Logic.{◌↔◌, inl, inr}
 use mathlib.Core.Bool.{Bool, true, false, not, ◌&&◌, ◌||◌}
@@ -13,14 +15,12 @@ use borrow.Author.Tests.{eqb-true, eq-eqb, ne_eqb, leb-true, leb-false, le-leb, 
 use lib.Dec.{eqb, leb, ltb, lit<}
 use lib.IntN.{ℤ}
 use lib.ListN.{length}
-use Rattle.grid.specs.declared.place.Chosen.{Chosen}
-use Rattle.grid.specs.declared.place.Chosen.TheVariants as chosen
 use Rattle.basics.specs.Answer.{refuse}
 use Rattle.grid.specs.Grid.{grid_of, grid_answer, on_grid, number_on, bins_of}
 use Rattle.grid.proofs.Ends.{call_done}
 use Rattle.basics.proofs.Range.{and_left, and_right}
-use Rattle.table.specs.declared.layout.Layout.{Layout}
-use Rattle.table.specs.declared.layout.Layout.TheVariants.{Wide, Narrow}
+use Rattle.table.specs.Layouts.{Layout}
+use Rattle.table.specs.Layouts.{Wide, Narrow}
 use Rattle.table.specs.Narrow.{NarrowTable, narrow_view}
 use Rattle.table.specs.Table.{Table, table_len, is_sized, view_of}
 use Rattle.table.specs.Layout.{TableIn, is_sized_in, view_in}
@@ -137,11 +137,11 @@ module _ (b1 b2 b3 : ℕ) where
   unfolding load_tests chain no_grid on_bins on_grid grid_answer refuse
   load_chain l t colours weighted weights = go (grid_of b1 b2 b3) refl
     where
-      go : (c : Chosen) → grid_of b1 b2 b3 ≡ c
+      go : (c : Option Grid) → grid_of b1 b2 b3 ≡ c
           → load_number_in l b1 b2 b3 t colours weighted weights
           ≡ chain (load_tests l (grid_of b1 b2 b3) t colours weighted weights)
-      go (chosen.Accepted g) e = load_tests_in l b1 b2 b3 t colours weighted weights e ∙ rw e refl
-      go chosen.Refused e = sym (load_no_grid_in l b1 b2 b3 t colours weighted weights e).0 ∙ rw e refl
+      go (Some g) e = load_tests_in l b1 b2 b3 t colours weighted weights e ∙ rw e refl
+      go None e = sym (load_no_grid_in l b1 b2 b3 t colours weighted weights e).0 ∙ rw e refl
 
   pub load_lowest : (t colours : List ℕ) (weighted : Bool) (weights : List ℕ)
       → load_number b1 b2 b3 t colours weighted weights ≡ lowest_of (load_applies Wide b1 b2 b3 t colours weighted weights)
@@ -170,14 +170,14 @@ module _ (b1 b2 b3 : ℕ) where
           ≡ refuse (not a) 5 (refuse (not b) 5 (refuse (not c) 6 (refuse (not d) 6 rest)))
       pairs a b c d rest = ap (refuse (not (a && b)) 5) (both c d 6 rest) ∙ both a b 5 _
 
-      go : (c : Chosen) → grid_of b1 b2 b3 ≡ c
+      go : (c : Option Grid) → grid_of b1 b2 b3 ≡ c
           → merge_number_in l b1 b2 b3 t s ≡ chain (merge_tests l (grid_of b1 b2 b3) t s)
-      go (chosen.Accepted g) e =
+      go (Some g) e =
           merge_tests_in l b1 b2 b3 t s e
           ∙ pairs (is_sized_in l t (bins_of g)) (is_sized_in l s (bins_of g)) (sound (limit_of l) g (view_in l t))
           (sound (limit_of l) g (view_in l s)) _
           ∙ rw e refl
-      go chosen.Refused e = sym (merge_no_grid_in l b1 b2 b3 t s e).0 ∙ rw e refl
+      go None e = sym (merge_no_grid_in l b1 b2 b3 t s e).0 ∙ rw e refl
 
   pub merge_lowest : (t s : List ℕ) → merge_number b1 b2 b3 t s ≡ lowest_of (merge_applies Wide b1 b2 b3 t s)
   unfolding merge_applies merge_tests ascends
@@ -203,14 +203,14 @@ module _ (b1 b2 b3 : ℕ) where
       all a b c d e rest =
           ap (refuse (not ((a && b) && c)) 5) (both d e 6 rest) ∙ both (a && b) c 5 _ ∙ both a b 5 _
 
-      go : (c : Chosen) → grid_of b1 b2 b3 ≡ c
+      go : (c : Option Grid) → grid_of b1 b2 b3 ≡ c
           → compare_number b1 b2 b3 t s l ≡ chain (compare_tests (grid_of b1 b2 b3) t s l)
-      go (chosen.Accepted g) e =
+      go (Some g) e =
           compare_tests_lem b1 b2 b3 t s l e
           ∙ all (is_sized t (bins_of g)) (is_sized s (bins_of g)) (eqb (length l) (table_len (bins_of g)))
           (sound limit g (view_of t)) (sound limit g (view_of s)) 0
           ∙ rw e refl
-      go chosen.Refused e =
+      go None e =
           sym (compare_answer b1 b2 b3 t s l)
           ∙ sym (ap (λ (c : Compared). c.number) (no_grid_lem b1 b2 b3 t s l e).0)
           ∙ rw e refl
@@ -219,10 +219,10 @@ module _ (b1 b2 b3 : ℕ) where
   unfolding rescue_applies rescue_tests chain ascends no_grid on_bins on_grid grid_answer refuse
   rescue_lowest t l = go (grid_of b1 b2 b3) refl ∙ lowest (rescue_tests (grid_of b1 b2 b3) t l) 1 (omega arith) refl
     where
-      go : (c : Chosen) → grid_of b1 b2 b3 ≡ c → rescue_number b1 b2 b3 t l ≡ chain (rescue_tests (grid_of b1 b2 b3) t l)
-      go (chosen.Accepted g) e =
+      go : (c : Option Grid) → grid_of b1 b2 b3 ≡ c → rescue_number b1 b2 b3 t l ≡ chain (rescue_tests (grid_of b1 b2 b3) t l)
+      go (Some g) e =
           rescue_tests_lem b1 b2 b3 t l e ∙ both (is_sized t (bins_of g)) (eqb (length l) (bins_of g)) 5 0 ∙ rw e refl
-      go chosen.Refused e = sym (rescues.no_grid_lem b1 b2 b3 t l e).0 ∙ rw e refl
+      go None e = sym (rescues.no_grid_lem b1 b2 b3 t l e).0 ∙ rw e refl
 
   pub widen_lowest : (t : NarrowTable) (old : Table)
       → widen_number b1 b2 b3 t old ≡ lowest_of (widen_applies b1 b2 b3 t old)
@@ -230,10 +230,10 @@ module _ (b1 b2 b3 : ℕ) where
   widen_lowest t old =
       go (grid_of b1 b2 b3) refl ∙ lowest (widen_tests (grid_of b1 b2 b3) t old) 1 (omega arith) refl
     where
-      go : (c : Chosen) → grid_of b1 b2 b3 ≡ c → widen_number b1 b2 b3 t old ≡ chain (widen_tests (grid_of b1 b2 b3) t old)
-      go (chosen.Accepted g) e =
+      go : (c : Option Grid) → grid_of b1 b2 b3 ≡ c → widen_number b1 b2 b3 t old ≡ chain (widen_tests (grid_of b1 b2 b3) t old)
+      go (Some g) e =
           widen_tests_lem b1 b2 b3 t old e ∙ both (is_sized_in Narrow t (bins_of g)) (is_sized old (bins_of g)) 5 _ ∙ rw e refl
-      go chosen.Refused e = sym (widens.no_grid_lem b1 b2 b3 t old e).0 ∙ rw e refl
+      go None e = sym (widens.no_grid_lem b1 b2 b3 t old e).0 ∙ rw e refl
 
   pub cut_lowest : (layout : Layout) (source : Source) (k : ℕ) (t : TableIn layout) (b : BuffersIn layout)
       → cut_number_in layout source b1 b2 b3 k t b ≡ lowest_of (cut_applies layout source b1 b2 b3 k t b)
@@ -241,11 +241,11 @@ module _ (b1 b2 b3 : ℕ) where
   cut_lowest layout source k t b =
       go (grid_of b1 b2 b3) ∙ lowest (cut_tests layout source (grid_of b1 b2 b3) k t b true) 1 (omega arith) refl
     where
-      go : (c : Chosen)
+      go : (c : Option Grid)
           → number_on c (λ g. cut_number_on (limit_of layout) g k (lengths_right layout source g k t b) (view_in layout t))
           ≡ chain (cut_tests layout source c k t b true)
-      go (chosen.Accepted g) = refl
-      go chosen.Refused = refl
+      go (Some g) = refl
+      go None = refl
 
   pub call_lowest : (layout : Layout) (source : Source) (k : ℕ) (t : TableIn layout) (l : LentIn layout)
       → (cut_answer_in layout source b1 b2 b3 k t l).number ≡ lowest_of (call_applies layout source b1 b2 b3 k t l)
@@ -258,14 +258,14 @@ module _ (b1 b2 b3 : ℕ) where
       room : Bool
       room = has_room k (length l.boxes) (length l.spreads)
 
-      go : (c : Chosen) → number_on c (λ g. call_number_on layout source g k t l)
+      go : (c : Option Grid) → number_on c (λ g. call_number_on layout source g k t l)
           ≡ chain (cut_tests layout source c k t l.buffers room)
-      go (chosen.Accepted g) =
+      go (Some g) =
           ap (refuse (not (leb 1 k && leb k 256)) 2)
           (both (lengths_right layout source g k t l.buffers) room 5
           (refuse (not (sound (limit_of layout) g (view_in layout t))) unsound_number
           (refuse (eqb (total g (view_in layout t)) 0) 8 0)))
-      go chosen.Refused = refl
+      go None = refl
 
   module _ (map : List ℕ) where
     -- the two lengths that a band tests in turn are one test
@@ -287,13 +287,13 @@ module _ (b1 b2 b3 : ℕ) where
             sym (both (leb 1 palette_colours && leb palette_colours 256) fits 5 rest)
             ∙ ap (λ (b : Bool). refuse (not b) 5 rest) e
 
-        go : (c : Chosen)
+        go : (c : Option Grid)
             → number_on c (λ g. band_number g map palette_colours fits (length frame) first pixels)
             ≡ chain (band_tests c map palette_colours lengths frame first pixels)
-        go (chosen.Accepted g) =
+        go (Some g) =
             ap (λ (n : ℕ). refuse (not (eqb (length frame % 3) 0)) 3 (refuse (not (eqb (length map) (bins_of g))) 5 n))
             lent
-        go chosen.Refused = refl
+        go None = refl
 
     pub map_lowest : (palette_colours : ℕ) (frame indices : List ℕ) (first pixels : ℕ)
         → map_number b1 b2 b3 map palette_colours frame indices first pixels
@@ -478,9 +478,9 @@ module _ (b1 b2 b3 : ℕ) where
           (pairs weighted (length weights) (length colours / 3) c.paired) c.lent c.is_sound
           (omega (arith, c.past))).0
 
-      says : (c : Chosen) → grid_of b1 b2 b3 ≡ c → load_number_in Narrow b1 b2 b3 t colours weighted weights ≡ 15
+      says : (c : Option Grid) → grid_of b1 b2 b3 ≡ c → load_number_in Narrow b1 b2 b3 t colours weighted weights ≡ 15
           → OnGrid b1 b2 b3 (PassesLoad t colours weighted weights)
-      says (chosen.Accepted g) e n =
+      says (Some g) e n =
           let added = weight_of (batch_of colours weighted weights) in
           let tests = load_tests_in Narrow b1 b2 b3 t colours weighted weights e in
           let three = past_test _ 3 _ (lit< tt) (sym tests ∙ n) in
@@ -498,7 +498,7 @@ module _ (b1 b2 b3 : ℕ) where
               past = omega (arith, ltb-true (limit_of Narrow) (total g (narrow_view t) + added) (last_test _ six.1));
             };
           }
-      says chosen.Refused e n =
+      says None e n =
           absurd (omega (arith, (load_no_grid_in Narrow b1 b2 b3 t colours weighted weights e).0, n))
 
   pub narrow_merge_15 : (t s : NarrowTable)
@@ -511,9 +511,9 @@ module _ (b1 b2 b3 : ℕ) where
           sym (merge_over Narrow b1 b2 b3 t s o.chosen c.lent.0 c.lent.1 c.are_sound.0 c.are_sound.1
           (omega (arith, c.past))).0
 
-      says : (c : Chosen) → grid_of b1 b2 b3 ≡ c → merge_number_in Narrow b1 b2 b3 t s ≡ 15
+      says : (c : Option Grid) → grid_of b1 b2 b3 ≡ c → merge_number_in Narrow b1 b2 b3 t s ≡ 15
           → OnGrid b1 b2 b3 (PassesMerge t s)
-      says (chosen.Accepted g) e n =
+      says (Some g) e n =
           let five = past_test _ 5 _ (lit< tt) (sym (merge_tests_in Narrow b1 b2 b3 t s e) ∙ n) in
           let six = past_test _ 6 _ (lit< tt) five.1 in
           let sized : Bool = is_sized_in Narrow t (bins_of g) in
@@ -534,7 +534,7 @@ module _ (b1 b2 b3 : ℕ) where
               );
             };
           }
-      says chosen.Refused e n = absurd (omega (arith, (merge_no_grid_in Narrow b1 b2 b3 t s e).0, n))
+      says None e n = absurd (omega (arith, (merge_no_grid_in Narrow b1 b2 b3 t s e).0, n))
 
   -- ---- a refusal writes nothing
   module _ {n : ℕ} where

@@ -2,14 +2,14 @@
 -- in any order, give the same table, and so the same boxes, palette, counts and map, and every pixel the same index. In
 -- either layout.
 -- Assumes nothing.
+use Rattle.std.specs.Prelude.{Some}
 use mathlib.Core.Path.{◌≡◌, refl, sym, ◌∙◌}
 use mathlib.Core.List.{Perm}
 use Prim.Native.Nat.{ℕ, suc, ◌≤◌}
 use lib.ListN.{get_or}
 use Rattle.grid.specs.declared.place.Grid.{Grid}
-use Rattle.grid.specs.declared.place.Chosen.TheVariants as chosen
 use Rattle.grid.specs.Grid.{grid_of, colour_place}
-use Rattle.table.specs.declared.layout.Layout.{Layout}
+use Rattle.table.specs.Layouts.{Layout}
 use Rattle.table.specs.Layout.{TableIn}
 use Rattle.table.specs.Sound.{limit_of}
 use Rattle.adder.specs.Batch.{weight_of}
@@ -35,7 +35,7 @@ same_cut l source g b1 b2 b3 k b t s e =
       pixel = λ c i. get_or (cut_later_in l source b1 b2 b3 k (e i) b).results.map (colour_place g c) 0;
     }
 
-module _ (l : Layout) (b1 b2 b3 : ℕ) {g : Grid} (e : grid_of b1 b2 b3 ≡ chosen.Accepted g) (p q : Plan) (y : BytesIn p)
+module _ (l : Layout) (b1 b2 b3 : ℕ) {g : Grid} (e : grid_of b1 b2 b3 ≡ Some g) (p q : Plan) (y : BytesIn p)
     (z : BytesIn q) (π : Perm (leaves p) (leaves q)) where
   -- plans that ran to tables ran to the same table
   pub ran_same : {t s : TableIn l} → ends_in l b1 b2 b3 p ≡ Filled t → ends_in l b1 b2 b3 q ≡ Filled s → t ≡ s
@@ -59,7 +59,7 @@ module _ (l : Layout) (b1 b2 b3 : ℕ) {g : Grid} (e : grid_of b1 b2 b3 ≡ chos
         alike = ran_alike ran.0 (ran.1 ∙ ran.0);
       }
 
-module _ (l : Layout) (b1 b2 b3 : ℕ) {g : Grid} (e : grid_of b1 b2 b3 ≡ chosen.Accepted g) (p : Plan) (y : BytesIn p)
+module _ (l : Layout) (b1 b2 b3 : ℕ) {g : Grid} (e : grid_of b1 b2 b3 ≡ Some g) (p : Plan) (y : BytesIn p)
     (h : weight_of (leaves p) ≤ limit_of l) where
   -- how a plan whose total fits ends: refused with the answer to its first malformed batch, or else with the table of
   -- its colours

@@ -1,6 +1,7 @@
 -- Replays (Rules, Replay): what a replay that is not refused as a whole leaves is the first table with the scaled
 -- colours of the accepted batches loaded; which batch is accepted, and which refusal an entry gets otherwise.
 -- Assumes nothing.
+use Rattle.std.specs.Prelude.{Some}
 use mathlib.Core.Path.{◌≡◌, refl, sym, ap, ◌∙◌}
 use mathlib.Core.Logic.{◌↔◌}
 use mathlib.Core.Bool.{Bool, true, false, not, ◌&&◌, cond}
@@ -14,7 +15,6 @@ use lib.ListN.{length, get_or, drop}
 use Rattle.basics.specs.Answer.{refuse}
 use Rattle.basics.proofs.Ends.{passed}
 use Rattle.grid.specs.declared.place.Grid.{Grid}
-use Rattle.grid.specs.declared.place.Chosen.TheVariants as chosen
 use Rattle.grid.specs.Grid.{grid_of, bins_of}
 use Rattle.table.specs.Table.{Table, view_of, written}
 use Rattle.table.specs.Sound.{limit, total, sound}
@@ -45,7 +45,7 @@ set_interval first entries e (suc i) =
     go false b p q = q
 
 module _ (first b1 b2 b3 : ℕ) (t : Table) (r : Recorded) (bytes : ColourBytes r)
-    (done : replay_number first b1 b2 b3 t r ≡ 0) {g : Grid} (e : grid_of b1 b2 b3 ≡ chosen.Accepted g) where
+    (done : replay_number first b1 b2 b3 t r ≡ 0) {g : Grid} (e : grid_of b1 b2 b3 ≡ Some g) where
   abbrev answers : List ℕ
   answers = replay_bytes first b1 b2 b3 t r
 

@@ -1,6 +1,8 @@
 -- The calls of the recorder: 13 and 14 come before 1, and then the lowest answer that applies is given;
 -- where none applies, it is 0.
 -- Assumes nothing.
+use Rattle.std.specs.Prelude.{None, Option, Some}
+use Rattle.grid.specs.declared.place.Grid.{Grid}
 use mathlib.Core.Path.{◌≡◌, refl, sym, ap, ◌∙◌}
 use mathlib.Core.Bool.{Bool, true, false, not, ◌&&◌, ◌||◌}
 use mathlib.Core.List.{List, [], ◌∷◌}
@@ -14,8 +16,6 @@ use lib.ListN.{length}
 use Rattle.basics.specs.Answer.{refuse}
 use Rattle.basics.specs.Range.{all_from}
 use Rattle.basics.proofs.Range.{all_same}
-use Rattle.grid.specs.declared.place.Chosen.{Chosen}
-use Rattle.grid.specs.declared.place.Chosen.TheVariants as chosen
 use Rattle.grid.specs.Grid.{grid_of, grid_answer, on_grid, bins_of}
 use Rattle.table.specs.Table.{Table, is_sized, view_of}
 use Rattle.table.specs.Sound.{limit, total, sound}
@@ -97,10 +97,10 @@ module _ (b1 b2 b3 : ℕ) (t : Table) where
       scaled : List ℕ
       scaled = scaled_weights i (length colours / 3) weighted weights
 
-      go : (c : Chosen) → grid_of b1 b2 b3 ≡ c
+      go : (c : Option Grid) → grid_of b1 b2 b3 ≡ c
           → load_number b1 b2 b3 t colours true scaled
           ≡ chain (scaled_tests (grid_of b1 b2 b3) i t colours weighted weights)
-      go (chosen.Accepted g) e =
+      go (Some g) e =
           load_tests_lem b1 b2 b3 t colours true scaled e
           ∙ (λ j.
           refuse (not (eqb (length colours % 3) 0)) 3
@@ -109,7 +109,7 @@ module _ (b1 b2 b3 : ℕ) (t : Table) where
           (refuse (not (sound limit g (view_of t))) 6
           (refuse (ltb limit (total g (view_of t) + scaled_weight i colours weighted weights j)) 7 0)))))
           ∙ rw e refl
-      go chosen.Refused e = sym (load_no_grid b1 b2 b3 t colours true scaled e).0 ∙ rw e refl
+      go None e = sym (load_no_grid b1 b2 b3 t colours true scaled e).0 ∙ rw e refl
 
   pub replay_earliest : (first : ℕ) (r : Recorded)
       → replay_number first b1 b2 b3 t r ≡ earliest_of (replay_applies first b1 b2 b3 t r)
@@ -156,10 +156,10 @@ module _ (b1 b2 b3 : ℕ) (t : Table) where
       six true false k l c d e rest = refl
       six false b k l c d e rest = refl
 
-      go : (c : Chosen) → grid_of b1 b2 b3 ≡ c
+      go : (c : Option Grid) → grid_of b1 b2 b3 ≡ c
           → replay_number first b1 b2 b3 t r
           ≡ refuse (not (is_interval first)) 13 (chain (list_tests (grid_of b1 b2 b3) t r))
-      go (chosen.Accepted g) e =
+      go (Some g) e =
           replay_tests_lem first b1 b2 b3 t r e
           ∙ ap (refuse (not (is_interval first)) 13)
           ((λ j. refuse (not (is_sized t (bins_of g) && (threes && (kinds j && (colours && (weights && room)))))) 5 last)
@@ -173,4 +173,4 @@ module _ (b1 b2 b3 : ℕ) (t : Table) where
         where
           last : ℕ
           last = refuse (not (sound limit g (view_of t))) 6 0
-      go chosen.Refused e = replay_no_grid first b1 b2 b3 t r e ∙ rw e refl
+      go None e = replay_no_grid first b1 b2 b3 t r e ∙ rw e refl

@@ -1,16 +1,16 @@
 -- Any order (Rules, Demands), of the accepted batches of a replay with their scaled weights: loaded in any other order
 -- they give the same table, and so the same cut for every k.
 -- Assumes nothing.
+use Rattle.std.specs.Prelude.{Some}
 use mathlib.Core.Path.{◌≡◌, sym, ap, ◌∙◌}
 use mathlib.Core.List.Perm
 use mathlib.Core.List.{List, ◌++◌, Perm}
 use Prim.Native.Nat.{ℕ, ◌+◌, ◌≤◌}
 use native.Mathlib.Omega.{arith}
 use Rattle.grid.specs.declared.place.Grid.{Grid}
-use Rattle.grid.specs.declared.place.Chosen.TheVariants as chosen
 use Rattle.grid.specs.Grid.{grid_of, bins_of}
 use Rattle.grid.proofs.Places.{chose}
-use Rattle.table.specs.declared.layout.Layout.TheVariants.{Wide}
+use Rattle.table.specs.Layouts.{Wide}
 use Rattle.table.specs.Table.{Table, view_of, written}
 use Rattle.table.specs.Sound.{limit, total}
 use Rattle.adder.specs.Batch.{Weighted, weight_of, loaded}
@@ -28,7 +28,7 @@ use Rattle.promises.proofs.RecorderColours.{load_perm}
 use Rattle.promises.proofs.Recorder.{replay_table_lem, replay_total, replay_fits}
 
 module _ (first b1 b2 b3 : ℕ) (t : Table) (r : Recorded) (bytes : ColourBytes r)
-    (done : replay_number first b1 b2 b3 t r ≡ 0) {g : Grid} (e : grid_of b1 b2 b3 ≡ chosen.Accepted g) where
+    (done : replay_number first b1 b2 b3 t r ≡ 0) {g : Grid} (e : grid_of b1 b2 b3 ≡ Some g) where
   -- what was taken, loaded into the first table in any order
   pub taken_in_any_order : {ds : List Weighted} → Perm (taken first b1 b2 b3 t r) ds
       → replay_table first b1 b2 b3 t r ≡ written (bins_of g) (loaded g ds (view_of t))

@@ -1,6 +1,7 @@
 -- How a replay stands before each of its entries: the session has the interval that the reloads set, and the table is
 -- the first one with the scaled colours loaded that were taken before.
 -- Assumes nothing.
+use Rattle.std.specs.Prelude.{Some}
 use mathlib.Core.Path.{◌≡◌, refl, sym, ap, ◌∙◌}
 use mathlib.Core.Logic.{◌⊎◌, inl, inr}
 use mathlib.Core.Bool.{Bool, true, false, not, ◌&&◌, cond}
@@ -12,7 +13,6 @@ use lib.Dec.{eqb, ltb}
 use lib.ListN.{length, get_or}
 use Rattle.basics.specs.Answer.{refuse}
 use Rattle.grid.specs.declared.place.Grid.{Grid}
-use Rattle.grid.specs.declared.place.Chosen.TheVariants as chosen
 use Rattle.grid.specs.Grid.{grid_of, bins_of}
 use Rattle.grid.proofs.Places.{chose}
 use Rattle.table.specs.Table.{Table, view_of, written}
@@ -40,7 +40,7 @@ use Rattle.promises.proofs.RecorderSteps.{one_by_one}
 use Rattle.promises.proofs.RecorderColours.{load_none, load_more, weight_none}
 
 module _ (first b1 b2 b3 : ℕ) (t : Table) (r : Recorded) (bytes : ColourBytes r)
-    (done : replay_number first b1 b2 b3 t r ≡ 0) {g : Grid} (e : grid_of b1 b2 b3 ≡ chosen.Accepted g) where
+    (done : replay_number first b1 b2 b3 t r ≡ 0) {g : Grid} (e : grid_of b1 b2 b3 ≡ Some g) where
   abbrev answers : List ℕ
   answers = replay_bytes first b1 b2 b3 t r
 

@@ -1,6 +1,7 @@
 -- Colours, counts and remainders of a cut that is done give the sums of each box back, and over all boxes those of the
 -- table (Rules, Results).
 -- Assumes nothing.
+use Rattle.std.specs.Prelude.{Some}
 use mathlib.Core.Path.{◌≡◌, ap, ◌∙◌}
 use mathlib.Core.List.{List}
 use Prim.Native.Nat.{ℕ, suc, ◌+◌, ◌*◌, ◌<◌}
@@ -8,11 +9,10 @@ use native.Mathlib.Omega.{arith}
 use lib.ListN.{length, get_or}
 use Rattle.rounds.specs.declared.gather.Boxes.{Boxes}
 use Rattle.grid.specs.declared.place.Grid.{Grid}
-use Rattle.grid.specs.declared.place.Chosen.TheVariants as chosen
 use Rattle.basics.specs.Range.{sum_from}
 use Rattle.basics.proofs.Range.{sum_same}
 use Rattle.grid.specs.Grid.{grid_of, Accepted, bins_of}
-use Rattle.table.specs.declared.layout.Layout.TheVariants.{Wide}
+use Rattle.table.specs.Layouts.{Wide}
 use Rattle.table.specs.Table.{view_of}
 use Rattle.table.specs.Sound.{limit}
 use Rattle.boxes.specs.declared.sides.Bounds.{Bounds}
@@ -78,7 +78,7 @@ module _ (source : Source) {g : Grid} {k : ℕ} (t : List ℕ) (b : Buffers) (a 
       }
 
 pub remainders : (source : Source) (b1 b2 b3 k : ℕ) (t : List ℕ) (b : Buffers) {g : Grid}
-    → grid_of b1 b2 b3 ≡ chosen.Accepted g
+    → grid_of b1 b2 b3 ≡ Some g
     → cut_number source b1 b2 b3 k t b ≡ 0
     → Remainders g t (cut_record source b1 b2 b3 k t b) (cut_later source b1 b2 b3 k t b)
 remainders source b1 b2 b3 k t b e n =

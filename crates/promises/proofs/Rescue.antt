@@ -1,5 +1,6 @@
 -- Rescuing a damaged table: what is kept and what is cleared, and why; of a sound table, and a second time.
 -- Assumes nothing.
+use Rattle.std.specs.Prelude.{Some}
 use mathlib.Core.Path.{◌≡◌, refl, sym, ap, ◌∙◌}
 use mathlib.Core.Bool.{Bool, true, cond}
 use mathlib.Core.List.{List}
@@ -10,7 +11,6 @@ use lib.ListN.{length, get_or, replicate, length-replicate, get_or-replicate}
 use lib.Seq.{ext_get_or}
 use Rattle.basics.proofs.Range.{sum_same}
 use Rattle.grid.specs.declared.place.Grid.{Grid}
-use Rattle.grid.specs.declared.place.Chosen.TheVariants as chosen
 use Rattle.grid.specs.Grid.{grid_of, bins_of}
 use Rattle.table.specs.Table.{Table, view_of}
 use Rattle.table.specs.Sound.{limit, sound}
@@ -24,7 +24,7 @@ use Rattle.rescue.proofs.Views.{rescued_sound, sound_kept}
 use Rattle.rescue.proofs.Laws.{RescueDone, rescue_says, rescue_accepts}
 use Rattle.promises.specs.Rescue.{may_stay, total_before, kept_total, Rescued}
 
-module _ (b1 b2 b3 : ℕ) {g : Grid} (chosen : grid_of b1 b2 b3 ≡ chosen.Accepted g) where
+module _ (b1 b2 b3 : ℕ) {g : Grid} (chosen : grid_of b1 b2 b3 ≡ Some g) where
   module _ (t l : List ℕ) (done : rescue_number b1 b2 b3 t l ≡ 0) where
     abbrev later : Table
     later = rescue_table b1 b2 b3 t l

@@ -1,16 +1,16 @@
 -- The listing for a terminal (Rules, Listing): a refusal alone, and swatches of the nearest colours.
 -- Assumes nothing.
+use Rattle.std.specs.Prelude.{Some}
 use mathlib.Core.Path.{◌≡◌, refl, sym, ap, ◌∙◌}
 use mathlib.Core.List.{List}
 use Prim.Native.Nat.{ℕ, suc, ◌<◌}
 use native.Mathlib.Omega.{arith}
 use lib.Dec.{lit≤}
 use lib.ListN.{length, get_or, replicate}
-use Rattle.grid.specs.declared.place.Chosen.TheVariants as chosen
 use Rattle.grid.specs.Size.{choices, shift_in, shift_of}
 use Rattle.grid.specs.Grid.{grid_with, grid_of}
 use Rattle.pixels.specs.Colour.{colour_at}
-use Rattle.table.specs.declared.layout.Layout.TheVariants.{Wide}
+use Rattle.table.specs.Layouts.{Wide}
 use Rattle.table.specs.Table.{view_of}
 use Rattle.sums.specs.declared.source.Source.TheVariants.{Moments}
 use Rattle.cutter.specs.Palette.{its_colour, palette_later}
@@ -44,7 +44,7 @@ only_cut_refusal t e =
     text_cut 0 t refl ∙ cut_refused t refl (λ z. not_both z e) ∙ ap refused_of e
 
 -- ---- a cut that is done
-is_grid8 : grid_of 8 8 8 ≡ chosen.Accepted grid8
+is_grid8 : grid_of 8 8 8 ≡ Some grid8
 unfolding choices shift_in shift_of grid_with grid_of
 is_grid8 = refl
 

@@ -2,6 +2,7 @@
 -- is empty, the counts add up to the total, and each is the sum of the weights in its box; of a loaded table, of the
 -- loaded weights whose bin lies there.
 -- Assumes nothing.
+use Rattle.std.specs.Prelude.{Some}
 use mathlib.Core.Path.{◌≡◌, sym, ap, subst, ◌∙◌}
 use mathlib.Core.Bool.{Bool, cond}
 use mathlib.Core.List.{List, [], ◌∷◌}
@@ -10,12 +11,11 @@ use native.Mathlib.Omega.{arith}
 use lib.Dec.{lit<}
 use lib.ListN.{length, get_or}
 use Rattle.grid.specs.declared.place.Grid.{Grid}
-use Rattle.grid.specs.declared.place.Chosen.TheVariants as chosen
 use Rattle.basics.specs.Range.{sum_from}
 use Rattle.grid.specs.Grid.{grid_of, Accepted, bins_of, colour_place}
 use Rattle.basics.proofs.Range.{sum_same}
 use Rattle.grid.proofs.Places.{Bytes, colour_place_lt}
-use Rattle.table.specs.declared.layout.Layout.TheVariants.{Wide}
+use Rattle.table.specs.Layouts.{Wide}
 use Rattle.table.specs.Table.{is_sized, view_of}
 use Rattle.table.specs.Sound.{limit, total}
 use Rattle.adder.specs.Batch.{Weighted, sum_over}
@@ -33,7 +33,7 @@ use Rattle.boxes.specs.Box.{no_box}
 use Rattle.rounds.specs.Loop.{boxes_of}
 use Rattle.rounds.proofs.Filled.{heap_most}
 use Rattle.sums.specs.declared.source.Source.{Source}
-use Rattle.cutter.specs.declared.call.CutRecord.{CutRecord}
+use Rattle.cutter.specs.Record.{CutRecord}
 use Rattle.cutter.specs.Palette.{count_of, palette_later, counts_later, front_of}
 use Rattle.boxes.specs.Holds.{holds_at}
 use Rattle.cutter.specs.Cut.{LengthsFit, results_on, Buffers, lengths_of, cut_number, done_record, cut_record, list_of}
@@ -146,7 +146,7 @@ tiling_loaded {g} a cs b {r} {later} t =
 
 -- ---- the promises
 module _ (source : Source) (b1 b2 b3 k : ℕ) (t : List ℕ) (b : Buffers) {g : Grid}
-    (e : grid_of b1 b2 b3 ≡ chosen.Accepted g) (n : cut_number source b1 b2 b3 k t b ≡ 0) where
+    (e : grid_of b1 b2 b3 ≡ Some g) (n : cut_number source b1 b2 b3 k t b ≡ 0) where
   -- at any total, of every table that a cut is done with
   pub tiling : Tiling g t (cut_record source b1 b2 b3 k t b) (cut_later source b1 b2 b3 k t b)
   tiling =

@@ -1,6 +1,7 @@
 -- "Cases P1 to P10 are proved as one table under one statement": each comes out as it says there (Rules, Cases),
 -- computed on the definitions that the contracts of load and cut cite.
 -- Assumes nothing.
+use Rattle.std.specs.Prelude.{Some}
 use mathlib.Core.Path.{◌≡◌, refl}
 use mathlib.Core.Bool.{true, false}
 use mathlib.Core.List.{[], map, Memᴰ}
@@ -12,7 +13,6 @@ use Rattle.grid.specs.Size.{choices, shift_in, shift_of, bin_of, span_of}
 use Rattle.basics.specs.Dimension.{choose}
 use Rattle.grid.specs.Grid.{shift_at, grid_with, grid_of, grid_answer, on_grid, number_on, bins_of, place_of, bin_at}
 use Rattle.grid.specs.Grid.{colour_place}
-use Rattle.grid.specs.declared.place.Chosen.TheVariants as chosen
 use Rattle.pixels.specs.Colour.{colour_at}
 use Rattle.table.specs.Table.{table_len, is_sized, view_of, written}
 use Rattle.table.specs.Sound.{limit, between, squared_span, plus_span, squares_span, in_bounds, span_at, bin_sound}
@@ -83,7 +83,7 @@ four_added = refl
 
 -- the two tables that `not_83` and `not_an_eighth` are about: each is sound, with the spread, the weight, the squares
 -- and the squared sums of its whole grid
-pub grid2_accepted : grid_of 2 2 2 ≡ chosen.Accepted grid2
+pub grid2_accepted : grid_of 2 2 2 ≡ Some grid2
 unfolding grid_of grid_with shift_of shift_in choices
 grid2_accepted = refl
 

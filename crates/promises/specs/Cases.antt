@@ -7,10 +7,10 @@ use Rattle.loader.specs.Load.{load_number, load_later}
 use Rattle.loader.specs.Plan.{Batch}
 use Rattle.spread.specs.Spread.{zero_of}
 use Rattle.spread.specs.Cut.{ScoredAnswer, position_answer, best_cut}
-use Rattle.rounds.specs.declared.gather.BoxSpread.{BoxSpread}
+use Rattle.heap.specs.declared.heap.BoxSpread.{BoxSpread}
 use Rattle.boxes.specs.Box.{whole_of}
 use Rattle.sums.specs.declared.source.Source.TheVariants.{Moments}
-use Rattle.cutter.specs.declared.call.CutRecord.{CutRecord}
+use Rattle.cutter.specs.Record.{CutRecord}
 use Rattle.cutter.specs.Cut.{Buffers, buffers, cut_record, cut_later}
 
 -- the answer to a load, and the table then

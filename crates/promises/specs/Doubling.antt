@@ -3,15 +3,15 @@ use Rattle.std.specs.Prelude.{◌≡◌, true, List, map, ◌++◌, ℕ, ◌*◌
 use Rattle.pixels.specs.declared.colour.Rgb.{Rgb}
 use Rattle.grid.specs.declared.place.Grid.{Grid}
 use Rattle.grid.specs.Grid.{colour_place}
-use Rattle.table.specs.declared.layout.Layout.{Layout}
-use Rattle.table.specs.declared.layout.Layout.TheVariants.{Wide, Narrow}
+use Rattle.table.specs.Layouts.{Layout}
+use Rattle.table.specs.Layouts.{Wide, Narrow}
 use Rattle.table.specs.Narrow.{narrow_table}
 use Rattle.table.specs.Layout.{TableIn, view_in}
 use Rattle.table.specs.Sound.{limit_of, total, sound}
 use Rattle.sums.specs.declared.source.Source.{Source}
 use Rattle.sums.specs.declared.source.Source.TheVariants.{Moments}
-use Rattle.rounds.specs.declared.gather.BoxSpread.{BoxSpread}
-use Rattle.cutter.specs.declared.call.CutRecord.{CutRecord}
+use Rattle.heap.specs.declared.heap.BoxSpread.{BoxSpread}
+use Rattle.cutter.specs.Record.{CutRecord}
 use Rattle.cutter.specs.Cut.{BuffersIn, cut_number_in, cut_record_in, cut_later_in}
 use Rattle.doubling.specs.Grow.{times_power}
 

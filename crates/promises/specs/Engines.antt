@@ -3,7 +3,7 @@
 use Rattle.std.specs.Prelude.{◌≡◌, true, ◌⊎◌, List, ℕ, Float}
 use Rattle.grid.specs.declared.place.Grid.{Grid}
 use Rattle.grid.specs.Grid.{bins_of}
-use Rattle.table.specs.declared.layout.Layout.{Layout}
+use Rattle.table.specs.Layouts.{Layout}
 use Rattle.table.specs.Layout.{TableIn, is_sized_in}
 use Rattle.sums.specs.declared.source.Source.TheVariants.{Moments, Bins}
 use Rattle.cutter.specs.Cut.{Results, BuffersIn, no_work_in, cut_number_in, cut_record_in, cut_later_in}

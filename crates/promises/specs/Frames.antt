@@ -1,8 +1,8 @@
 -- When each answer applies to loading a PPM, and what such a load is given that nothing refuses (Rules, Frames; Rules,
 -- Answers). Definitions only.
+use Rattle.std.specs.Prelude.{Option}
 use Rattle.std.specs.Prelude.{◌≡◌, Bool, true, false, not, List, [], ◌∷◌, ◌++◌, ℕ, ◌+◌, ◌*◌, ◌/◌, ◌≤◌, eqb, ltb, length}
 use Rattle.grid.specs.declared.place.Grid.{Grid}
-use Rattle.grid.specs.declared.place.Chosen.{Chosen}
 use Rattle.grid.specs.Grid.{grid_of, bins_of}
 use Rattle.table.specs.Table.{Table, Sized, is_sized, view_of}
 use Rattle.table.specs.Sound.{limit, total, sound}
@@ -21,7 +21,7 @@ file_tests file =
     ∷ []
 
 -- "load of a PPM 10, 11, 12, 1, 5, 6, 7": there is no 3 and no 4, and each pixel weighs 1
-unfoldable pub pixel_tests : Chosen → Table → ℕ → Tests
+unfoldable pub pixel_tests : Option Grid → Table → ℕ → Tests
 pixel_tests c t pixels =
     (1, no_grid c)
     ∷ (5, on_bins c (λ g. not (is_sized t (bins_of g))))
@@ -29,7 +29,7 @@ pixel_tests c t pixels =
     ∷ (7, on_bins c (λ g. ltb limit (total g (view_of t) + pixels)))
     ∷ []
 
-unfoldable pub ppm_tests : Chosen → Table → List ℕ → Tests
+unfoldable pub ppm_tests : Option Grid → Table → List ℕ → Tests
 ppm_tests c t file = file_tests file ++ pixel_tests c t (length (pixels_of file) / 3)
 
 unfoldable pub ppm_applies : ℕ → ℕ → ℕ → Table → List ℕ → ℕ → Bool

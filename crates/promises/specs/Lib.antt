@@ -24,3 +24,4 @@ pub mod Recorder
 pub mod RecorderNumbers
 pub mod Grammar
 pub mod Terminal
+pub mod Seen

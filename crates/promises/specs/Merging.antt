@@ -1,6 +1,6 @@
 -- Two tables merged in either order, and three (Rules, Merge). Definitions only.
 use Rattle.std.specs.Prelude.{◌≡◌, ℕ}
-use Rattle.table.specs.declared.layout.Layout.{Layout}
+use Rattle.table.specs.Layouts.{Layout}
 use Rattle.table.specs.Layout.{TableIn}
 use Rattle.loader.specs.Merge.{merge_number_in, merge_later_in}
 

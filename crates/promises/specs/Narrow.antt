@@ -1,10 +1,10 @@
 -- The narrow layout beside the wide one (Rules, Layouts): "Up to there loading, merging and cutting give exactly what
 -- the wide layout gives". Definitions only.
+use Rattle.std.specs.Prelude.{Option}
 use Rattle.std.specs.Prelude.{◌≡◌, Bool, true, not, List, [], ◌∷◌, ℕ, suc, ◌^◌, ◌≤◌, ◌<◌}
 use Rattle.grid.specs.declared.place.Grid.{Grid}
-use Rattle.grid.specs.declared.place.Chosen.{Chosen}
 use Rattle.grid.specs.Grid.{grid_of, bins_of}
-use Rattle.table.specs.declared.layout.Layout.TheVariants.{Narrow}
+use Rattle.table.specs.Layouts.{Narrow}
 use Rattle.table.specs.Cell.{View}
 use Rattle.table.specs.Table.{Table, Sized, is_sized, view_of}
 use Rattle.table.specs.Narrow.{NarrowTable, NarrowSized, narrow_view}
@@ -93,7 +93,7 @@ pub record Widening (g : Grid) (t : NarrowTable) (w : Table) : Type 0 where
   pub total_is : total g (view_of w) ≡ total g (narrow_view t)
 
 -- widening 1, 5, 6
-unfoldable pub widen_tests : Chosen → NarrowTable → Table → Tests
+unfoldable pub widen_tests : Option Grid → NarrowTable → Table → Tests
 widen_tests c t old =
     (1, no_grid c)
     ∷ (5, on_bins c (λ g. not (is_sized_in Narrow t (bins_of g))))

@@ -1,18 +1,17 @@
 -- When each answer applies to a call, and what a call is given that nothing refuses (Rules, Answers). Definitions only.
+use Rattle.std.specs.Prelude.{Option, Some}
 use Rattle.std.specs.Prelude.{◌≡◌, Bool, true, false, not, ◌&&◌, ◌||◌, cond, List, [], ◌∷◌, ℕ, zero, suc, ◌+◌, ◌/◌, ◌%◌, ◌≤◌, ◌<◌, eqb, leb, ltb, ℤ, length}
 use Rattle.basics.specs.Answer.{refuse}
 use Rattle.grid.specs.declared.place.Grid.{Grid}
-use Rattle.grid.specs.declared.place.Chosen.{Chosen}
-use Rattle.grid.specs.declared.place.Chosen.TheVariants as chosen
 use Rattle.grid.specs.Grid.{grid_of, grid_answer, on_grid, bins_of}
-use Rattle.table.specs.declared.layout.Layout.{Layout}
-use Rattle.table.specs.declared.layout.Layout.TheVariants.{Narrow}
+use Rattle.table.specs.Layouts.{Layout}
+use Rattle.table.specs.Layouts.{Narrow}
 use Rattle.table.specs.Table.{table_len, Sized, is_sized, view_of}
 use Rattle.table.specs.Narrow.{NarrowTable, NarrowSized, narrow_view}
 use Rattle.table.specs.Layout.{TableIn, SizedIn, is_sized_in, view_in}
 use Rattle.table.specs.Sound.{limit, limit_of, total, sound}
 use Rattle.adder.specs.Batch.{weight_of, batch_of}
-use Rattle.adder.specs.Add.{passed_number}
+use Rattle.table.specs.Sound.{passed_number}
 use Rattle.sums.specs.declared.source.Source.{Source}
 use Rattle.cutter.specs.Cut.{BuffersIn, lengths_right}
 use Rattle.band.specs.Band.{all_below}
@@ -53,15 +52,15 @@ ascends last n [] = true
 ascends last n (x ∷ xs) = leb n x.0 && (leb x.0 last && ascends last x.0 xs)
 
 -- "a grid size not among the seven" (`grid_told`)
-unfoldable pub no_grid : Chosen → Bool
+unfoldable pub no_grid : Option Grid → Bool
 no_grid c = eqb (grid_answer c).number 1
 
 -- a test that asks for the grid's bins: where there is no grid it does not hold, and 1 applies
-unfoldable pub on_bins : Chosen → (Grid → Bool) → Bool
+unfoldable pub on_bins : Option Grid → (Grid → Bool) → Bool
 on_bins c test = on_grid c false test
 
 -- "load 1, 3, 4, 5, 6, 7", and in the narrow layout "refused with 15, in the place of 7"
-unfoldable pub load_tests : (l : Layout) → Chosen → TableIn l → List ℕ → Bool → List ℕ → Tests
+unfoldable pub load_tests : (l : Layout) → Option Grid → TableIn l → List ℕ → Bool → List ℕ → Tests
 load_tests l c t colours weighted weights =
     (1, no_grid c)
     ∷ (3, not (eqb (length colours % 3) 0))
@@ -78,7 +77,7 @@ unfoldable pub load_applies : (l : Layout) → ℕ → ℕ → ℕ → TableIn l
 load_applies l b1 b2 b3 t colours weighted weights = applies (load_tests l (grid_of b1 b2 b3) t colours weighted weights)
 
 -- "merge 1, 5, 6, 7 (either table unsound is 6)"
-unfoldable pub merge_tests : (l : Layout) → Chosen → TableIn l → TableIn l → Tests
+unfoldable pub merge_tests : (l : Layout) → Option Grid → TableIn l → TableIn l → Tests
 merge_tests l c t s =
     (1, no_grid c)
     ∷ (5, on_bins c (λ g. not (is_sized_in l t (bins_of g))))
@@ -92,7 +91,7 @@ unfoldable pub merge_applies : (l : Layout) → ℕ → ℕ → ℕ → TableIn 
 merge_applies l b1 b2 b3 t s = applies (merge_tests l (grid_of b1 b2 b3) t s)
 
 -- "compare 1, 5, 6 (likewise)"
-unfoldable pub compare_tests : Chosen → List ℕ → List ℕ → List ℤ → Tests
+unfoldable pub compare_tests : Option Grid → List ℕ → List ℕ → List ℤ → Tests
 compare_tests c t s l =
     (1, no_grid c)
     ∷ (5, on_bins c (λ g. not (is_sized t (bins_of g))))
@@ -106,7 +105,7 @@ unfoldable pub compare_applies : ℕ → ℕ → ℕ → List ℕ → List ℕ �
 compare_applies b1 b2 b3 t s l = applies (compare_tests (grid_of b1 b2 b3) t s l)
 
 -- "rescue 1, 5"
-unfoldable pub rescue_tests : Chosen → List ℕ → List ℕ → Tests
+unfoldable pub rescue_tests : Option Grid → List ℕ → List ℕ → Tests
 rescue_tests c t l =
     (1, no_grid c)
     ∷ (5, on_bins c (λ g. not (is_sized t (bins_of g))))
@@ -117,7 +116,7 @@ unfoldable pub rescue_applies : ℕ → ℕ → ℕ → List ℕ → List ℕ �
 rescue_applies b1 b2 b3 t l = applies (rescue_tests (grid_of b1 b2 b3) t l)
 
 -- "cut 1, 2, 5, 6, 8"; `room` is what only the call for C and Rust is lent besides
-unfoldable pub cut_tests : (l : Layout) → Source → Chosen → ℕ → TableIn l → BuffersIn l → Bool → Tests
+unfoldable pub cut_tests : (l : Layout) → Source → Option Grid → ℕ → TableIn l → BuffersIn l → Bool → Tests
 cut_tests l source c k t b room =
     (1, no_grid c)
     ∷ (2, not (leb 1 k && leb k 256))
@@ -136,7 +135,7 @@ call_applies l source b1 b2 b3 k t e =
     (cut_tests l source (grid_of b1 b2 b3) k t e.buffers (has_room k (length e.boxes) (length e.spreads)))
 
 -- "map and paint 1, 3, 5, 9"; `lengths` are those that only one of them is lent
-unfoldable pub band_tests : Chosen → List ℕ → ℕ → Bool → List ℕ → ℕ → ℕ → Tests
+unfoldable pub band_tests : Option Grid → List ℕ → ℕ → Bool → List ℕ → ℕ → ℕ → Tests
 band_tests c map palette_colours lengths frame first pixels =
     (1, no_grid c)
     ∷ (3, not (eqb (length frame % 3) 0))
@@ -165,7 +164,7 @@ paint_applies b1 b2 b3 map palette frame first pixels =
 -- no 1: each size is among the seven; and on their grid, none of the call's other answers
 pub record OnGrid (b1 b2 b3 : ℕ) (Can : Grid → Type 0) : Type 0 where
   pub g : Grid
-  pub chosen : grid_of b1 b2 b3 ≡ chosen.Accepted g
+  pub chosen : grid_of b1 b2 b3 ≡ Some g
   pub can : Can g
 
 -- of a load, no 3, 4, 5, 6, and no 7 or 15

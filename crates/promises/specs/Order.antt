@@ -3,7 +3,7 @@ use Rattle.std.specs.Prelude.{◌≡◌, ℕ, get_or}
 use Rattle.pixels.specs.declared.colour.Rgb.{Rgb}
 use Rattle.grid.specs.declared.place.Grid.{Grid}
 use Rattle.grid.specs.Grid.{colour_place}
-use Rattle.table.specs.declared.layout.Layout.{Layout}
+use Rattle.table.specs.Layouts.{Layout}
 use Rattle.table.specs.Layout.{TableIn}
 use Rattle.loader.specs.Plan.{Plan, Filled, ends_in}
 use Rattle.sums.specs.declared.source.Source.{Source}

@@ -4,7 +4,7 @@ use Rattle.std.specs.Prelude.{◌≡◌, ◌⊎◌, true, not, ◌&&◌, cond, L
 use Rattle.basics.specs.Answer.{refuse}
 use Rattle.basics.specs.Range.{list_from}
 use Rattle.grid.specs.declared.place.Grid.{Grid}
-use Rattle.table.specs.declared.layout.Layout.TheVariants.{Wide}
+use Rattle.table.specs.Layouts.{Wide}
 use Rattle.table.specs.Table.{Table, view_of}
 use Rattle.table.specs.Sound.{limit, total}
 use Rattle.adder.specs.Batch.{Weighted, weight_of}

@@ -1,9 +1,9 @@
 -- When each answer applies to a call of the recorder, and what such a call is given that nothing refuses (Rules,
 -- Record; Rules, Replay; Rules, Answers). Definitions only.
+use Rattle.std.specs.Prelude.{Option}
 use Rattle.std.specs.Prelude.{◌≡◌, ◌⊎◌, Bool, true, not, ◌&&◌, ◌||◌, cond, List, [], ◌∷◌, ℕ, ◌+◌, ◌*◌, ◌/◌, ◌%◌, ◌≤◌, ◌<◌, eqb, ltb, length, get_or}
 use Rattle.basics.specs.Range.{sum_from, all_from}
 use Rattle.grid.specs.declared.place.Grid.{Grid}
-use Rattle.grid.specs.declared.place.Chosen.{Chosen}
 use Rattle.grid.specs.Grid.{grid_of, bins_of}
 use Rattle.table.specs.Table.{Table, Sized, is_sized, view_of}
 use Rattle.table.specs.Sound.{limit, total, sound}
@@ -26,7 +26,7 @@ batch_weighs i colours weighted weights =
     i * cond weighted (sum_from 0 (length colours / 3) (λ k. get_or weights k 0)) (length colours / 3)
 
 -- "batch 13, 14, 1, 3, 4, 5, 6, 7"
-unfoldable pub scaled_tests : Chosen → ℕ → Table → List ℕ → Bool → List ℕ → Tests
+unfoldable pub scaled_tests : Option Grid → ℕ → Table → List ℕ → Bool → List ℕ → Tests
 scaled_tests c i t colours weighted weights =
     (1, no_grid c)
     ∷ (3, not (eqb (length colours % 3) 0))
@@ -36,7 +36,7 @@ scaled_tests c i t colours weighted weights =
     ∷ (7, on_bins c (λ g. ltb limit (total g (view_of t) + batch_weighs i colours weighted weights)))
     ∷ []
 
-unfoldable pub batch_tests : Chosen → Session → ℕ → Table → List ℕ → Bool → List ℕ → Tests
+unfoldable pub batch_tests : Option Grid → Session → ℕ → Table → List ℕ → Bool → List ℕ → Tests
 batch_tests c s i t colours weighted weights =
     (13, not (is_interval i)) ∷ (14, not (eqb i s.interval)) ∷ scaled_tests c i t colours weighted weights
 
@@ -46,7 +46,7 @@ batch_applies s i b1 b2 b3 t colours weighted weights =
 
 -- "replay 13, 1, 5, 6": 5 also where entries are not in threes, another kind, a reload with colours, colours or weights
 -- that do not fit the entries exactly, and fewer answer bytes than entries
-unfoldable pub list_tests : Chosen → Table → Recorded → Tests
+unfoldable pub list_tests : Option Grid → Table → Recorded → Tests
 list_tests c t r =
     (1, no_grid c)
     ∷ (5, on_bins c (λ g. not (is_sized t (bins_of g))))
@@ -67,7 +67,7 @@ list_tests c t r =
     ∷ (6, on_bins c (λ g. not (sound limit g (view_of t))))
     ∷ []
 
-unfoldable pub replay_tests : Chosen → ℕ → Table → Recorded → Tests
+unfoldable pub replay_tests : Option Grid → ℕ → Table → Recorded → Tests
 replay_tests c first t r = (13, not (is_interval first)) ∷ list_tests c t r
 
 unfoldable pub replay_applies : ℕ → ℕ → ℕ → ℕ → Table → Recorded → ℕ → Bool

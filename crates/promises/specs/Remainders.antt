@@ -5,7 +5,7 @@ use Rattle.basics.specs.Range.{sum_from}
 use Rattle.grid.specs.Grid.{bins_of}
 use Rattle.table.specs.Table.{view_of}
 use Rattle.boxes.specs.Holds.{holds_at}
-use Rattle.cutter.specs.declared.call.CutRecord.{CutRecord}
+use Rattle.cutter.specs.Record.{CutRecord}
 use Rattle.cutter.specs.Cut.{Buffers}
 use Rattle.promises.specs.Tiling.{box_in}
 

@@ -11,7 +11,7 @@ use Rattle.adder.specs.Batch.{Weighted, sum_over}
 use Rattle.boxes.specs.declared.sides.Bounds.{Bounds}
 use Rattle.boxes.specs.Box.{Within}
 use Rattle.boxes.specs.Box.{no_box}
-use Rattle.cutter.specs.declared.call.CutRecord.{CutRecord}
+use Rattle.cutter.specs.Record.{CutRecord}
 use Rattle.cutter.specs.Palette.{colour_of, colours_of, front_of}
 use Rattle.boxes.specs.Holds.{holds_at, Tiles}
 use Rattle.cutter.specs.Cut.{Buffers, list_of}

@@ -1,5 +1,6 @@
 -- How a batch ends: refused for its interval, or as the load with scaled weights does.
 -- Assumes nothing.
+use Rattle.std.specs.Prelude.{Some}
 use mathlib.Core.Path.{◌≡◌, refl, sym, ap, ◌∙◌}
 use mathlib.Core.Bool.{Bool, true, false, not, ◌&&◌}
 use mathlib.Core.List.{List}
@@ -8,7 +9,6 @@ use borrow.Author.Tests.{eq-eqb, ltb-false}
 use lib.Dec.{eqb, ltb}
 use lib.ListN.{length}
 use Rattle.grid.specs.declared.place.Grid.{Grid}
-use Rattle.grid.specs.declared.place.Chosen.TheVariants as chosen
 use Rattle.basics.specs.Answer.{refuse, when_done}
 use Rattle.basics.proofs.Ends.{passed, refused_keeps}
 use Rattle.grid.specs.Grid.{grid_of, bins_of}
@@ -78,7 +78,7 @@ module _ (s : Session) (i b1 b2 b3 : ℕ) (t : Table) (colours : List ℕ) (weig
       go false b e = refl
 
   -- how it ends on a sound table with whole colours: by its interval, and then by the total
-  module _ {g : Grid} (e : grid_of b1 b2 b3 ≡ chosen.Accepted g) (threes : length colours % 3 ≡ 0)
+  module _ {g : Grid} (e : grid_of b1 b2 b3 ≡ Some g) (threes : length colours % 3 ≡ 0)
       (paired : weighted ≡ true → length weights ≡ length colours / 3) (lent : Sized t (bins_of g))
       (is_sound : sound limit g (view_of t) ≡ true) where
     four : (true && not (eqb (length scaled) (length colours / 3))) ≡ false

@@ -1,6 +1,7 @@
 -- What a caller of replay may use without seeing inside its definition: a refusal leaves all as it was, and where the
 -- answer is 0, what was given and how it ends.
 -- Assumes nothing.
+use Rattle.std.specs.Prelude.{None, Some}
 use mathlib.Core.Path.{◌≡◌, refl, sym, ap, ◌∙◌}
 use mathlib.Core.Bool.{Bool, true, false, not, ◌&&◌}
 use mathlib.Core.List.{List, ◌++◌}
@@ -10,7 +11,6 @@ use borrow.Author.Tests.{not-false}
 use lib.ListN.{length, get_or, drop, length-append, length-drop, get_or-append}
 use lib.Seq.{drop_at}
 use Rattle.grid.specs.declared.place.Grid.{Grid}
-use Rattle.grid.specs.declared.place.Chosen.TheVariants as chosen
 use Rattle.basics.specs.Answer.{refuse, when_done}
 use Rattle.basics.specs.Range.{list_from}
 use Rattle.basics.proofs.Ends.{passed}
@@ -36,7 +36,7 @@ module _ (first b1 b2 b3 : ℕ) (t : Table) (r : Recorded) where
       stands_after b1 b2 b3 (standing first t) (list_from 0 i (entry_at r.entries r.colours r.weights))
 
   -- its tests on an accepted grid, in their order
-  pub replay_tests_lem : {g : Grid} → grid_of b1 b2 b3 ≡ chosen.Accepted g → number
+  pub replay_tests_lem : {g : Grid} → grid_of b1 b2 b3 ≡ Some g → number
       ≡ refuse (not (is_interval first)) 13
       (refuse (not (is_sized t (bins_of g) && lent_fits r)) 5 (refuse (not (sound limit g (view_of t))) 6 0))
   unfolding replay_number replay_number_on number_on on_grid
@@ -46,7 +46,7 @@ module _ (first b1 b2 b3 : ℕ) (t : Table) (r : Recorded) where
   unfolding replay_number refuse
   replay_no_interval e = rw e refl
 
-  pub replay_no_grid : grid_of b1 b2 b3 ≡ chosen.Refused → number ≡ refuse (not (is_interval first)) 13 1
+  pub replay_no_grid : grid_of b1 b2 b3 ≡ None → number ≡ refuse (not (is_interval first)) 13 1
   unfolding replay_number number_on on_grid grid_answer
   replay_no_grid e = rw e refl
 
@@ -74,7 +74,7 @@ module _ (first b1 b2 b3 : ℕ) (t : Table) (r : Recorded) where
   -- done, there is a grid
   pub record ReplayGrid : Type 0 where
     pub g : Grid
-    pub chosen : grid_of b1 b2 b3 ≡ chosen.Accepted g
+    pub chosen : grid_of b1 b2 b3 ≡ Some g
 
   pub replay_grid : number ≡ 0 → ReplayGrid
   unfolding replay_number
@@ -99,7 +99,7 @@ module _ (first b1 b2 b3 : ℕ) (t : Table) (r : Recorded) where
     pub rest_stays : drop (entries_in r.entries) (replay_bytes first b1 b2 b3 t r)
         ≡ drop (entries_in r.entries) r.answers
 
-  pub replay_says : {g : Grid} → grid_of b1 b2 b3 ≡ chosen.Accepted g → number ≡ 0 → ReplayDone g
+  pub replay_says : {g : Grid} → grid_of b1 b2 b3 ≡ Some g → number ≡ 0 → ReplayDone g
   unfolding replayed replay_bytes entries_of when_done
   replay_says {g} chosen e =
       let one = passed (not (is_interval first)) 12 _ (sym (replay_tests_lem chosen) ∙ e) in
@@ -135,7 +135,7 @@ module _ (first b1 b2 b3 : ℕ) (t : Table) (r : Recorded) where
         rest_stays = ap (drop n) bytes ∙ drop_at answers (drop n r.answers) n size;
       }
 
-  pub replay_accepts : is_interval first ≡ true → {g : Grid} → grid_of b1 b2 b3 ≡ chosen.Accepted g → Sized t (bins_of g)
+  pub replay_accepts : is_interval first ≡ true → {g : Grid} → grid_of b1 b2 b3 ≡ Some g → Sized t (bins_of g)
       → lent_fits r ≡ true → sound limit g (view_of t) ≡ true → number ≡ 0
   unfolding refuse
   replay_accepts one e lent fits is_sound = replay_tests_lem e ∙ simp (one, sized_test lent, fits, is_sound)

@@ -7,3 +7,4 @@ pub mod Replays
 pub mod Steps
 pub mod Rest
 pub mod Worked
+pub mod Unlisted

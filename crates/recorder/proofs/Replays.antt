@@ -1,5 +1,6 @@
 -- How a replay ends: which answer it gives and what it leaves, case by case.
 -- Assumes nothing.
+use Rattle.std.specs.Prelude.{None, Some}
 use mathlib.Core.Path.{◌≡◌, refl, sym, ◌∙◌}
 use mathlib.Core.Bool.{true, false}
 use mathlib.Core.List.{List, ◌++◌}
@@ -7,7 +8,6 @@ use Prim.Native.Nat.{ℕ, suc}
 use lib.ListN.{drop}
 use Rattle.basics.specs.Answer.{refuse}
 use Rattle.grid.specs.declared.place.Grid.{Grid}
-use Rattle.grid.specs.declared.place.Chosen.TheVariants as chosen
 use Rattle.grid.specs.Grid.{grid_of, bins_of}
 use Rattle.grid.proofs.Places.{chose}
 use Rattle.table.specs.Table.{Table, Sized, view_of}
@@ -43,12 +43,12 @@ module _ (first b1 b2 b3 : ℕ) (t : Table) (r : Recorded) where
   ends_no_interval n = refused_with_lem (replay_no_interval first b1 b2 b3 t r n)
 
   module _ (i : is_interval first ≡ true) where
-    pub ends_no_grid : grid_of b1 b2 b3 ≡ chosen.Refused → {a : SessionAnswer} → a ≡ with 1
+    pub ends_no_grid : grid_of b1 b2 b3 ≡ None → {a : SessionAnswer} → a ≡ with 1
         → ReplayEnds a t r.answers
     unfolding refuse
     ends_no_grid e = refused_with_lem (replay_no_grid first b1 b2 b3 t r e ∙ rw i refl)
 
-    module _ {g : Grid} (e : grid_of b1 b2 b3 ≡ chosen.Accepted g) where
+    module _ {g : Grid} (e : grid_of b1 b2 b3 ≡ Some g) where
       pub ends_length : (Sized t (bins_of g) → ⊥) → {a : SessionAnswer} → a ≡ with 5 → ReplayEnds a t r.answers
       unfolding refuse
       ends_length n = refused_with_lem (replay_tests_lem first b1 b2 b3 t r e ∙ simp (i, not_sized_test n))

@@ -1,12 +1,15 @@
 -- Laws of intervals: which is in range, what a reload leaves, which interval of a batch is in force.
 -- Assumes nothing.
-use mathlib.Core.Path.{◌≡◌, refl, ap}
+use mathlib.Core.Path.{◌≡◌, refl, ap, ◌∙◌}
 use mathlib.Core.Bool.{Bool, true, false, not}
 use Prim.Native.Nat.{ℕ, ◌≤◌, ◌<◌}
 use borrow.Author.Tests.{le-leb, lt-leb, leb-true, eqb-true, eq-eqb, ne_eqb, not-false}
 use lib.Dec.{leb, eqb}
 use Rattle.basics.specs.Answer.{refuse, when_done}
+use Rattle.basics.specs.declared.refusal.Refusal.{Refusal}
+use Rattle.basics.specs.Refusal.{number_of}
 use Rattle.basics.proofs.Ends.{passed}
+use Rattle.basics.proofs.Exits.{not_0}
 use Rattle.basics.proofs.Range.{and_left, and_right, and_stop, and_false, never_true}
 use Rattle.recorder.specs.declared.session.Session.{Session}
 use Rattle.recorder.specs.Session.{is_interval, interval_number, reloaded}
@@ -47,6 +50,12 @@ module _ (i : ℕ) where
 
   pub no_interval : (interval_number i ≡ 0 → ⊥) → is_interval i ≡ false
   no_interval n = never_true (is_interval i) (λ e. n (number_in e))
+
+  -- a refusal tells that it is out of range
+  pub out_by : (r : Refusal) → number_of r ≡ interval_number i → (is_interval i ≡ false) × (number_of r ≡ 13)
+  out_by r e =
+      let out = no_interval (λ q. not_0 r (e ∙ q)) in
+      (out, e ∙ number_out out)
 
 -- ---- a reload sets an interval that is one, and leaves the session at any other
 module _ (s : Session) (i : ℕ) where

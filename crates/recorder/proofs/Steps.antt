@@ -1,5 +1,6 @@
 -- How one entry ends, by its kind and by what comes of its batch, at a table that is known to be sound.
 -- Assumes nothing.
+use Rattle.std.specs.Prelude.{None, Option, Some}
 use mathlib.Core.Path.{◌≡◌, refl, sym, ap, subst, ◌∙◌}
 use mathlib.Core.Bool.{true}
 use mathlib.Core.List.{List}
@@ -10,8 +11,6 @@ use Rattle.grid.specs.declared.place.Grid.{Grid}
 use Rattle.grid.proofs.Places.{sizes_chosen}
 use Rattle.table.specs.Table.{Table}
 use Rattle.table.specs.Sound.{limit}
-use Rattle.adder.specs.declared.add.Added.{Added}
-use Rattle.adder.specs.declared.add.Added.TheVariants.{Total, Passed}
 use Rattle.adder.specs.Add.{Known, Whole, scaled_batch, added_to, added_answer, added_later}
 use Rattle.adder.proofs.Scaled.{scaled_bytes}
 use Rattle.adder.proofs.Adding.{known_after, known_still}
@@ -54,7 +53,7 @@ module _ {g : Grid} {t : Table} {had : ℕ} (known : Known limit g t had) (s : S
 
     -- a batch in force: it fits, or it passes the limit
     module _ (force : in_force s interval 0 ≡ 0) (whole : Whole colours true weights) where
-      abbrev added : Added
+      abbrev added : Option ℕ
       added = added_to limit had (scaled_batch interval colours true weights)
 
       abbrev after : Table
@@ -71,14 +70,14 @@ module _ {g : Grid} {t : Table} {had : ℕ} (known : Known limit g t had) (s : S
           (q ∙ sym later))
           (subst (λ (x : Table). Known limit g x sum) (sym q) k)
 
-      pub ends_passed : added ≡ Passed → {e : Table} → e ≡ after → Ends 7 s e had
+      pub ends_passed : added ≡ None → {e : Table} → e ≡ after → Ends 7 s e had
       ends_passed p q =
-          added_ends (ap (λ (x : Added). (added_answer x).number) p) q
+          added_ends (ap (λ (x : Option ℕ). (added_answer x).number) p) q
           (known_still known (scaled_batch interval colours true weights) p)
 
-      pub ends_added : {sum : ℕ} → added ≡ Total sum → {e : Table} → e ≡ after
+      pub ends_added : {sum : ℕ} → added ≡ Some sum → {e : Table} → e ≡ after
           → ((i : ℕ) → get_or colours i 0 < 256) → Ends 0 s e sum
       ends_added p q bytes =
-          added_ends (ap (λ (x : Added). (added_answer x).number) p) q
+          added_ends (ap (λ (x : Option ℕ). (added_answer x).number) p) q
           (known_after known (scaled_batch interval colours true weights)
           (scaled_bytes interval colours true weights bytes) p)

@@ -1,22 +1,23 @@
 // A batch that says its own interval.
-ghost use Rattle.std.specs.Prelude.{◌≡◌};
+ghost use Rattle.std.specs.Prelude.{◌≡◌, is_some};
+ghost use Rattle.basics.specs.Refusal.{answer_of};
+ghost use Rattle.adder.specs.Add.{given};
 ghost use Rattle.recorder.specs.Batch.{in_force, batch_number, batch_later};
 
-use crate::session::{Session, interval_number};
+use crate::session::{Session, in_range};
+use basics::refusal::Refusal;
 use loader::load::load_scaled;
+use table::layout::Wide;
 
-// The answer that the interval of a batch calls for.
-pub(crate) fn in_force(s: Session, interval: u32) -> u8
-    ensures { result ≡ in_force s interval 0 }
+// Refuses an interval that is out of range or not in force.
+pub(crate) fn in_force(s: Session, interval: u32) -> Result<(), Refusal>
+    ensures { answer_of result ≡ in_force s interval 0 }
 {
-    let number = interval_number(interval);
-    if number != 0 {
-        return number;
-    }
+    in_range(interval)?;
     if interval != s.interval {
-        return 14;
+        return Err(Refusal::NotInForce);
     }
-    0
+    Ok(())
 }
 
 // Adds a batch of colours to a table, each weight multiplied by its interval.
@@ -28,28 +29,25 @@ pub fn batch(
     b3: usize,
     table: &mut [u64],
     colours: &[u8],
-    weighted: bool,
-    weights: &[u32],
-) -> u8
-    ensures number { result
-        ≡ batch_number s interval b1 b2 b3 table.old colours.now weighted
-        weights.now }
+    weights: Option<&[u32]>,
+) -> Result<(), Refusal>
+    ensures number { answer_of result
+        ≡ batch_number s interval b1 b2 b3 table.old colours.now (is_some weights.entry)
+        (given weights.entry) }
     ensures later { table.new
-        ≡ batch_later s interval b1 b2 b3 table.old colours.now weighted
-        weights.now }
+        ≡ batch_later s interval b1 b2 b3 table.old colours.now (is_some weights.entry)
+        (given weights.entry) }
 {
-    let number = in_force(s, interval);
-    if number != 0 {
-        return number;
-    }
-    load_scaled(
-        interval as u64,
+    in_force(s, interval)?;
+    let mut none = [0u32; 0];
+    load_scaled::<Wide>(
+        u64::from(interval),
         b1,
         b2,
         b3,
+        &mut none,
         table,
         colours,
-        weighted,
         weights,
     )
 }

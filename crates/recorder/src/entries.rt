@@ -2,16 +2,16 @@
 ghost use Rattle.std.specs.Prelude.{◌≡◌, ◌+◌, ◌*◌, ◌<◌, length};
 ghost use Rattle.recorder.specs.Replay.{is_entry, entries_fit};
 
-// Whether entry i is a reload without colours or a batch.
+// Whether entry i is a reload without colours or a batch. The list is the C interface's, so its kinds are numbers.
 fn is_entry(entries: &[u32], i: usize) -> bool
     requires { 3 * i + 2 < length entries.now }
     ensures { result ≡ is_entry entries.now i }
 {
-    let kind = entries[3 * i];
-    if kind == 0 {
-        return entries[3 * i + 2] == 0;
+    match entries[3 * i] {
+        0 => entries[3 * i + 2] == 0,
+        1 => true,
+        _ => false,
     }
-    kind == 1
 }
 
 // Whether entries are in threes and each of them one, with exactly as many colour bytes and weights as they say, and
@@ -20,22 +20,12 @@ fn is_entry(entries: &[u32], i: usize) -> bool
 pub(crate) fn entries_fit(entries: &[u32], colours: usize, weights: usize, answers: usize) -> bool
     ensures { result ≡ entries_fit entries.now colours weights answers }
 {
-    if entries.len() % 3 != 0 {
-        return false;
-    }
-    if colours % 3 != 0 {
-        return false;
-    }
-    if colours / 3 != weights {
-        return false;
-    }
     let n = entries.len() / 3;
-    if answers < n {
+    if entries.len() % 3 != 0 || colours % 3 != 0 || colours / 3 != weights || answers < n {
         return false;
     }
     let mut left = weights;
-    let mut i = 0;
-    while i < n {
+    for i in 0..n {
         if !is_entry(entries, i) {
             return false;
         }
@@ -43,8 +33,7 @@ pub(crate) fn entries_fit(entries: &[u32], colours: usize, weights: usize, answe
         if left < count {
             return false;
         }
-        left = left - count;
-        i = i + 1;
+        left -= count;
     }
     left == 0
 }

@@ -1,96 +1,70 @@
 // Replaying a recorded list: its entries one after the other, each with its answer.
 ghost use Rattle.std.specs.Prelude.{◌≡◌, true, ◌++◌, length, drop};
+ghost use Rattle.basics.specs.Refusal.{answer_of};
 ghost use Rattle.table.specs.Sound.{limit};
-ghost use Rattle.adder.specs.Add.{StepTable, Known, Whole};
+ghost use Rattle.adder.specs.Add.{Known, Whole};
 ghost use Rattle.recorder.specs.Replay.{entries_fit, entries_in, entries_of};
 ghost use Rattle.recorder.specs.Replay.{recorded, replay_answer, replay_table, replay_bytes};
-ghost use Rattle.recorder.specs.Inner.{stand, entry, number_on, later_on, stands_on, answers_on};
+ghost use Rattle.recorder.specs.Inner.{stand, entry, number_on, later_on, stands_on, answers_on, told};
 
 use crate::batch::in_force;
 use crate::entries::entries_fit;
-use crate::session::{Session, SessionAnswer, interval_number, reload};
-use adder::add::{Added, add_batch};
-use adder::steps::fill_steps;
-use grid::place::{Chosen, Grid, grid_of};
-use table::sound::{SoundTotal, sound_total};
+use crate::session::{Session, SessionAnswer, in_range};
+use adder::add::add_batch;
+use adder::steps::Steps;
+use basics::refusal::{Refusal, answer};
+use grid::place::grid_of;
+use table::layout::Wide;
+use table::sound::sound_total;
 use table::wide::table_len;
 
-// How a replay stands after an entry: its answer, the session, and the table's total.
-#[derive(Clone, Copy)]
-struct Stands {
-    number: u8,
-    session: Session,
-    total: u64,
-}
-
-// One entry, with the colours and weights that belong to it.
+// One entry, with the colours and weights that belong to it: it changes the session, or adds to the table and its
+// total. Its kind is a number, as the list is the C interface's.
 fn one_entry(
-    g: Grid,
-    steps: &[u64; 768],
+    steps: &Steps,
     table: &mut [u64],
-    had: u64,
-    s: Session,
+    total: &mut u64,
+    session: &mut Session,
     kind: u32,
     interval: u32,
     colours: &[u8],
     weights: &[u32],
-) -> Stands
-    requires known { Known limit g table.old had }
-    requires steps { StepTable g steps.now }
+) -> Result<(), Refusal>
+    requires known { Known limit steps.now.g table.old total.old }
     requires whole { Whole colours.now true weights.now }
-    ensures number { result.number
-        ≡ number_on g (stand s table.old)
+    ensures number { answer_of result
+        ≡ number_on steps.now.g (stand session.old table.old)
         (entry kind interval colours.now weights.now) }
-    ensures later { stand result.session table.new
-        ≡ later_on g (stand s table.old)
+    ensures later { stand session.new table.new
+        ≡ later_on steps.now.g (stand session.old table.old)
         (entry kind interval colours.now weights.now) }
-    ensures known { Known limit g table.new result.total }
+    ensures known { Known limit steps.now.g table.new total.new }
 {
     if kind == 0 {
-        let a = reload(s, interval);
-        let session = a.session;
-        return Stands {
-            number: a.number,
-            session,
-            total: had,
-        };
+        in_range(interval)?;
+        session.interval = interval;
+        return Ok(());
     }
-    let number = in_force(s, interval);
-    if number != 0 {
-        return Stands {
-            number,
-            session: s,
-            total: had,
-        };
-    }
-    let Added::Total(total) = add_batch(
-        g,
-        table,
-        had,
+    in_force(*session, interval)?;
+    let mut none = [0u32; 0];
+    let scale = u64::from(interval);
+    *total = add_batch::<Wide>(
         steps,
+        &mut none,
+        table,
+        *total,
         colours,
-        true,
-        weights,
-        interval as u64,
-    ) else {
-        return Stands {
-            number: 7,
-            session: s,
-            total: had,
-        };
-    };
-    Stands {
-        number: 0,
-        session: s,
-        total,
-    }
+        Some(weights),
+        scale,
+    )
+    .ok_or(Refusal::TooHeavy)?;
+    Ok(())
 }
 
 // All entries, one after the other. The colours and weights of each begin where those of the entry before it end,
 // refused or not.
 fn all_entries(
-    g: Grid,
-    steps: &[u64; 768],
+    steps: &Steps,
     table: &mut [u64],
     had: u64,
     s: Session,
@@ -99,59 +73,78 @@ fn all_entries(
     weights: &[u32],
     answers: &mut [u8],
 ) -> Session
-    requires known { Known limit g table.old had }
-    requires steps { StepTable g steps.now }
+    requires known { Known limit steps.now.g table.old had }
     requires fit { entries_fit entries.now (length colours.now) (length weights.now) (length answers.old)
         ≡ true }
     ensures stands { stand result table.new
-        ≡ stands_on g (stand s table.old)
+        ≡ stands_on steps.now.g (stand s table.old)
         (entries_of entries.now colours.now weights.now) }
     ensures answers { answers.new
-        ≡ answers_on g (stand s table.old)
+        ≡ answers_on steps.now.g (stand s table.old)
         (entries_of entries.now colours.now weights.now)
         ++ drop (entries_in entries.now) answers.old }
 {
-    let n = entries.len() / 3;
-    let mut in_force = s;
+    let mut session = s;
     let mut total = had;
     let mut at = 0;
-    let mut i = 0;
-    while i < n {
+    for i in 0..entries.len() / 3 {
         let e = 3 * i;
         let end = at + entries[e + 2] as usize;
         let from = 3 * at;
         let to = 3 * end;
-        let a = one_entry(
-            g,
+        let done = one_entry(
             steps,
             table,
-            total,
-            in_force,
+            &mut total,
+            &mut session,
             entries[e],
             entries[e + 1],
             &colours[from..to],
             &weights[at..end],
         );
-        answers[i] = a.number;
-        in_force = a.session;
-        total = a.total;
+        answers[i] = answer(done);
         at = end;
-        i = i + 1;
     }
-    in_force
+    session
 }
 
-// What a refusal hands back.
-fn refused(number: u8) -> SessionAnswer
-    ensures { result ≡ record { number = number; session = record { interval = 0 } } }
+// Replays a recorded list into a table that is tested once, with a step table that is filled once: the session then, or
+// why nothing is replayed.
+fn replayed(
+    first: u32,
+    b1: usize,
+    b2: usize,
+    b3: usize,
+    table: &mut [u64],
+    entries: &[u32],
+    colours: &[u8],
+    weights: &[u32],
+    answers: &mut [u8],
+) -> Result<Session, Refusal>
+    ensures answer { told result
+        ≡ replay_answer first b1 b2 b3 table.old
+        (recorded entries.now colours.now weights.now answers.old) }
+    ensures table { table.new
+        ≡ replay_table first b1 b2 b3 table.old
+        (recorded entries.now colours.now weights.now answers.old) }
+    ensures answers { answers.new
+        ≡ replay_bytes first b1 b2 b3 table.old
+        (recorded entries.now colours.now weights.now answers.old) }
 {
-    SessionAnswer {
-        number,
-        session: Session { interval: 0 },
+    in_range(first)?;
+    let g = grid_of(b1, b2, b3).ok_or(Refusal::Grid)?;
+    if table.len() != table_len(g)
+        || !entries_fit(entries, colours.len(), weights.len(), answers.len())
+    {
+        return Err(Refusal::Length);
     }
+    let had = sound_total::<Wide>(&[], table, g).ok_or(Refusal::Unsound)?;
+    let steps = Steps::of(g);
+    let s = Session { interval: first };
+    Ok(all_entries(&steps, table, had, s, entries, colours, weights, answers))
 }
 
-// Replays a recorded list into a table that is tested once, with a step table that is filled once.
+// Replays a recorded list. A refusal hands back its number and interval 0.
 pub fn replay(
     first: u32,
     b1: usize,
@@ -173,24 +166,11 @@ pub fn replay(
         ≡ replay_bytes first b1 b2 b3 table.old
         (recorded entries.now colours.now weights.now answers.old) }
 {
-    if interval_number(first) != 0 {
-        return refused(13);
+    match replayed(first, b1, b2, b3, table, entries, colours, weights, answers) {
+        Ok(session) => SessionAnswer { number: 0, session },
+        Err(refusal) => SessionAnswer {
+            number: refusal.number(),
+            session: Session { interval: 0 },
+        },
     }
-    let Chosen::Accepted(g) = grid_of(b1, b2, b3) else {
-        return refused(1);
-    };
-    if table.len() != table_len(g) {
-        return refused(5);
-    }
-    if !entries_fit(entries, colours.len(), weights.len(), answers.len()) {
-        return refused(5);
-    }
-    let SoundTotal::Total(had) = sound_total(table, g) else {
-        return refused(6);
-    };
-    let mut steps = [0u64; 768];
-    fill_steps(&mut steps, g);
-    let s = Session { interval: first };
-    let session = all_entries(g, &steps, table, had, s, entries, colours, weights, answers);
-    SessionAnswer { number: 0, session }
 }

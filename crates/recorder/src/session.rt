@@ -1,6 +1,9 @@
 // A session: the interval in force, and nothing else.
 ghost use Rattle.std.specs.Prelude.{◌≡◌};
+ghost use Rattle.basics.specs.Refusal.{answer_of};
 ghost use Rattle.recorder.specs.Session.{interval_number, begun, reloaded};
+
+use basics::refusal::Refusal;
 
 // The interval in force; 0 is under which every batch is refused.
 #[repr(C)]
@@ -9,7 +12,8 @@ pub struct Session {
     pub interval: u32,
 }
 
-// What beginning, reloading and replaying hand back: the answer, and the session then.
+// What beginning, reloading and replaying hand back: the answer, and the session then. The C interface has this
+// record, so the answer is a number in it.
 #[repr(C)]
 #[derive(Clone, Copy)]
 pub struct SessionAnswer {
@@ -17,30 +21,29 @@ pub struct SessionAnswer {
     pub session: Session,
 }
 
-// The answer that an interval calls for.
-pub(crate) fn interval_number(interval: u32) -> u8
-    ensures { result ≡ interval_number interval }
+// Refuses an interval that is out of range.
+pub(crate) fn in_range(interval: u32) -> Result<(), Refusal>
+    ensures { answer_of result ≡ interval_number interval }
 {
-    if interval < 1 {
-        return 13;
+    if interval < 1 || 4096 < interval {
+        return Err(Refusal::Interval);
     }
-    if 4096 < interval {
-        return 13;
-    }
-    0
+    Ok(())
 }
 
 // Changes the interval in force.
 pub fn reload(s: Session, interval: u32) -> SessionAnswer
     ensures { result ≡ reloaded s interval }
 {
-    let number = interval_number(interval);
-    if number != 0 {
-        return SessionAnswer { number, session: s };
-    }
-    SessionAnswer {
-        number,
-        session: Session { interval },
+    match in_range(interval) {
+        Ok(()) => SessionAnswer {
+            number: 0,
+            session: Session { interval },
+        },
+        Err(refusal) => SessionAnswer {
+            number: refusal.number(),
+            session: s,
+        },
     }
 }
 

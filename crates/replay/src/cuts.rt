@@ -1,101 +1,104 @@
 // A cut, with its record as a list, and the filled front of a palette.
-ghost use Rattle.std.specs.Prelude.{◌<◌, ◌≤◌};
-
-use crate::calls::Numbers;
-use crate::lend::{bytes_at, bytes_to_fill, counts_at, put_bytes, put_counts, table_at};
-use crate::lists::{COUNTS, LEFT, MAP, PALETTE, RECORD, SECOND_NAME, TABLE, list_of};
-use cutter::call::{CutRecord, cut};
+use crate::lend::{kept, lent};
+use crate::lists::Lists;
+use crate::row::Row;
+use boxes::sides::Bounds;
+use cutter::call::cut;
 use cutter::palette::front;
-use rounds::gather::BoxSpread;
-
-// ---- The record
+use rounds::gather::{BoxSpread, Boxes};
+use std::alloc::AllocError;
+use sums::source::Source;
+use table::layout::Wide;
 
 // The bits of a float, or those of a NaN.
 fn bits(x: f64) -> u64 {
-    if x == x {
-        f64::to_bits(x)
+    if x.is_nan() {
+        0x7ff8_0000_0000_0000
     } else {
-        9221120237041090560
+        x.to_bits()
     }
 }
 
-// A number of a box and its spread, of which there are seven.
-fn number_of(x: BoxSpread, i: usize) -> u64 {
-    match i {
-        0 => x.bounds.r0 as u64,
-        1 => x.bounds.r1 as u64,
-        2 => x.bounds.g0 as u64,
-        3 => x.bounds.g1 as u64,
-        4 => x.bounds.b0 as u64,
-        5 => x.bounds.b1 as u64,
-        _ => bits(x.spread),
-    }
+// The seven numbers of a box and its spread.
+fn numbers_of(x: &BoxSpread) -> [u64; 7] {
+    let b = x.bounds;
+    [
+        u64::from(b.r0),
+        u64::from(b.r1),
+        u64::from(b.g0),
+        u64::from(b.g1),
+        u64::from(b.b0),
+        u64::from(b.b1),
+        bits(x.spread),
+    ]
 }
+
+// What the record of a refused cut has.
+const NO_BOXES: Boxes = Boxes {
+    boxes: 0,
+    rounds: 0,
+    places: [BoxSpread {
+        bounds: Bounds {
+            r0: 0,
+            r1: 0,
+            g0: 0,
+            g1: 0,
+            b0: 0,
+            b1: 0,
+        },
+        spread: 0.0,
+    }; 256],
+};
 
 // Makes the record of a cut a list: how many boxes there are, how many rounds there were, and every place, those past
 // the last box too.
-fn put_record(m: &mut [u64; 389158], r: CutRecord) {
-    let mut i = 0;
-    while i < 1792 {
-        m[RECORD + 3 + i] = number_of(r.places[i / 7], i % 7);
-        i = i + 1;
+fn put_record(record: &mut Vec<u64>, r: &Boxes) -> Result<(), AllocError> {
+    record.clear();
+    record.extend_from_slice(&[r.boxes as u64, r.rounds as u64])?;
+    for place in &r.places {
+        record.extend_from_slice(&numbers_of(place))?;
     }
-    m[RECORD] = 1794;
-    m[RECORD + 1] = r.boxes as u64;
-    m[RECORD + 2] = r.rounds as u64;
+    Ok(())
 }
 
-// ---- The cut
-
-// Cuts a table, with the second table as work table.
-fn cut_lent(
-    n: Numbers,
-    table: &[u64],
-    m: &mut [u64],
-    palette: &mut [u8],
-    counts: &mut [u32],
-    left: &mut [u32],
-    map: &mut [u8],
-) -> CutRecord {
-    let work = list_of(m, SECOND_NAME);
-    cut(
-        n.b1, n.b2, n.b3, n.n6, table, work, palette, counts, left, map,
-    )
+// Cuts the table, with the second table as work table.
+pub(crate) fn cut_table(row: &Row, lists: &mut Lists) -> Result<u64, AllocError> {
+    let (b1, b2, b3) = row.bins();
+    let mut palette = lent(lists.alloc, &lists.palette)?;
+    let mut counts = lent(lists.alloc, &lists.counts)?;
+    let mut left = lent(lists.alloc, &lists.left)?;
+    let mut map = lent(lists.alloc, &lists.map)?;
+    let done = cut::<Wide>(
+        Source::Moments,
+        b1,
+        b2,
+        b3,
+        row.size(6),
+        &[],
+        &lists.table,
+        &mut [],
+        &mut lists.second,
+        &mut palette,
+        &mut counts,
+        &mut left,
+        &mut map,
+    );
+    let (boxes, answer) = match done {
+        Ok(boxes) => (boxes, 0),
+        Err(refusal) => (NO_BOXES, refusal.number()),
+    };
+    put_record(&mut lists.record, &boxes)?;
+    lists.palette = kept(lists.alloc, &palette)?;
+    lists.counts = kept(lists.alloc, &counts)?;
+    lists.left = kept(lists.alloc, &left)?;
+    lists.map = kept(lists.alloc, &map)?;
+    Ok(u64::from(answer))
 }
-
-// Lends counts, remainders and map.
-fn cut_into(n: Numbers, table: &[u64], m: &mut [u64; 389158], palette: &mut [u8]) -> u8 {
-    let mut count_room = [0; 4095];
-    let mut left_room = [0; 4095];
-    let mut map_room = [0; 32769];
-    let counts = counts_at(m, COUNTS, &mut count_room);
-    let left = counts_at(m, LEFT, &mut left_room);
-    let map = bytes_to_fill(m, MAP, &mut map_room);
-    let r = cut_lent(n, table, m, palette, counts, left, map);
-    put_record(m, r);
-    put_counts(m, COUNTS, counts);
-    put_counts(m, LEFT, left);
-    put_bytes(m, MAP, map);
-    r.number
-}
-
-// Lends the table and the palette, and answers the number.
-pub(crate) fn cut_lists(n: Numbers, line: &mut [u64], m: &mut [u64; 389158]) -> u64 {
-    let mut room = [0; 32769];
-    let table = table_at(m, TABLE, line);
-    let palette = bytes_to_fill(m, PALETTE, &mut room);
-    let x = cut_into(n, table, m, palette);
-    put_bytes(m, PALETTE, palette);
-    x as u64
-}
-
-// ---- The front
 
 // Makes the palette its filled front, and answers how many bytes that has.
-pub(crate) fn take_front(n: Numbers, m: &mut [u64; 389158]) -> u64 {
-    let mut room = [0; 32769];
-    let palette = bytes_at(m, PALETTE, &mut room);
-    let filled = front(palette, n.b1).len();
-    m[PALETTE] = filled as u64;
-    filled as u64
+pub(crate) fn take_front(row: &Row, lists: &mut Lists) -> Result<u64, AllocError> {
+    let palette = lent(lists.alloc, &lists.palette)?;
+    let filled = front(&palette, row.size(3)).len();
+    lists.palette.truncate(filled);
+    Ok(filled as u64)
 }

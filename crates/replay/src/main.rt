@@ -6,87 +6,64 @@ mod calls;
 mod cuts;
 mod lend;
 mod lists;
-mod script;
+mod row;
 mod tell;
+mod words;
 
-ghost use Rattle.std.specs.Prelude.{◌+◌, ◌≤◌, length};
-
-use crate::script::read_line;
+use crate::lists::Lists;
+use crate::row::Row;
+use crate::tell::{Ending, Stop};
+use crate::words::{Verb, Word};
+use std::alloc::{AllocError, Global};
 use std::io::Read;
 
-// Does what a line says, and answers whether all agreed.
-fn step(rt: &HostRuntime, line: &mut [u64; 163857], m: &mut [u64; 389158]) -> bool {
-    let word = line[1];
-    match word {
-        script::CASE => true,
-        script::LET => lists::set(rt, line, m),
-        script::IS => lists::hold(rt, line, m),
-        script::SUMS => lists::hold_sums(rt, line, m),
-        _ => calls::make(rt, word, line, m),
+// As much of a script as is read, in bytes.
+const TEXT: usize = 1048576;
+
+// Does what a line says, and holds what came to it.
+fn step(row: &Row, lists: &mut Lists) -> Result<(), Stop> {
+    match Verb::of(row.number(1)) {
+        Some(Verb::Case) => Ok(()),
+        Some(Verb::Let) => lists.set(row),
+        Some(Verb::Is) => lists.hold(row),
+        Some(Verb::Sums) => lists.hold_sums(row),
+        Some(Verb::Call(kind)) => calls::make(kind, row, lists),
+        // No call has another word, and 0 is no row's length.
+        None => row.agree(0, 0, &[]),
     }
 }
 
-// Replays the script up to its end, or to the first line that does not agree.
-fn replay(
-    rt: &HostRuntime,
-    text: &[u8; 1048576],
-    end: usize,
-    line: &mut [u64; 163857],
-    m: &mut [u64; 389158],
-)
-    requires { end ≤ 1048576 }
-{
-    let mut at = 0;
+// Replays a script up to its end, or to the first line that does not agree. Its last line has an end, as the others do.
+fn replay(alloc: Global, text: &[u8]) -> Result<Ending, AllocError> {
+    let mut row = Row::new(alloc)?;
+    let mut lists = Lists::new(alloc);
     let mut lines = 0;
-    let mut agreed = true;
-    while at < end && agreed {
-        at = read_line(text, end, at, line);
-        agreed = step(rt, line, m);
-        lines = lines + 1;
-    }
-    tell::end(rt, lines, agreed && at == end);
-}
-
-// One read, behind the bytes that are there. A read that fails has no bytes.
-fn read_behind(rt: &HostRuntime, text: &mut [u8], there: usize) -> usize
-    requires { there ≤ length text.old }
-    ensures { there + result ≤ length text.new }
-{
-    match rt.stdin().read(&mut text[there..]) {
-        Ok(bytes) => bytes,
-        Err(_) => 0,
-    }
-}
-
-// Reads until there is no more room, the input ends or a read fails, and answers how many bytes there are.
-fn read_full(rt: &HostRuntime, text: &mut [u8]) -> usize
-    ensures { result ≤ length text.new }
-{
-    let mut end = 0;
-    while end < text.len() {
-        let more = read_behind(rt, text, end);
-        if more == 0 {
-            return end;
+    for line in text.split_inclusive(|b| *b == b'\n') {
+        row.read(line);
+        lines += 1;
+        match step(&row, &mut lists) {
+            Ok(()) => (),
+            Err(Stop::Differs(difference)) => return Ok(Ending::Differs(difference, lines)),
+            Err(Stop::OutOfMemory(e)) => return Err(e),
         }
-        end = end + more;
+        if !line.ends_with(b"\n") {
+            return Ok(Ending::Unfinished(lines));
+        }
     }
-    end
+    Ok(Ending::Agreed(lines))
 }
 
-fn read_and_replay(
-    rt: &HostRuntime,
-    text: &mut [u8; 1048576],
-    line: &mut [u64; 163857],
-    m: &mut [u64; 389158],
-) {
-    let end = read_full(rt, text);
-    replay(rt, text, end, line, m);
+// Reads until there is no more room, the input ends or a read fails.
+fn read_text(rt: &HostRuntime) -> Result<Vec<u8>, AllocError> {
+    let mut text = Vec::with_capacity(rt.alloc(), TEXT)?;
+    let _ = rt.stdin().take(TEXT as u64).read_to_end(&mut text);
+    Ok(text)
 }
 
-// Room for a mebibyte of script, for a line, and for the lists.
-fn main(rt: HostRuntime) {
-    let mut text = [0; 1048576];
-    let mut line = [0; 163857];
-    let mut m = [0; 389158];
-    read_and_replay(&rt, &mut text, &mut line, &mut m);
+fn main(rt: HostRuntime) -> Result<(), AllocError> {
+    let text = read_text(&rt)?;
+    let ending = replay(rt.alloc(), &text)?;
+    // Where standard output takes nothing the program goes on.
+    let _ = println!(rt; "{ending}");
+    Ok(())
 }

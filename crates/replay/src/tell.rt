@@ -1,24 +1,55 @@
 // What the program writes: the first thing that does not agree and its line, or how many lines there were.
-
-// Words and the number after them. Where standard output takes nothing the program goes on.
-fn say(rt: &HostRuntime, words: &[u8], n: u64) {
-    let _ = rt.stdout().write_all(words);
-    let _ = rt.stdout().print(n);
-}
+use std::alloc::AllocError;
+use std::fmt;
 
 // A number that came is not the one to come.
-pub(crate) fn difference(rt: &HostRuntime, place: usize, came: u64, due: u64) {
-    say(rt, b"place ", place as u64);
-    say(rt, b": came ", came);
-    say(rt, b", to come ", due);
+#[derive(Clone, Copy)]
+pub(crate) struct Difference {
+    place: usize,
+    came: u64,
+    due: u64,
 }
 
-// The last line that was replayed.
-pub(crate) fn end(rt: &HostRuntime, lines: usize, agreed: bool) {
-    if agreed {
-        say(rt, b"all agreed, lines: ", lines as u64);
-    } else {
-        say(rt, b"; not agreed: line ", lines as u64);
+impl fmt::Display for Difference {
+    fn fmt<W: fmt::Write>(&self, f: &mut fmt::Formatter<W>) -> fmt::Result {
+        let Difference { place, came, due } = *self;
+        write!(f, "place {place}: came {came}, to come {due}")
     }
-    let _ = rt.stdout().write_all(b"\n");
+}
+
+// Why a script is replayed no further.
+#[derive(Drop)]
+pub(crate) enum Stop {
+    Differs(Difference),
+    OutOfMemory(AllocError),
+}
+
+impl Stop {
+    pub(crate) fn at(place: usize, came: u64, due: u64) -> Stop {
+        Stop::Differs(Difference { place, came, due })
+    }
+}
+
+impl From<AllocError> for Stop {
+    fn from(e: AllocError) -> Stop {
+        Stop::OutOfMemory(e)
+    }
+}
+
+// How a replay ended, with the last line that was replayed.
+#[derive(Clone, Copy)]
+pub(crate) enum Ending {
+    Agreed(u64),
+    Differs(Difference, u64),
+    Unfinished(u64),
+}
+
+impl fmt::Display for Ending {
+    fn fmt<W: fmt::Write>(&self, f: &mut fmt::Formatter<W>) -> fmt::Result {
+        match self {
+            Ending::Agreed(lines) => write!(f, "all agreed, lines: {lines}"),
+            Ending::Differs(difference, line) => write!(f, "{difference}; not agreed: line {line}"),
+            Ending::Unfinished(line) => write!(f, "; not agreed: line {line}"),
+        }
+    }
 }

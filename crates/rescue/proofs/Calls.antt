@@ -1,12 +1,12 @@
 -- How a rescue ends: which answer it gives and what it leaves, case by case.
 -- Assumes nothing.
+use Rattle.std.specs.Prelude.{None, Some}
 use mathlib.Core.Path.{◌≡◌, refl}
 use mathlib.Core.List.{List}
 use Prim.Native.Nat.{ℕ}
 use borrow.Author.Tests.{eq-eqb, ne_eqb}
 use lib.ListN.{length}
 use Rattle.grid.specs.declared.place.Grid.{Grid}
-use Rattle.grid.specs.declared.place.Chosen.TheVariants as chosen
 use Rattle.basics.specs.Answer.{refuse, when_done}
 use Rattle.grid.specs.Grid.{grid_of, bins_of}
 use Rattle.grid.proofs.Ends.{grid_refused, ends}
@@ -28,14 +28,14 @@ module _ (b1 b2 b3 : ℕ) (t : Table) (l : List ℕ) where
   abbrev pub reasons_on : Grid → List ℕ
   reasons_on g = reasons_of limit g (view_of t)
 
-  pub no_grid_lem : grid_of b1 b2 b3 ≡ chosen.Refused → Ends 1 t l
+  pub no_grid_lem : grid_of b1 b2 b3 ≡ None → Ends 1 t l
   unfolding rescue_number rescue_table rescue_reasons rescue_leaves
   no_grid_lem e =
       let u = grid_refused (grid_of b1 b2 b3) (rescue_on t l) table_on t e in
       let m = grid_refused (grid_of b1 b2 b3) (rescue_on t l) reasons_on l e in
       (u.0, (u.1, m.1))
 
-  module _ {g : Grid} (e : grid_of b1 b2 b3 ≡ chosen.Accepted g) where
+  module _ {g : Grid} (e : grid_of b1 b2 b3 ≡ Some g) where
     ends_with : {n : ℕ} → rescue_on t l g ≡ n → {u : Table} → u ≡ when_done n (table_on g) t
         → {m : List ℕ} → m ≡ when_done n (reasons_on g) l → Ends n u m
     unfolding rescue_number rescue_table rescue_reasons rescue_leaves

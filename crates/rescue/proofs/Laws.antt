@@ -2,6 +2,7 @@
 -- they were, and where the answer is 0 the grid is accepted, the lengths are right, and each number and each byte is
 -- known.
 -- Assumes nothing.
+use Rattle.std.specs.Prelude.{Some}
 use mathlib.Core.Path.{◌≡◌, refl, sym, ap, ◌∙◌}
 use mathlib.Core.Bool.{Bool, not, ◌&&◌}
 use mathlib.Core.List.{List}
@@ -11,7 +12,6 @@ use borrow.Author.Tests.{eqb-true, not-false}
 use lib.Dec.{eqb}
 use lib.ListN.{length, get_or}
 use Rattle.grid.specs.declared.place.Grid.{Grid}
-use Rattle.grid.specs.declared.place.Chosen.TheVariants as chosen
 use Rattle.basics.specs.Answer.{refuse, when_done}
 use Rattle.grid.specs.Grid.{grid_of, on_grid, number_on, bins_of}
 use Rattle.basics.proofs.Ends.{passed}
@@ -43,7 +43,7 @@ module _ (b1 b2 b3 : ℕ) (t : Table) (l : List ℕ) where
   )
 
   -- its tests on an accepted grid
-  pub rescue_tests_lem : {g : Grid} → grid_of b1 b2 b3 ≡ chosen.Accepted g
+  pub rescue_tests_lem : {g : Grid} → grid_of b1 b2 b3 ≡ Some g
       → number ≡ refuse (not (is_sized t (bins_of g) && eqb (length l) (bins_of g))) 5 0
   unfolding rescue_number rescue_on number_on on_grid
   rescue_tests_lem e = rw e refl
@@ -68,13 +68,13 @@ module _ (b1 b2 b3 : ℕ) (t : Table) (l : List ℕ) where
   reasons_many g e = ap length e ∙ length_list 0 (bins_of g) (reason_at limit g (view_of t))
 
   -- what is left where the answer is 0
-  leaves : {g : Grid} → grid_of b1 b2 b3 ≡ chosen.Accepted g → rescue_on t l g ≡ 0
+  leaves : {g : Grid} → grid_of b1 b2 b3 ≡ Some g → rescue_on t l g ≡ 0
       → (done : ℕ → Grid → View → List ℕ) (kept : List ℕ)
       → rescue_leaves b1 b2 b3 t l done kept ≡ done limit g (view_of t)
   unfolding rescue_leaves on_grid when_done
   leaves p q done kept = rw (p, q) refl
 
-  pub rescue_says : {g : Grid} → grid_of b1 b2 b3 ≡ chosen.Accepted g → number ≡ 0 → RescueDone g
+  pub rescue_says : {g : Grid} → grid_of b1 b2 b3 ≡ Some g → number ≡ 0 → RescueDone g
   unfolding rescue_table rescue_reasons rescue_on
   rescue_says {g} p e =
       let n = bins_of g in
@@ -95,7 +95,7 @@ module _ (b1 b2 b3 : ℕ) (t : Table) (l : List ℕ) where
   -- and on which grid it is done
   pub record RescueGrid : Type 0 where
     pub g : Grid
-    pub chosen : grid_of b1 b2 b3 ≡ chosen.Accepted g
+    pub chosen : grid_of b1 b2 b3 ≡ Some g
 
   pub rescue_grid : number ≡ 0 → RescueGrid
   unfolding rescue_number
@@ -103,6 +103,6 @@ module _ (b1 b2 b3 : ℕ) (t : Table) (l : List ℕ) where
       let c = call_done {A = ℕ} (grid_of b1 b2 b3) (rescue_on t l) (λ g. 0) 0 e in
       record { g = c.g; chosen = c.is }
 
-  pub rescue_accepts : {g : Grid} → grid_of b1 b2 b3 ≡ chosen.Accepted g → Sized t (bins_of g) → length l ≡ bins_of g
+  pub rescue_accepts : {g : Grid} → grid_of b1 b2 b3 ≡ Some g → Sized t (bins_of g) → length l ≡ bins_of g
       → number ≡ 0
   rescue_accepts e s k = sym (all_done b1 b2 b3 t l e s k refl refl).0

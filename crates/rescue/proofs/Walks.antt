@@ -1,7 +1,8 @@
 -- Laws of a walk: what a reason says, how the total goes on, and how a walk goes on from a bin to the next.
 -- Assumes nothing.
 use mathlib.Core.Path.{◌≡◌, refl, sym, ap, ◌∙◌}
-use mathlib.Core.Bool.{Bool, true, false, cond, ◌&&◌}
+use Rattle.std.specs.Prelude.{Option, Some, None, is_some}
+use mathlib.Core.Bool.{Bool, true, false, true≢false, cond, ◌&&◌}
 use mathlib.Core.List.{List}
 use Prim.Native.Nat.{ℕ, zero, suc, ◌+◌, ◌*◌, ◌≤◌, ◌<◌}
 use native.Mathlib.Nat.{zero-add, add-mul, one-mul, zero-mul, mul_assoc}
@@ -21,7 +22,19 @@ use Rattle.table.proofs.Cells.{number_cell}
 use Rattle.table.proofs.Tables.{has_cell, put_sized, put_there, put_elsewhere, holds_list}
 use Rattle.table.proofs.Bins.{bin_same}
 use Rattle.rescue.specs.Rescue.{keeps_bounds, reason_for, kept_before, reason_at, rescued, reasons_of}
-use Rattle.rescue.specs.Inner.{cleared, with_weight, Walked, Onward}
+use Rattle.rescue.specs.declared.bins.Reason.{Reason}
+use Rattle.rescue.specs.declared.bins.Reason.TheVariants as reason
+use Rattle.rescue.specs.Inner.{told, cleared, with_weight, Walked, Onward}
+
+-- ---- whether there is a reason
+pub told_some : (r : Option Reason) → true ≡ is_some r → eqb (told r) 0 ≡ false
+told_some None e = absurd (true≢false e)
+told_some (Some reason.Bounds) e = refl
+told_some (Some reason.Total) e = refl
+
+pub told_none : (r : Option Reason) → is_some r ≡ false → eqb (told r) 0 ≡ true
+told_none None e = refl
+told_none (Some r) e = absurd (true≢false e)
 
 -- ---- the reason, case by case
 module _ (most : ℕ) {keeps : Bool} (had weight : ℕ) where

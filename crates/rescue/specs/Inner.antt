@@ -1,10 +1,19 @@
 -- What the crate's own functions are told of a walk. Definitions only.
+use Rattle.std.specs.Prelude.{Option, Some, None}
+use Rattle.rescue.specs.declared.bins.Reason.{Reason}
+use Rattle.rescue.specs.declared.bins.Reason.TheVariants as reason
 use Rattle.std.specs.Prelude.{◌≡◌, cond, List, ℕ, ◌+◌, ◌≤◌, ◌<◌, eqb, ltb, length, get_or}
 use Rattle.grid.specs.declared.place.Grid.{Grid}
 use Rattle.grid.specs.Grid.{bins_of}
 use Rattle.table.specs.Cell.{View, cell_of}
 use Rattle.table.specs.Table.{Table, Sized, view_of, put_at}
 use Rattle.rescue.specs.Rescue.{kept_before, reason_at, rescued}
+
+-- the byte for a reason: "0 kept, 1 cleared for its bounds, 2 cleared for the total"
+abbrev pub told : Option Reason → ℕ
+told None = 0
+told (Some reason.Bounds) = 1
+told (Some reason.Total) = 2
 
 -- a table with the bin at a place cleared where there is a reason
 unfoldable pub cleared : Table → ℕ → ℕ → Table

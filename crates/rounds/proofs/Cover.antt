@@ -14,7 +14,7 @@ use Rattle.boxes.specs.Box.{min_at, max_at, low_side, high_side}
 use Rattle.spread.proofs.Best.{answered}
 use Rattle.heap.specs.Heap.{item, put_in, take_out, sum_items}
 use Rattle.heap.proofs.Keeps.{put_in_long, put_in_sum, take_out_sum}
-use Rattle.rounds.specs.declared.gather.BoxSpread.{BoxSpread}
+use Rattle.heap.specs.declared.heap.BoxSpread.{BoxSpread}
 use Rattle.rounds.specs.Loop.{by_spread, no_item, with_spread, with_zero, start_room, start, round_room, round_boxes}
 use Rattle.rounds.specs.Loop.{round, heap_of}
 use Rattle.boxes.specs.Box.{whole_of}
@@ -56,17 +56,17 @@ module _ {f : Bounds → ℕ} (a : Additive f) (g : Grid) (v : View) where
       (λ off. subst (λ (m : ℕ). over f (put_in by_spread no_item rest (n - 1) top) m ≡ over f h n) (put_back u)
       (put_over f rest (n - 1) top (left_long u) (omega arith) ∙ before))
       (λ on none. put_over f rest (n - 1) (with_zero top.bounds) (left_long u) (omega arith) ∙ before)
-      (λ d i s on q.
-      let low = with_spread g v (low_side top.bounds d i) in
-      let high = with_spread g v (high_side top.bounds d i) in
+      (λ at on q.
+      let low = with_spread g v (low_side top.bounds at.dimension at.bin) in
+      let high = with_spread g v (high_side top.bounds at.dimension at.bin) in
       let put = put_in by_spread no_item rest (n - 1) low in
       let put-long : length put ≡ 256 = put_in_long by_spread no_item rest (n - 1) low (omega (arith, left_long u))
       ∙ left_long u in
       let in_box = (answered g v top.bounds q).1.inside in
-      let both = a.adds top.bounds d i (le_of_lt in_box.0) (le_of_lt in_box.1) in
+      let both = a.adds top.bounds at.dimension at.bin (le_of_lt in_box.0) (le_of_lt in_box.1) in
       subst (λ (m : ℕ). over f (put_in by_spread no_item put (n - 1 + 1) high) m ≡ over f h n) (two_more (n - 1))
       (put_over f put (n - 1 + 1) high put-long (omega arith)
-      ∙ cut (f (low_side top.bounds d i)) (f (high_side top.bounds d i))
+      ∙ cut (f (low_side top.bounds at.dimension at.bin)) (f (high_side top.bounds at.dimension at.bin))
       (put_over f rest (n - 1) low (left_long u) (omega arith)) both))
     where
       top : BoxSpread

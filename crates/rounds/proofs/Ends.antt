@@ -25,7 +25,7 @@ use Rattle.spread.proofs.Finite.{spread_finite}
 use Rattle.heap.specs.Heap.{item, put_in, take_out, InOrder, NoNaN}
 use Rattle.basics.proofs.Compare.{not_less_trans, finite_number}
 use Rattle.heap.proofs.Order.{put_in_order, take_out_order, top_greatest}
-use Rattle.rounds.specs.declared.gather.BoxSpread.{BoxSpread}
+use Rattle.heap.specs.declared.heap.BoxSpread.{BoxSpread}
 use Rattle.rounds.specs.Loop.{by_spread, Heap, no_item, with_spread, with_zero, start_room, start, round_room}
 use Rattle.rounds.specs.Loop.{round_boxes, round, rounds, heap_of}
 use Rattle.rounds.proofs.OneRound.{room_stops, boxes_stops, round_cases}
@@ -87,16 +87,16 @@ module _ {g : Grid} {v : View} (s : Sound limit g v) where
       (put_ordered rest (left_long u) (omega arith) rest_sane rest_order top (o.sane.each 0 u.some)))
       (λ on none. put_ordered rest (left_long u) (omega arith) rest_sane rest_order (with_zero top.bounds)
       ((sane_kept s).zero_too top (o.sane.each 0 u.some) none))
-      (λ d i sc on q.
+      (λ at on q.
       let both = (sane_kept s).sides_too top (o.sane.each 0 u.some) q in
       let low = put_ordered rest (left_long u) (omega arith) rest_sane rest_order
-      (with_spread g v (low_side top.bounds d i)) both.0 in
+      (with_spread g v (low_side top.bounds at.dimension at.bin)) both.0 in
       subst (Ordered g v
-      (put_in by_spread no_item (put_in by_spread no_item rest (n - 1) (with_spread g v (low_side top.bounds d i)))
-      (n - 1 + 1) (with_spread g v (high_side top.bounds d i)))) (two_more (n - 1))
-      (put_ordered (put_in by_spread no_item rest (n - 1) (with_spread g v (low_side top.bounds d i)))
+      (put_in by_spread no_item (put_in by_spread no_item rest (n - 1) (with_spread g v (low_side top.bounds at.dimension at.bin)))
+      (n - 1 + 1) (with_spread g v (high_side top.bounds at.dimension at.bin)))) (two_more (n - 1))
+      (put_ordered (put_in by_spread no_item rest (n - 1) (with_spread g v (low_side top.bounds at.dimension at.bin)))
       low.sane.in_use.long (omega arith) low.sane.each low.order
-      (with_spread g v (high_side top.bounds d i)) both.1))
+      (with_spread g v (high_side top.bounds at.dimension at.bin)) both.1))
     where
       u : InUse h n
       u = o.sane.in_use

@@ -6,7 +6,7 @@ use mathlib.Core.List.{List}
 use Prim.Native.Nat.{ℕ, ◌+◌, ◌-◌, ◌*◌, ◌≤◌, ◌<◌}
 use native.Mathlib.Omega.{arith}
 use lib.ListN.{length, replicate, length-set, length-replicate}
-use lib.Ieee.{Float, inf}
+use lib.Ieee.{inf}
 use Rattle.grid.specs.declared.place.Grid.{Grid}
 use Rattle.grid.specs.Grid.{Accepted}
 use Rattle.table.specs.Cell.{View}
@@ -14,12 +14,13 @@ use Rattle.table.specs.Sound.{total}
 use Rattle.table.proofs.Soundness.{total_is}
 use Rattle.bins.specs.Sum.{box_sum}
 use Rattle.boxes.specs.Box.{low_side, high_side, Within}
-use Rattle.spread.specs.declared.position.Position.TheVariants.{At, Nowhere}
+use Rattle.std.specs.Prelude.{Some, None}
+use Rattle.spread.specs.declared.position.Position.{Position}
 use Rattle.spread.specs.Cut.{best_cut}
 use Rattle.spread.proofs.Best.{answered}
 use Rattle.heap.specs.Heap.{item, put_in, take_out}
 use Rattle.heap.proofs.Keeps.{put_in_long, put_in_all, take_out_long, take_out_all}
-use Rattle.rounds.specs.declared.gather.BoxSpread.{BoxSpread}
+use Rattle.heap.specs.declared.heap.BoxSpread.{BoxSpread}
 use Rattle.rounds.specs.Loop.{by_spread, Heap, no_item, with_spread, with_zero, start_room, round_room}
 use Rattle.rounds.specs.Loop.{round_boxes, round, rounds, start, heap_of}
 use Rattle.boxes.specs.Box.{no_box, whole_of}
@@ -52,9 +53,9 @@ pub record Each (P : BoxSpread → Type 0) (h : List BoxSpread) (n : ℕ) : Type
 
 -- a property that a box put back with 0.0 keeps, and that both sides of a cut have
 pub record Kept (g : Grid) (v : View) (P : BoxSpread → Type 0) : Type 0 where
-  pub zero_too : (x : BoxSpread) → P x → best_cut g v x.bounds ≡ Nowhere → P (with_zero x.bounds)
-  pub sides_too : (x : BoxSpread) → P x → {d i : ℕ} {s : Float} → best_cut g v x.bounds ≡ At d i s
-      → P (with_spread g v (low_side x.bounds d i)) × P (with_spread g v (high_side x.bounds d i))
+  pub zero_too : (x : BoxSpread) → P x → best_cut g v x.bounds ≡ None → P (with_zero x.bounds)
+  pub sides_too : (x : BoxSpread) → P x → {at : Position} → best_cut g v x.bounds ≡ Some at
+      → P (with_spread g v (low_side x.bounds at.dimension at.bin)) × P (with_spread g v (high_side x.bounds at.dimension at.bin))
 
 module _ (P : BoxSpread → Type 0) (h : List BoxSpread) where
   -- a box put in
@@ -86,7 +87,7 @@ each_round {g} {v} {P} k {h} {n} e l =
     (each_put P _ (left_long e.in_use) (omega arith) (others P h e) top))
     (λ on none. each_put P _ (left_long e.in_use) (omega arith) (others P h e)
     (k.zero_too (item no_item h 0) top none))
-    (λ d i s on q.
+    (λ at on q.
     let both = k.sides_too (item no_item h 0) top q in
     let low = each_put P _ (left_long e.in_use) (omega arith) (others P h e) both.0 in
     subst (Each P _) (two_more (n - 1)) (each_put P _ low.in_use.long (omega arith) low.each both.1))
@@ -125,7 +126,7 @@ unfolding with_spread
 fit_kept g v =
     record {
       zero_too = λ x h q. record { within = h.within; some = h.some };
-      sides_too = λ x h {d} {i} {s} q.
+      sides_too = λ x h {at} q.
           let a = (answered g v x.bounds q).1.split in (
             record { within = low_box v h.within q; some = a.low },
             record { within = high_box v h.within q; some = a.high },
@@ -171,7 +172,7 @@ heap_in_use g v k most = (each_rounds (any_kept g v) k (2 * k) most (start g) (s
 -- no more than k boxes
 round_most : (g : Grid) (v : View) (h : List BoxSpread) (n : ℕ) → 0 < n → round_boxes g v h n ≤ n + 1
 round_most g v h n l =
-    round_cases g v h n (λ r m. m ≤ n + 1) (λ off. omega arith) (λ on none. omega arith) (λ d i s on q. omega arith)
+    round_cases g v h n (λ r m. m ≤ n + 1) (λ off. omega arith) (λ on none. omega arith) (λ at on q. omega arith)
 
 pub heap_most : (g : Grid) (v : View) (k : ℕ) → 1 ≤ k → k ≤ 256 → (heap_of g v k).boxes ≤ k
 unfolding heap_of start round

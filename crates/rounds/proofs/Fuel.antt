@@ -18,7 +18,7 @@ use Rattle.boxes.specs.Box.{low_side, high_side}
 use Rattle.spread.specs.Spread.{zero_of}
 use Rattle.heap.specs.Heap.{item, put_in, take_out, sum_items}
 use Rattle.heap.proofs.Keeps.{put_in_long, put_in_sum, take_out_sum}
-use Rattle.rounds.specs.declared.gather.BoxSpread.{BoxSpread}
+use Rattle.heap.specs.declared.heap.BoxSpread.{BoxSpread}
 use Rattle.rounds.specs.Loop.{by_spread, Heap, no_item, with_spread, with_zero, start_room, start, round_room}
 use Rattle.rounds.specs.Loop.{round_boxes, round, rounds, heap_of}
 use Rattle.rounds.proofs.OneRound.{round_cases}
@@ -109,9 +109,9 @@ need_less g v k most h n u l on =
       hot_zero
           top.bounds,
     ))))
-    (λ d i s yes q.
-    let low = with_spread g v (low_side top.bounds d i) in
-    let high = with_spread g v (high_side top.bounds d i) in
+    (λ at yes q.
+    let low = with_spread g v (low_side top.bounds at.dimension at.bin) in
+    let high = with_spread g v (high_side top.bounds at.dimension at.bin) in
     let put = put_in by_spread no_item rest (n - 1) low in
     let put-long : length put ≡ 256 = put_in_long by_spread no_item rest (n - 1) low (omega (arith, left_long u))
     ∙ left_long u in

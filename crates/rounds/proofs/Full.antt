@@ -20,12 +20,12 @@ use Rattle.bins.specs.Sum.{marks, occupied_in}
 use Rattle.boxes.specs.Box.{low_side, high_side}
 use Rattle.bins.proofs.Laws.{cut_sum}
 use Rattle.bins.proofs.Occupied.{Two, some_occupied, one_at_most}
-use Rattle.spread.specs.declared.position.Position.TheVariants.{Nowhere}
+use Rattle.std.specs.Prelude.{None}
 use Rattle.spread.specs.Spread.{SpreadsAbove}
 use Rattle.spread.specs.Cut.{best_cut}
 use Rattle.spread.proofs.Best.{two_occupied}
 use Rattle.heap.specs.Heap.{item, sum_items}
-use Rattle.rounds.specs.declared.gather.BoxSpread.{BoxSpread}
+use Rattle.heap.specs.declared.heap.BoxSpread.{BoxSpread}
 use Rattle.rounds.specs.Loop.{no_item, with_spread, start, heap_of}
 use Rattle.boxes.specs.Box.{whole_of}
 use Rattle.rounds.proofs.Grids.{whole_sum}
@@ -57,7 +57,7 @@ pub record Honest (g : Grid) (v : View) (x : BoxSpread) : Type 0 where
 
 module _ {g : Grid} {v : View} (s : Sound limit g v) (spreads : SpreadsAbove g v) where
   -- one without a position
-  zero_single : (x : Bounds) → best_cut g v x ≡ Nowhere → Two g v x → ⊥
+  zero_single : (x : Bounds) → best_cut g v x ≡ None → Two g v x → ⊥
   zero_single x q t =
       two_occupied g v x t.one.in_box t.other.in_box t.one.some t.other.some t.apart q
 
@@ -80,9 +80,9 @@ module _ {g : Grid} {v : View} (s : Sound limit g v) (spreads : SpreadsAbove g v
       record {
         zero_too = λ x h q.
             record { sane = (sane_kept s).zero_too x h.sane q; single = λ c t. zero_single x.bounds q t };
-        sides_too = λ x h {d} {i} q.
+        sides_too = λ x h {at} q.
             let both = (sane_kept s).sides_too x h.sane q in
-            (spread_honest (low_side x.bounds d i) both.0, spread_honest (high_side x.bounds d i) both.1);
+            (spread_honest (low_side x.bounds at.dimension at.bin) both.0, spread_honest (high_side x.bounds at.dimension at.bin) both.1);
       }
 
   module _ (a : Accepted g) (l : 0 < total g v) where

@@ -1,4 +1,3 @@
-pub mod Packing
 pub mod OneRound
 pub mod Grids
 pub mod Filled

@@ -1,6 +1,6 @@
 -- The loop of a cut (Rules, Loop). Definitions only.
-use Rattle.std.specs.Prelude.{false, cond, List, ℕ, zero, suc, ◌+◌, ◌-◌, ◌*◌, ltb, set, replicate, Float}
-use Rattle.std.specs.Float.{nan, inf}
+use Rattle.std.specs.Prelude.{false, cond, List, ℕ, zero, suc, ◌+◌, ◌-◌, ◌*◌, ltb, set, replicate}
+use Rattle.std.specs.Float.{inf}
 use Rattle.std.specs.Float.Ieee.{lt}
 use Rattle.grid.specs.declared.place.Grid.{Grid}
 use Rattle.basics.specs.Range.{list_from}
@@ -9,20 +9,13 @@ use Rattle.boxes.specs.declared.sides.Bounds.{Bounds}
 use Rattle.sums.specs.Box.{stats_of}
 use Rattle.boxes.specs.Box.{no_box, whole_of, low_side, high_side}
 use Rattle.spread.specs.declared.position.Position.{Position}
-use Rattle.spread.specs.declared.position.Position.TheVariants.{At, Nowhere}
+use Rattle.std.specs.Prelude.{Option, Some, None}
 use Rattle.spread.specs.Spread.{zero_of, spread_of}
 use Rattle.spread.specs.Cut.{best_cut}
 use Rattle.heap.specs.Heap.{item, put_in, take_out}
-use Rattle.rounds.specs.declared.gather.BoxSpread.{BoxSpread}
+pub use Rattle.heap.specs.Boxes.{by_spread, no_item}
+use Rattle.heap.specs.declared.heap.BoxSpread.{BoxSpread}
 use Rattle.rounds.specs.declared.gather.Boxes.{Boxes}
-
--- the heap compares boxes by their spreads
-abbrev pub by_spread : BoxSpread → Float
-by_spread x = x.spread
-
--- what a place past the room would have
-abbrev pub no_item : BoxSpread
-no_item = record { bounds = no_box; spread = nan }
 
 -- a box with its own spread
 unfoldable pub with_spread : Grid → View → Bounds → BoxSpread
@@ -47,15 +40,15 @@ start g = record { room = start_room g; boxes = 1; rounds = 0 }
 
 -- the room and its boxes, once x has left a room with n boxes after it:
 -- "If it can be cut, put in the low box, then the high box, with their spreads. Otherwise put it back with 0.0"
-unfoldable pub room_after : Grid → View → List BoxSpread → ℕ → Bounds → Position → List BoxSpread
-room_after g v h n x (At d bin score) =
-    put_in by_spread no_item (put_in by_spread no_item h n (with_spread g v (low_side x d bin))) (n + 1)
-    (with_spread g v (high_side x d bin))
-room_after g v h n x Nowhere = put_in by_spread no_item h n (with_zero x)
+unfoldable pub room_after : Grid → View → List BoxSpread → ℕ → Bounds → Option Position → List BoxSpread
+room_after g v h n x (Some p) =
+    put_in by_spread no_item (put_in by_spread no_item h n (with_spread g v (low_side x p.dimension p.bin))) (n + 1)
+    (with_spread g v (high_side x p.dimension p.bin))
+room_after g v h n x None = put_in by_spread no_item h n (with_zero x)
 
-unfoldable pub boxes_after : ℕ → Position → ℕ
-boxes_after n (At d bin score) = n + 2
-boxes_after n Nowhere = n + 1
+unfoldable pub boxes_after : ℕ → Option Position → ℕ
+boxes_after n (Some p) = n + 2
+boxes_after n None = n + 1
 
 -- one round: "take out the top. If its spread is not above 0, put it back and stop"
 unfoldable pub round_room : Grid → View → List BoxSpread → ℕ → List BoxSpread

@@ -2,5 +2,4 @@
 #![tactic(auto)]
 
 pub mod gather;
-mod heap_of_boxes;
 mod rounds;

@@ -2,114 +2,98 @@
 ghost use Rattle.std.specs.Prelude.{◌≡◌, ◌+◌, ◌<◌, ◌≤◌};
 ghost use Rattle.table.specs.Layout.{laid, laid_view};
 ghost use Rattle.table.specs.Sound.{limit};
-ghost use Rattle.boxes.specs.Box.{Within};
+ghost use Rattle.boxes.specs.Box.{Within, Ordered};
 ghost use Rattle.sums.specs.Moments.{CanSum};
 ghost use Rattle.spread.specs.Cut.{best_cut};
+ghost use Rattle.spread.specs.Spread.{spread_of, Plain};
 ghost use Rattle.heap.specs.Heap.{item};
-ghost use Rattle.heap.specs.TwoArrays.{TwoArrays};
 ghost use Rattle.rounds.specs.Loop.{no_item, start_room, room_after, boxes_after, round_room, round_boxes, heap_of};
-ghost use Rattle.rounds.specs.Inner.{room_in};
 
-use crate::heap_of_boxes::{put_box, put_with_spread, take_top};
-use boxes::bytes::unpacked;
-use boxes::sides::{Bounds, high_side, low_side};
+use boxes::sides::Bounds;
 use grid::place::Grid;
-use spread::position::Position;
+use heap::heap::{BoxSpread, Heap};
 use spread::search::best_cut;
+use spread::spread::spread;
+use sums::box_sums::Stats;
 use sums::source::Source;
 use table::layout::Layout;
 
-// Cuts a box that was taken out, with `left` boxes left, and answers how many there are then.
-fn cut_top(
-    layout: Layout,
-    small: &[u32],
-    large: &[u64],
-    smallwork: &[u32],
-    largework: &[u64],
-    source: Source,
-    g: Grid,
-    spreads: &mut [f64; 256],
-    boxes: &mut [u64; 256],
-    left: usize,
-    x: Bounds,
-) -> usize
-    requires can_sum { CanSum layout limit source g (laid layout small.now large.now)
-        (laid layout smallwork.now largework.now) × Within g x }
-    requires two_arrays { TwoArrays spreads.old boxes.old × (left + 1 < 256) }
-    ensures number { result
-        ≡ boxes_after left (best_cut g (laid_view layout small.now large.now) x) }
-    ensures room { room_in spreads.new boxes.new
-        ≡ room_after g (laid_view layout small.now large.now)
-        (room_in spreads.old boxes.old) left x
-        (best_cut g (laid_view layout small.now large.now) x) }
-    ensures arrays { TwoArrays spreads.new boxes.new }
+// A box with its own spread, which its statistics give.
+fn with_spread(bounds: Bounds, s: Stats) -> BoxSpread
+    requires { Ordered bounds × Plain s }
+    ensures { result ≡ record { bounds = bounds; spread = spread_of bounds s } }
 {
-    let best = best_cut(layout, small, large, smallwork, largework, source, g, x);
-    let position = best.position;
-    let Position::At {
-        dimension,
-        bin,
-        score: _,
-    } = position
-    else {
-        put_box(spreads, boxes, left, 0.0, x);
-        return left + 1;
-    };
-    let low = low_side(x, dimension, bin);
-    let high = high_side(x, dimension, bin);
-    put_with_spread(spreads, boxes, left, low, best.low);
-    put_with_spread(spreads, boxes, left + 1, high, best.high);
-    left + 2
-}
-
-// One round with `len` boxes; answers how many there are then.
-fn round(
-    layout: Layout,
-    small: &[u32],
-    large: &[u64],
-    smallwork: &[u32],
-    largework: &[u64],
-    source: Source,
-    g: Grid,
-    spreads: &mut [f64; 256],
-    boxes: &mut [u64; 256],
-    len: usize,
-) -> usize
-    requires can_sum { CanSum layout limit source g (laid layout small.now large.now)
-        (laid layout smallwork.now largework.now) }
-    requires two_arrays { TwoArrays spreads.old boxes.old × (0 < len) × (len < 256)
-        × Within g (item no_item (room_in spreads.old boxes.old) 0).bounds }
-    ensures number { result
-        ≡ round_boxes g (laid_view layout small.now large.now)
-        (room_in spreads.old boxes.old) len }
-    ensures room { room_in spreads.new boxes.new
-        ≡ round_room g (laid_view layout small.now large.now)
-        (room_in spreads.old boxes.old) len }
-    ensures arrays { TwoArrays spreads.new boxes.new }
-{
-    let s = spreads[0];
-    let x = unpacked(boxes[0]);
-    let left = len - 1;
-    take_top(spreads, boxes, len);
-    if 0.0 < s {
-        return cut_top(
-            layout, small, large, smallwork, largework, source, g, spreads, boxes, left, x,
-        );
+    BoxSpread {
+        bounds,
+        spread: spread(bounds, s),
     }
-    put_box(spreads, boxes, left, s, x);
-    len
 }
 
-// How many boxes there are at the end, and how often the top was taken out.
-#[derive(Clone, Copy)]
-pub struct Ended {
-    pub boxes: usize,
-    pub rounds: usize,
+// Cuts a box that was taken out.
+fn cut_top<L: Layout>(
+    small: &[u32],
+    large: &[u64],
+    smallwork: &[u32],
+    largework: &[u64],
+    source: Source,
+    g: Grid,
+    heap: &mut Heap,
+    x: Bounds,
+)
+    requires can_sum { CanSum L.layout limit source g (laid L.layout small.now large.now)
+        (laid L.layout smallwork.now largework.now) × Within g x }
+    requires room_for_two { heap.old.len + 1 < 256 }
+    ensures boxes { heap.new.len
+        ≡ boxes_after heap.old.len (best_cut g (laid_view L.layout small.now large.now) x) }
+    ensures room { heap.new.room
+        ≡ room_after g (laid_view L.layout small.now large.now) heap.old.room heap.old.len x
+        (best_cut g (laid_view L.layout small.now large.now) x) }
+{
+    let Some(best) = best_cut::<L>(small, large, smallwork, largework, source, g, x) else {
+        heap.put_in(BoxSpread {
+            bounds: x,
+            spread: 0.0,
+        });
+        return;
+    };
+    let at = best.position;
+    let low = with_spread(x.low_side(at.dimension, at.bin), best.low);
+    let high = with_spread(x.high_side(at.dimension, at.bin), best.high);
+    heap.put_in(low);
+    heap.put_in(high);
 }
 
-// All rounds.
-pub(crate) fn all_rounds(
-    layout: Layout,
+// One round.
+fn round<L: Layout>(
+    small: &[u32],
+    large: &[u64],
+    smallwork: &[u32],
+    largework: &[u64],
+    source: Source,
+    g: Grid,
+    heap: &mut Heap,
+)
+    requires can_sum { CanSum L.layout limit source g (laid L.layout small.now large.now)
+        (laid L.layout smallwork.now largework.now) }
+    requires some { (0 < heap.old.len) × (heap.old.len < 256)
+        × Within g (item no_item heap.old.room 0).bounds }
+    ensures boxes { heap.new.len
+        ≡ round_boxes g (laid_view L.layout small.now large.now) heap.old.room heap.old.len }
+    ensures room { heap.new.room
+        ≡ round_room g (laid_view L.layout small.now large.now) heap.old.room heap.old.len }
+{
+    let top = heap.take_out();
+    if 0.0 < top.spread {
+        cut_top::<L>(
+            small, large, smallwork, largework, source, g, heap, top.bounds,
+        );
+    } else {
+        heap.put_in(top);
+    }
+}
+
+// All rounds; answers how often the top was taken out.
+pub(crate) fn all_rounds<L: Layout>(
     small: &[u32],
     large: &[u64],
     smallwork: &[u32],
@@ -117,30 +101,23 @@ pub(crate) fn all_rounds(
     source: Source,
     g: Grid,
     k: usize,
-    spreads: &mut [f64; 256],
-    boxes: &mut [u64; 256],
-) -> Ended
-    requires can_sum { CanSum layout limit source g (laid layout small.now large.now)
-        (laid layout smallwork.now largework.now) × (k ≤ 256) }
-    requires two_arrays { TwoArrays spreads.old boxes.old × (room_in spreads.old boxes.old ≡ start_room g) }
-    ensures boxes { result.boxes ≡ (heap_of g (laid_view layout small.now large.now) k).boxes }
-    ensures rounds { result.rounds
-        ≡ (heap_of g (laid_view layout small.now large.now) k).rounds }
-    ensures room { room_in spreads.new boxes.new
-        ≡ (heap_of g (laid_view layout small.now large.now) k).room }
-    ensures arrays { TwoArrays spreads.new boxes.new }
+    heap: &mut Heap,
+) -> usize
+    requires can_sum { CanSum L.layout limit source g (laid L.layout small.now large.now)
+        (laid L.layout smallwork.now largework.now) × (k ≤ 256) }
+    requires start { (heap.old.len ≡ 1) × (heap.old.room ≡ start_room g) }
+    ensures rounds { result ≡ (heap_of g (laid_view L.layout small.now large.now) k).rounds }
+    ensures boxes { heap.new.len ≡ (heap_of g (laid_view L.layout small.now large.now) k).boxes }
+    ensures room { heap.new.room ≡ (heap_of g (laid_view L.layout small.now large.now) k).room }
 {
-    let mut len = 1;
     let mut rounds = 0;
-    while len < k {
-        let more = 0.0 < spreads[0];
-        len = round(
-            layout, small, large, smallwork, largework, source, g, spreads, boxes, len,
-        );
-        rounds = rounds + 1;
+    while heap.len() < k {
+        let more = 0.0 < heap.top().spread;
+        round::<L>(small, large, smallwork, largework, source, g, heap);
+        rounds += 1;
         if !more {
-            return Ended { boxes: len, rounds };
+            break;
         }
     }
-    Ended { boxes: len, rounds }
+    rounds
 }

@@ -9,8 +9,8 @@ use lib.Seq.{length-take-le, get_or-take, take_all}
 use lib.Ieee.{Float, nan}
 use Rattle.boxes.specs.declared.sides.Bounds.{Bounds}
 use Rattle.boxes.specs.Bytes.{box_bytes}
-use Rattle.rounds.specs.declared.gather.BoxSpread.{BoxSpread}
-use Rattle.cutter.specs.declared.call.CutRecord.{CutRecord}
+use Rattle.heap.specs.declared.heap.BoxSpread.{BoxSpread}
+use Rattle.cutter.specs.Record.{CutRecord}
 use Rattle.cutter.specs.Fronts.{filled, put_from}
 use Rattle.rounds.specs.Loop.{no_item}
 use Rattle.cutter.proofs.Fronts.{put_one, filled_next, length_filled_part}

@@ -1,5 +1,6 @@
 -- What the definitions of the calls come to: the sizes of a grid, the room for the boxes, the answer of a cut.
 -- Assumes nothing.
+use Rattle.std.specs.Prelude.{None, Option, Some}
 use mathlib.Core.Path.{◌≡◌, refl, sym, ap, ◌∙◌}
 use mathlib.Core.Bool.{Bool, true, false, not, ◌&&◌}
 use mathlib.Core.List.{List}
@@ -10,19 +11,17 @@ use lib.Dec.{eqb, leb}
 use lib.ListN.{length}
 use lib.Ieee.{Float}
 use Rattle.grid.specs.declared.place.Grid.{Grid}
-use Rattle.grid.specs.declared.place.Chosen.{Chosen}
-use Rattle.grid.specs.declared.place.Chosen.TheVariants as chosen
 use Rattle.basics.specs.Answer.{refuse, when_done}
 use Rattle.grid.specs.Grid.{grid_of, grid_answer, on_grid, number_on, bins_of}
 use Rattle.basics.proofs.Range.{and_left, and_right}
 use Rattle.basics.proofs.Ends.{passed}
-use Rattle.table.specs.declared.layout.Layout.{Layout}
+use Rattle.table.specs.Layouts.{Layout}
 use Rattle.table.specs.Table.{table_len}
 use Rattle.table.specs.Layout.{TableIn, view_in}
 use Rattle.table.specs.Sound.{limit_of, total, sound, unsound_number}
 use Rattle.sums.specs.declared.source.Source.{Source}
 use Rattle.sums.specs.declared.source.Source.TheVariants.{Bins}
-use Rattle.cutter.specs.declared.call.CutRecord.{CutRecord}
+use Rattle.cutter.specs.Record.{CutRecord}
 use Rattle.cutter.specs.Fronts.{filled}
 use Rattle.cutter.specs.Cut.{BuffersIn, lengths_right, cut_number_on, cut_number_in, refused_record, cut_record_in}
 use Rattle.cutter.specs.Cut.{cut_later_in}
@@ -37,29 +36,29 @@ use Rattle.seluvava.specs.Inner.{room_on, room_number}
 
 module _ (b1 b2 b3 : ℕ) where
   -- ---- sizes
-  pub bins_refused : grid_of b1 b2 b3 ≡ chosen.Refused → bins_for b1 b2 b3 ≡ 0
+  pub bins_refused : grid_of b1 b2 b3 ≡ None → bins_for b1 b2 b3 ≡ 0
   unfolding bins_for on_grid
   bins_refused e = rw e refl
 
-  pub bins_on : {g : Grid} → grid_of b1 b2 b3 ≡ chosen.Accepted g → bins_for b1 b2 b3 ≡ bins_of g
+  pub bins_on : {g : Grid} → grid_of b1 b2 b3 ≡ Some g → bins_for b1 b2 b3 ≡ bins_of g
   unfolding bins_for on_grid
   bins_on e = rw e refl
 
-  pub len_refused : grid_of b1 b2 b3 ≡ chosen.Refused → table_len_for b1 b2 b3 ≡ 0
+  pub len_refused : grid_of b1 b2 b3 ≡ None → table_len_for b1 b2 b3 ≡ 0
   unfolding table_len_for on_grid
   len_refused e = rw e refl
 
-  pub len_on : {g : Grid} → grid_of b1 b2 b3 ≡ chosen.Accepted g → table_len_for b1 b2 b3 ≡ table_len (bins_of g)
+  pub len_on : {g : Grid} → grid_of b1 b2 b3 ≡ Some g → table_len_for b1 b2 b3 ≡ table_len (bins_of g)
   unfolding table_len_for on_grid
   len_on e = rw e refl
 
   -- ---- the room for the boxes
   module _ (k boxes spreads : ℕ) where
-    pub room_refused : grid_of b1 b2 b3 ≡ chosen.Refused → room_number b1 b2 b3 k boxes spreads ≡ 1
+    pub room_refused : grid_of b1 b2 b3 ≡ None → room_number b1 b2 b3 k boxes spreads ≡ 1
     unfolding room_number number_on on_grid grid_answer
     room_refused e = rw e refl
 
-    pub room_on_lem : {g : Grid} → grid_of b1 b2 b3 ≡ chosen.Accepted g
+    pub room_on_lem : {g : Grid} → grid_of b1 b2 b3 ≡ Some g
         → room_number b1 b2 b3 k boxes spreads ≡ room_on k boxes spreads
     unfolding room_number number_on on_grid
     room_on_lem e = rw e refl
@@ -114,9 +113,9 @@ roomy b1 b2 b3 k boxes spreads = go (grid_of b1 b2 b3)
     never : ◌≡◌ {A = ℕ} 1 0 → ⊥
     never q = omega arith
 
-    go : (c : Chosen) → on_grid c (grid_answer c).number (λ g. room_on k boxes spreads) ≡ 0 → Roomy k boxes spreads
-    go (chosen.Accepted g) e = roomy_on k boxes spreads e
-    go chosen.Refused e = absurd (never e)
+    go : (c : Option Grid) → on_grid c (grid_answer c).number (λ g. room_on k boxes spreads) ≡ 0 → Roomy k boxes spreads
+    go (Some g) e = roomy_on k boxes spreads e
+    go None e = absurd (never e)
 
 -- ---- the call: what it answers, and what it leaves behind
 -- the answer of a refusal, and that of a record
@@ -150,16 +149,16 @@ module _ (layout : Layout) (source : Source) (b1 b2 b3 k : ℕ) (t : TableIn lay
   unfolding call_number_in call_number_on all_long cut_number_in cut_number_on room_number room_on number_on on_grid grid_answer when_done
   in_stages = go (grid_of b1 b2 b3)
     where
-      go : (c : Chosen)
+      go : (c : Option Grid)
           → number_on c (λ g. call_number_on layout source g k t l)
           ≡ when_done (number_on c (λ g. room_on k (length l.boxes) (length l.spreads)))
           (number_on c (λ g. cut_number_on (limit_of layout) g k (lengths_right layout source g k t l.buffers) (view_in layout t)))
           (number_on c (λ g. room_on k (length l.boxes) (length l.spreads)))
-      go (chosen.Accepted g) =
+      go (Some g) =
           stages (leb 1 k && leb k 256) (lengths_right layout source g k t l.buffers)
           (has_room k (length l.boxes) (length l.spreads))
           (refuse (not (sound (limit_of layout) g (view_in layout t))) unsound_number (refuse (eqb (total g (view_in layout t)) 0) 8 0))
-      go chosen.Refused = refl
+      go None = refl
 
   abbrev Ends : CutAnswer → LentIn layout → Type 0
   Ends r e = (r ≡ cut_answer_in layout source b1 b2 b3 k t l) × (e ≡ call_later_in layout source b1 b2 b3 k t l)

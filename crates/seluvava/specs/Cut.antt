@@ -3,15 +3,15 @@ use Rattle.std.specs.Prelude.{Bool, ◌&&◌, List, [], ◌∷◌, ℕ, ◌*◌,
 use Rattle.grid.specs.declared.place.Grid.{Grid}
 use Rattle.basics.specs.Answer.{when_done}
 use Rattle.grid.specs.Grid.{grid_of, number_on}
-use Rattle.table.specs.declared.layout.Layout.{Layout}
-use Rattle.table.specs.declared.layout.Layout.TheVariants.{Wide}
+use Rattle.table.specs.Layouts.{Layout}
+use Rattle.table.specs.Layouts.{Wide}
 use Rattle.table.specs.Table.{Table}
 use Rattle.table.specs.Layout.{TableIn, view_in}
 use Rattle.table.specs.Sound.{limit_of}
 use Rattle.boxes.specs.Bytes.{box_bytes}
 use Rattle.sums.specs.declared.source.Source.{Source}
-use Rattle.rounds.specs.declared.gather.BoxSpread.{BoxSpread}
-use Rattle.cutter.specs.declared.call.CutRecord.{CutRecord}
+use Rattle.heap.specs.declared.heap.BoxSpread.{BoxSpread}
+use Rattle.cutter.specs.Record.{CutRecord}
 use Rattle.cutter.specs.Fronts.{filled}
 use Rattle.cutter.specs.Cut.{BuffersIn, Buffers, lengths_right, cut_number_on, cut_record_in, cut_later_in}
 use Rattle.seluvava.specs.declared.cut.CutAnswer.{CutAnswer}

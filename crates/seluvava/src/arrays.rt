@@ -1,40 +1,35 @@
 // The lent arrays that the boxes of a cut and their spreads go into.
 ghost use Rattle.std.specs.Prelude.{◌≡◌, ◌+◌, ◌*◌, ◌≤◌, ◌<◌, length};
+ghost use Rattle.basics.specs.Refusal.{answer_of};
+ghost use Rattle.cutter.specs.Cut.{done_record};
 ghost use Rattle.cutter.specs.Fronts.{filled};
 ghost use Rattle.seluvava.specs.Cut.{its_bytes, spread_of, told};
 ghost use Rattle.seluvava.specs.Inner.{room_number, with_box_at};
 
+use basics::refusal::Refusal;
 use boxes::sides::Bounds;
-use cutter::call::CutRecord;
-use grid::place::{Chosen, grid_of};
+use grid::place::grid_of;
+use rounds::gather::Boxes;
 
-// The answer that the lengths of the arrays for boxes and spreads call for.
-pub(crate) fn room_number(
+// Whether the arrays for boxes and spreads are too short, or the sizes and k refused before them.
+pub(crate) fn check_room(
     b1: usize,
     b2: usize,
     b3: usize,
     k: usize,
     boxes: usize,
     spreads: usize,
-) -> u8
-    ensures { result ≡ room_number b1 b2 b3 k boxes spreads }
+) -> Result<(), Refusal>
+    ensures { answer_of result ≡ room_number b1 b2 b3 k boxes spreads }
 {
-    let Chosen::Accepted(accepted) = grid_of(b1, b2, b3) else {
-        return 1;
-    };
-    if k < 1 {
-        return 2;
+    grid_of(b1, b2, b3).ok_or(Refusal::Grid)?;
+    if k < 1 || 256 < k {
+        return Err(Refusal::BoxCount);
     }
-    if 256 < k {
-        return 2;
+    if boxes < 6 * k || spreads < k {
+        return Err(Refusal::Length);
     }
-    if boxes < 6 * k {
-        return 5;
-    }
-    if spreads < k {
-        return 5;
-    }
-    0
+    Ok(())
 }
 
 // Writes the bounds of a box as the six bytes of place i.
@@ -51,19 +46,16 @@ fn put_box(boxes: &mut [u8], i: usize, x: Bounds)
     boxes[at + 5] = x.b1;
 }
 
-// Writes the boxes of a record and their spreads.
-pub(crate) fn put_boxes(r: CutRecord, boxes: &mut [u8], spreads: &mut [f64])
-    requires { (length r.places ≡ 256) × (r.boxes ≤ 256)
-        × (6 * r.boxes ≤ length boxes.old) × (r.boxes ≤ length spreads.old) }
-    ensures boxes { boxes.new ≡ filled 6 its_bytes (told r) boxes.old }
-    ensures spreads { spreads.new ≡ filled 1 spread_of (told r) spreads.old }
+// Writes the boxes of a cut and their spreads.
+pub(crate) fn put_boxes(b: &Boxes, boxes: &mut [u8], spreads: &mut [f64])
+    requires { (length b.now.places ≡ 256) × (b.now.boxes ≤ 256)
+        × (6 * b.now.boxes ≤ length boxes.old) × (b.now.boxes ≤ length spreads.old) }
+    ensures boxes { boxes.new ≡ filled 6 its_bytes (told (done_record b.now)) boxes.old }
+    ensures spreads { spreads.new ≡ filled 1 spread_of (told (done_record b.now)) spreads.old }
 {
-    let n = r.boxes;
-    let mut i = 0;
-    while i < n {
-        let x = r.places[i];
+    for i in 0..b.boxes {
+        let x = b.places[i];
         put_box(boxes, i, x.bounds);
         spreads[i] = x.spread;
-        i = i + 1;
     }
 }

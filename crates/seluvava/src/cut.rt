@@ -1,14 +1,16 @@
 // Cutting a table, with its boxes and spreads written into lent arrays.
 ghost use Rattle.std.specs.Prelude.{◌≡◌};
+ghost use Rattle.basics.specs.Refusal.{number_of};
 ghost use Rattle.sums.specs.declared.source.Source.TheVariants.{Moments, Bins};
 ghost use Rattle.table.specs.Layout.{laid};
 ghost use Rattle.cutter.specs.Cut.{buffers_in, buffers, no_work};
 ghost use Rattle.seluvava.specs.Cut.{lent_in, cut_answer_in, call_later_in, lent, cut_answer, call_later};
 
-use crate::arrays::{put_boxes, room_number};
-use cutter::call::cut_from;
+use crate::arrays::{check_room, put_boxes};
+use basics::refusal::Refusal;
+use cutter::call::cut;
 use sums::source::Source;
-use table::layout::Layout;
+use table::layout::{Layout, Wide};
 
 // What a cut answers; the boxes themselves go into lent arrays.
 #[repr(C)]
@@ -19,10 +21,20 @@ pub struct CutAnswer {
     pub rounds: usize,
 }
 
+// What a refused cut answers.
+fn refused(refusal: Refusal) -> CutAnswer
+    ensures { result ≡ record { number = number_of refusal; boxes = 0; rounds = 0 } }
+{
+    CutAnswer {
+        number: refusal.number(),
+        boxes: 0,
+        rounds: 0,
+    }
+}
+
 // A cut in either layout with sums from where they come from, and its boxes and spreads written.
-pub(crate) fn cut_and_write(
+pub(crate) fn cut_and_write<L: Layout>(
     source: Source,
-    layout: Layout,
     b1: usize,
     b2: usize,
     b3: usize,
@@ -39,38 +51,37 @@ pub(crate) fn cut_and_write(
     spreads: &mut [f64],
 ) -> CutAnswer
     ensures answer { result
-        ≡ cut_answer_in layout source b1 b2 b3 k (laid layout small.now large.now)
-        (lent_in layout
-        (buffers_in layout (laid layout smallwork.old largework.old) palette.old
+        ≡ cut_answer_in L.layout source b1 b2 b3 k (laid L.layout small.now large.now)
+        (lent_in L.layout
+        (buffers_in L.layout (laid L.layout smallwork.old largework.old) palette.old
         counts.old remainders.old map.old)
         boxes.old spreads.old) }
-    ensures later { lent_in layout
-        (buffers_in layout (laid layout smallwork.new largework.new) palette.new
+    ensures later { lent_in L.layout
+        (buffers_in L.layout (laid L.layout smallwork.new largework.new) palette.new
         counts.new remainders.new map.new)
         boxes.new spreads.new
-        ≡ call_later_in layout source b1 b2 b3 k (laid layout small.now large.now)
-        (lent_in layout
-        (buffers_in layout (laid layout smallwork.old largework.old) palette.old
+        ≡ call_later_in L.layout source b1 b2 b3 k (laid L.layout small.now large.now)
+        (lent_in L.layout
+        (buffers_in L.layout (laid L.layout smallwork.old largework.old) palette.old
         counts.old remainders.old map.old)
         boxes.old spreads.old) }
 {
-    let number = room_number(b1, b2, b3, k, boxes.len(), spreads.len());
-    if number != 0 {
-        return CutAnswer {
-            number,
-            boxes: 0,
-            rounds: 0,
-        };
+    if let Err(refusal) = check_room(b1, b2, b3, k, boxes.len(), spreads.len()) {
+        return refused(refusal);
     }
-    let r = cut_from(
-        source, layout, b1, b2, b3, k, small, large, smallwork, largework, palette, counts,
-        remainders, map,
+    let result = cut::<L>(
+        source, b1, b2, b3, k, small, large, smallwork, largework, palette, counts, remainders, map,
     );
-    put_boxes(r, boxes, spreads);
-    CutAnswer {
-        number: r.number,
-        boxes: r.boxes,
-        rounds: r.rounds,
+    match result {
+        Ok(b) => {
+            put_boxes(&b, boxes, spreads);
+            CutAnswer {
+                number: 0,
+                boxes: b.boxes,
+                rounds: b.rounds,
+            }
+        }
+        Err(refusal) => refused(refusal),
     }
 }
 
@@ -106,9 +117,8 @@ pub fn seluvava_cut(
 {
     let none = [0u32; 0];
     let mut nowork = [0u32; 0];
-    cut_and_write(
+    cut_and_write::<Wide>(
         Source::Moments,
-        Layout::Wide,
         b1,
         b2,
         b3,
@@ -156,9 +166,8 @@ pub fn seluvava_cut_slowly(
     let none = [0u32; 0];
     let mut smallwork = [0u32; 0];
     let mut largework = [0u64; 0];
-    cut_and_write(
+    cut_and_write::<Wide>(
         Source::Bins,
-        Layout::Wide,
         b1,
         b2,
         b3,

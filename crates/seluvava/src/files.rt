@@ -3,6 +3,7 @@ ghost use Rattle.std.specs.Prelude.{◌≡◌};
 ghost use Rattle.ppm.specs.Load.{ppm_number, ppm_later};
 ghost use Rattle.seluvava.specs.Files.{ppm_header};
 
+use basics::refusal::answer;
 use ppm::header::{Header, read_header};
 
 // What the header of a PPM says: its answer, and the size of the image with the place of its first pixel, all 0 where
@@ -49,5 +50,5 @@ pub fn seluvava_load_ppm(b1: usize, b2: usize, b3: usize, table: &mut [u64], fil
     ensures number { result ≡ ppm_number b1 b2 b3 table.old file.now }
     ensures later { table.new ≡ ppm_later b1 b2 b3 table.old file.now }
 {
-    ppm::load::load_ppm(b1, b2, b3, table, file)
+    answer(ppm::load::load_ppm(b1, b2, b3, table, file))
 }

@@ -3,6 +3,8 @@ ghost use Rattle.std.specs.Prelude.{◌≡◌};
 ghost use Rattle.mapper.specs.Map.{map_number, map_later};
 ghost use Rattle.painter.specs.Paint.{paint_number, paint_later};
 
+use basics::refusal::answer;
+
 // The index of each pixel of a band of a frame, into the same band of the index buffer.
 pub fn seluvava_map(
     b1: usize,
@@ -22,7 +24,7 @@ pub fn seluvava_map(
         ≡ map_later b1 b2 b3 map.now palette_colours frame.now indices.old
         first pixels }
 {
-    mapper::call::map(
+    answer(mapper::call::map(
         b1,
         b2,
         b3,
@@ -32,7 +34,7 @@ pub fn seluvava_map(
         indices,
         first,
         pixels,
-    )
+    ))
 }
 
 // The palette's colour at each pixel's index, in the place of a band of a frame.
@@ -51,5 +53,5 @@ pub fn seluvava_paint(
     ensures later { frame.new
         ≡ paint_later b1 b2 b3 map.now palette.now frame.old first pixels }
 {
-    painter::call::paint(b1, b2, b3, map, palette, frame, first, pixels)
+    answer(painter::call::paint(b1, b2, b3, map, palette, frame, first, pixels))
 }

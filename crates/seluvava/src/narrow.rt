@@ -1,6 +1,6 @@
 // Tables in the narrow layout: loading, merging, cutting, and the wide table of one.
 ghost use Rattle.std.specs.Prelude.{◌≡◌};
-ghost use Rattle.table.specs.declared.layout.Layout.TheVariants.{Narrow};
+ghost use Rattle.table.specs.Layouts.{Narrow};
 ghost use Rattle.table.specs.Narrow.{narrow_table};
 ghost use Rattle.loader.specs.Load.{load_number_in, load_later_in};
 ghost use Rattle.loader.specs.Merge.{merge_number_in, merge_later_in};
@@ -10,8 +10,12 @@ ghost use Rattle.cutter.specs.Cut.{buffers_in, no_work_in};
 ghost use Rattle.seluvava.specs.Cut.{lent_in, cut_answer_in, call_later_in};
 
 use crate::cut::{CutAnswer, cut_and_write};
+use basics::refusal::answer;
+use loader::load::load;
+use loader::merge::merge;
 use sums::source::Source;
-use table::layout::Layout;
+use table::layout;
+use widen::call::widen;
 
 // Adds a batch of colours to a narrow table.
 pub fn seluvava_narrow_load(
@@ -31,17 +35,8 @@ pub fn seluvava_narrow_load(
         ≡ load_later_in Narrow b1 b2 b3 (narrow_table sums.old squares.old) colours.now
         weighted weights.now }
 {
-    loader::load::load_in(
-        Layout::Narrow,
-        b1,
-        b2,
-        b3,
-        sums,
-        squares,
-        colours,
-        weighted,
-        weights,
-    )
+    let weights = if weighted { Some(weights) } else { None };
+    answer(load::<layout::Narrow>(b1, b2, b3, sums, squares, colours, weights))
 }
 
 // Adds a second narrow table into a first.
@@ -61,16 +56,7 @@ pub fn seluvava_narrow_merge(
         ≡ merge_later_in Narrow b1 b2 b3 (narrow_table sums.old squares.old)
         (narrow_table secondsums.now secondsquares.now) }
 {
-    loader::merge::merge_in(
-        Layout::Narrow,
-        b1,
-        b2,
-        b3,
-        sums,
-        squares,
-        secondsums,
-        secondsquares,
-    )
+    answer(merge::<layout::Narrow>(b1, b2, b3, sums, squares, secondsums, secondsquares))
 }
 
 // Cuts a narrow table into at most k boxes; all but the tables is as for a wide one.
@@ -106,9 +92,8 @@ pub fn seluvava_narrow_cut(
         counts.old remainders.old map.old)
         boxes.old spreads.old) }
 {
-    cut_and_write(
+    cut_and_write::<layout::Narrow>(
         Source::Moments,
-        Layout::Narrow,
         b1,
         b2,
         b3,
@@ -159,9 +144,8 @@ pub fn seluvava_narrow_cut_slowly(
 {
     let mut smallwork = [0u32; 0];
     let mut largework = [0u64; 0];
-    cut_and_write(
+    cut_and_write::<layout::Narrow>(
         Source::Bins,
-        Layout::Narrow,
         b1,
         b2,
         b3,
@@ -193,5 +177,5 @@ pub fn seluvava_widen(
     ensures later { table.new
         ≡ widen_later b1 b2 b3 (narrow_table sums.now squares.now) table.old }
 {
-    widen::call::widen(b1, b2, b3, sums, squares, table)
+    answer(widen(b1, b2, b3, sums, squares, table))
 }

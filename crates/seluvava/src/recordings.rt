@@ -4,6 +4,8 @@ ghost use Rattle.recorder.specs.Session.{begun, reloaded};
 ghost use Rattle.recorder.specs.Batch.{batch_number, batch_later};
 ghost use Rattle.recorder.specs.Replay.{recorded, replay_answer, replay_table, replay_bytes};
 
+use basics::refusal::answer;
+use recorder::batch::batch;
 use recorder::session::{Session, SessionAnswer};
 
 // Begins a session.
@@ -39,9 +41,8 @@ pub fn seluvava_batch(
         ≡ batch_later session interval b1 b2 b3 table.old colours.now weighted
         weights.now }
 {
-    recorder::batch::batch(
-        session, interval, b1, b2, b3, table, colours, weighted, weights,
-    )
+    let weights = if weighted { Some(weights) } else { None };
+    answer(batch(session, interval, b1, b2, b3, table, colours, weights))
 }
 
 // Replays a recorded list into a table.

@@ -6,18 +6,23 @@ ghost use Rattle.loader.specs.Merge.{merge_number, merge_later};
 ghost use Rattle.rescue.specs.Rescue.{rescue_number, rescue_table, rescue_reasons};
 ghost use Rattle.seluvava.specs.Sizes.{table_len_for};
 
+use basics::refusal::answer;
 use compare::call::Compared;
-use grid::place::{Chosen, grid_of};
+use grid::place::grid_of;
+use loader::load::load;
+use loader::merge::merge;
+use rescue::call::rescue;
+use table::layout::Wide;
 use table::wide::table_len;
 
 // How many numbers a table has, or 0 where the grid is refused.
 pub fn seluvava_table_len(b1: usize, b2: usize, b3: usize) -> usize
     ensures { result ≡ table_len_for b1 b2 b3 }
 {
-    let Chosen::Accepted(g) = grid_of(b1, b2, b3) else {
-        return 0;
-    };
-    table_len(g)
+    match grid_of(b1, b2, b3) {
+        Some(g) => table_len(g),
+        None => 0,
+    }
 }
 
 // Adds a batch of colours to a table.
@@ -35,7 +40,9 @@ pub fn seluvava_load(
     ensures later { table.new
         ≡ load_later b1 b2 b3 table.old colours.now weighted weights.now }
 {
-    loader::load::load(b1, b2, b3, table, colours, weighted, weights)
+    let mut none = [0u32; 0];
+    let weights = if weighted { Some(weights) } else { None };
+    answer(load::<Wide>(b1, b2, b3, &mut none, table, colours, weights))
 }
 
 // Adds a second table into a first.
@@ -43,7 +50,8 @@ pub fn seluvava_merge(b1: usize, b2: usize, b3: usize, table: &mut [u64], second
     ensures number { result ≡ merge_number b1 b2 b3 table.old second.now }
     ensures later { table.new ≡ merge_later b1 b2 b3 table.old second.now }
 {
-    loader::merge::merge(b1, b2, b3, table, second)
+    let mut none = [0u32; 0];
+    answer(merge::<Wide>(b1, b2, b3, &mut none, table, &[], second))
 }
 
 // Compares a second table with a first.
@@ -70,5 +78,5 @@ pub fn seluvava_rescue(b1: usize, b2: usize, b3: usize, table: &mut [u64], reaso
     ensures reasons { reasons.new
         ≡ rescue_reasons b1 b2 b3 table.old reasons.old }
 {
-    rescue::call::rescue(b1, b2, b3, table, reasons)
+    answer(rescue(b1, b2, b3, table, reasons))
 }

@@ -1,6 +1,6 @@
 // Tables in the narrow layout: loading, merging, cutting, and the wide table of one.
 ghost use Rattle.std.specs.Prelude.{◌≡◌};
-ghost use Rattle.table.specs.declared.layout.Layout.TheVariants.{Narrow};
+ghost use Rattle.table.specs.Layouts.{Narrow};
 ghost use Rattle.table.specs.Narrow.{narrow_table};
 ghost use Rattle.loader.specs.Load.{load_number_in, load_later_in};
 ghost use Rattle.loader.specs.Merge.{merge_number_in, merge_later_in};

@@ -12,7 +12,7 @@ use Rattle.grid.specs.Grid.{size_at, place_of, stride_at, Accepted, Inside}
 use Rattle.grid.proofs.Size.{size_low}
 use Rattle.grid.proofs.Places.{one, two, three, place_lt, bins_high}
 use Rattle.table.specs.Cell.{View, number_of, cell_of}
-use Rattle.table.specs.declared.layout.Layout.{Layout}
+use Rattle.table.specs.Layouts.{Layout}
 use Rattle.table.specs.Layout.{TableIn, view_in}
 use Rattle.boxes.specs.declared.sides.Bounds.{Bounds}
 use Rattle.boxes.specs.Box.{min_at, max_at, low_side, high_side, slab_to, Within}
@@ -29,12 +29,6 @@ use Rattle.sums.proofs.Corners.{zeros_are, corner_inside, corner_cell, corner_nu
 use Rattle.sums.proofs.Corners.{cell_stats}
 use Rattle.spread.specs.Inner.{outer_of, inner_of, start_of, HasRecord, minus_stats, combined_stats, CanCombine}
 use Rattle.spread.proofs.Sides.{Exact, Less, stats_less}
-
-pub outer_rest : (d : ℕ) → (d ≡ 0 → ⊥) → outer_of d ≡ 0
-unfolding outer_of choose
-outer_rest zero n = absurd (n refl)
-outer_rest (suc zero) n = refl
-outer_rest (suc (suc d)) n = refl
 
 -- ---- runs of bins: those below n in dimension d, and a run in each of the two others
 pub cross_sum : Grid → View → ℕ → ℕ → ℕ → ℕ → ℕ → ℕ → ℕ → ℕ

@@ -8,7 +8,7 @@ use Rattle.basics.specs.Dimension.{choose}
 use Rattle.grid.specs.Grid.{place_of, stride_at}
 use Rattle.table.specs.Cell.{View}
 use Rattle.table.specs.Sound.{limit, sound}
-use Rattle.table.specs.declared.layout.Layout.{Layout}
+use Rattle.table.specs.Layouts.{Layout}
 use Rattle.table.specs.Layout.{TableIn, view_in, CellIn}
 use Rattle.boxes.specs.declared.sides.Bounds.{Bounds}
 use Rattle.sums.specs.declared.box_sums.Stats.{Stats}

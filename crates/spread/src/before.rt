@@ -1,9 +1,6 @@
-// The statistics of a box's bins before a bin, from the moments (`volume_at`), in each layout.
+// The statistics of a box's bins before a bin, from the moments (`volume_at`).
 ghost use Rattle.std.specs.Prelude.{◌≡◌, ◌≤◌};
-ghost use Rattle.table.specs.declared.layout.Layout.TheVariants.{Wide, Narrow};
 ghost use Rattle.table.specs.Sound.{limit};
-ghost use Rattle.table.specs.Table.{view_of};
-ghost use Rattle.table.specs.Narrow.{narrow_table, narrow_view};
 ghost use Rattle.table.specs.Layout.{laid, laid_view};
 ghost use Rattle.boxes.specs.Box.{max_at, slab_to, Within};
 ghost use Rattle.sums.specs.Box.{stats_from, stats_of};
@@ -17,64 +14,21 @@ use boxes::sides::Bounds;
 use grid::place::Grid;
 use sums::box_sums::{Stats, stats_of};
 use table::cell::ZEROS;
-use table::layout::{Layout, cell_in};
-use table::wide::cell_at;
+use table::layout::Layout;
 
-// The record at a place of the moments, in the wide layout.
-fn wide_record(work: &[u64], place: usize) -> Stats
-    requires { HasRecord Wide work.now place }
-    ensures { result ≡ stats_from (view_of work.now place) }
+// The record at a place of the moments.
+fn record<L: Layout>(small: &[u32], large: &[u64], place: usize) -> Stats
+    requires { HasRecord L.layout (laid L.layout small.now large.now) place }
+    ensures { result ≡ stats_from (laid_view L.layout small.now large.now place) }
 {
-    stats_of(cell_at(work, place))
+    stats_of(L::cell(small, large, place))
 }
 
-// And in the narrow one.
-fn narrow_record(sums: &[u32], squares: &[u64], place: usize) -> Stats
-    requires { HasRecord Narrow (narrow_table sums.now squares.now) place }
-    ensures { result ≡ stats_from (narrow_view (narrow_table sums.now squares.now) place) }
-{
-    stats_of(cell_in(Layout::Narrow, sums, squares, place))
-}
-
-// The statistics of a box's bins before a bin of a dimension, from the edge of the grid on, in the wide layout: reads
-// the four places of the walk; a place before the edge counts as zeros. The table and the box are named by the contract
-// alone.
-pub(crate) fn wide_before(
-    table: &[u64],
-    work: &[u64],
-    g: Grid,
-    x: Bounds,
-    dimension: u8,
-    walk: Walk,
-    bin: u8,
-) -> Stats
-    requires can_sum { CanSum Wide limit Moments g table.now work.now × Within g x × (bin ≤ max_at x dimension) }
-    requires walk_value { walk ≡ walk_of g x dimension }
-    ensures { result ≡ stats_of g (view_of table.now) (slab_to x dimension bin) }
-{
-    let none = stats_of(ZEROS);
-    if bin == 0 {
-        return none;
-    }
-    let far = walk.step * ((bin - 1) as usize);
-    let corner = wide_record(work, walk.corner + far);
-    if walk.inner == 0 {
-        if walk.outer == 0 {
-            return combined(corner, none, none, none);
-        }
-        return combined(corner, none, wide_record(work, walk.above + far), none);
-    }
-    let left = wide_record(work, walk.left + far);
-    if walk.outer == 0 {
-        return combined(corner, left, none, none);
-    }
-    let above = wide_record(work, walk.above + far);
-    let diagonal = wide_record(work, walk.diagonal + far);
-    combined(corner, left, above, diagonal)
-}
-
-// The same in the narrow layout.
-pub(crate) fn narrow_before(
+// The statistics of a box's bins before a bin of a dimension, from the edge of the grid on: reads the four places of the
+// walk; a place before the edge counts as zeros. The table and the box are named by the contract alone. As a call of its
+// own it would make a cut at k = 256 slower by a tenth.
+#[inline(always)]
+pub(crate) fn before<L: Layout>(
     small: &[u32],
     large: &[u64],
     smallwork: &[u32],
@@ -85,18 +39,18 @@ pub(crate) fn narrow_before(
     walk: Walk,
     bin: u8,
 ) -> Stats
-    requires can_sum { CanSum Narrow limit Moments g (laid Narrow small.now large.now)
-        (laid Narrow smallwork.now largework.now) × Within g x × (bin ≤ max_at x dimension) }
+    requires can_sum { CanSum L.layout limit Moments g (laid L.layout small.now large.now)
+        (laid L.layout smallwork.now largework.now) × Within g x × (bin ≤ max_at x dimension) }
     requires walk_value { walk ≡ walk_of g x dimension }
     ensures { result
-        ≡ stats_of g (laid_view Narrow small.now large.now) (slab_to x dimension bin) }
+        ≡ stats_of g (laid_view L.layout small.now large.now) (slab_to x dimension bin) }
 {
     let none = stats_of(ZEROS);
     if bin == 0 {
         return none;
     }
     let far = walk.step * ((bin - 1) as usize);
-    let corner = narrow_record(smallwork, largework, walk.corner + far);
+    let corner = record::<L>(smallwork, largework, walk.corner + far);
     if walk.inner == 0 {
         if walk.outer == 0 {
             return combined(corner, none, none, none);
@@ -104,15 +58,15 @@ pub(crate) fn narrow_before(
         return combined(
             corner,
             none,
-            narrow_record(smallwork, largework, walk.above + far),
+            record::<L>(smallwork, largework, walk.above + far),
             none,
         );
     }
-    let left = narrow_record(smallwork, largework, walk.left + far);
+    let left = record::<L>(smallwork, largework, walk.left + far);
     if walk.outer == 0 {
         return combined(corner, left, none, none);
     }
-    let above = narrow_record(smallwork, largework, walk.above + far);
-    let diagonal = narrow_record(smallwork, largework, walk.diagonal + far);
+    let above = record::<L>(smallwork, largework, walk.above + far);
+    let diagonal = record::<L>(smallwork, largework, walk.diagonal + far);
     combined(corner, left, above, diagonal)
 }

@@ -7,51 +7,46 @@ ghost use Rattle.spread.specs.Cut.{position_at, best_in};
 ghost use Rattle.spread.specs.Inner.{CutsAt};
 
 use crate::position::{Position, better, position_between};
-use boxes::sides::{Bounds, end_bin, first_bin, high_side, low_side};
+use boxes::sides::Bounds;
 use grid::place::Grid;
 use sums::box_sums::sum_of_bins;
 use table::layout::Layout;
 
 // The position at a bin.
-fn position_by_bins(
-    layout: Layout,
+fn position_by_bins<L: Layout>(
     small: &[u32],
     large: &[u64],
     g: Grid,
     x: Bounds,
     dimension: u8,
     bin: u8,
-) -> Position
-    requires { TableOfIn layout g (laid layout small.now large.now)
-        × CutsAt g (laid_view layout small.now large.now) x dimension bin }
-    ensures { result ≡ position_at g (laid_view layout small.now large.now) x dimension bin }
+) -> Option<Position>
+    requires { TableOfIn L.layout g (laid L.layout small.now large.now)
+        × CutsAt g (laid_view L.layout small.now large.now) x dimension bin }
+    ensures { result ≡ position_at g (laid_view L.layout small.now large.now) x dimension bin }
 {
-    let low = sum_of_bins(layout, small, large, g, low_side(x, dimension, bin));
-    let high = sum_of_bins(layout, small, large, g, high_side(x, dimension, bin));
+    let low = sum_of_bins::<L>(small, large, g, x.low_side(dimension, bin));
+    let high = sum_of_bins::<L>(small, large, g, x.high_side(dimension, bin));
     position_between(dimension, bin, low, high)
 }
 
 // The best position.
-pub(crate) fn best_by_bins(
-    layout: Layout,
+pub(crate) fn best_by_bins<L: Layout>(
     small: &[u32],
     large: &[u64],
     g: Grid,
     x: Bounds,
     dimension: u8,
-) -> Position
-    requires { CanAdd layout limit g (laid layout small.now large.now) x }
-    ensures { result ≡ best_in g (laid_view layout small.now large.now) x dimension }
+) -> Option<Position>
+    requires { CanAdd L.layout limit g (laid L.layout small.now large.now) x }
+    ensures { result ≡ best_in g (laid_view L.layout small.now large.now) x dimension }
 {
-    let end = end_bin(x, dimension);
-    let mut best = Position::Nowhere;
-    let mut bin = first_bin(x, dimension) + 1;
-    while bin < end {
+    let mut best = None;
+    for bin in x.first_bin(dimension) + 1..x.end_bin(dimension) {
         best = better(
             best,
-            position_by_bins(layout, small, large, g, x, dimension, bin),
+            position_by_bins::<L>(small, large, g, x, dimension, bin),
         );
-        bin = bin + 1;
     }
     best
 }

@@ -9,20 +9,18 @@ ghost use Rattle.sums.specs.Moments.{CanSum};
 ghost use Rattle.spread.specs.Cut.{position_at, best_in};
 ghost use Rattle.spread.specs.Inner.{Sided, walk_of};
 
-use crate::low_side::less;
-use crate::narrow_search::best_narrow;
-use crate::position::{Position, position_between};
+use crate::before::before;
+use crate::low_side::{less, low_side_sums};
+use crate::position::{Position, later_wins, position_between};
 use crate::walk::Walk;
-use crate::wide_search::best_wide;
-use boxes::sides::{Bounds, end_bin, first_bin};
+use boxes::sides::Bounds;
 use grid::place::Grid;
 use sums::box_sums::Stats;
 use table::layout::Layout;
 
 // The position at a bin, from the records of the box and of its low side: the high side is the rest of the box. The
 // table is named by the contract alone.
-pub(crate) fn position_at(
-    layout: Layout,
+pub(crate) fn position_at<L: Layout>(
     small: &[u32],
     large: &[u64],
     g: Grid,
@@ -31,17 +29,17 @@ pub(crate) fn position_at(
     bin: u8,
     all: Stats,
     low: Stats,
-) -> Position
-    requires { Sided g (laid_view layout small.now large.now) x dimension bin all low }
-    ensures { result ≡ position_at g (laid_view layout small.now large.now) x dimension bin }
+) -> Option<Position>
+    requires { Sided g (laid_view L.layout small.now large.now) x dimension bin all low }
+    ensures { result ≡ position_at g (laid_view L.layout small.now large.now) x dimension bin }
 {
     let high = less(all, low);
     position_between(dimension, bin, low, high)
 }
 
-// The best position, by the layout. A dimension of one bin has no position.
-pub(crate) fn best_by_moments(
-    layout: Layout,
+// The best position. A dimension of one bin has none; else the first bin gives what lies before the box, each other bin
+// a position.
+pub(crate) fn best_by_moments<L: Layout>(
     small: &[u32],
     large: &[u64],
     smallwork: &[u32],
@@ -51,22 +49,31 @@ pub(crate) fn best_by_moments(
     dimension: u8,
     all: Stats,
     walk: Walk,
-) -> Position
-    requires can_sum { CanSum layout limit Moments g (laid layout small.now large.now)
-        (laid layout smallwork.now largework.now) × Within g x }
-    requires all_value { all ≡ stats_of g (laid_view layout small.now large.now) x }
+) -> Option<Position>
+    requires can_sum { CanSum L.layout limit Moments g (laid L.layout small.now large.now)
+        (laid L.layout smallwork.now largework.now) × Within g x }
+    requires all_value { all ≡ stats_of g (laid_view L.layout small.now large.now) x }
     requires walk_value { walk ≡ walk_of g x dimension }
-    ensures { result ≡ best_in g (laid_view layout small.now large.now) x dimension }
+    ensures { result ≡ best_in g (laid_view L.layout small.now large.now) x dimension }
 {
-    if end_bin(x, dimension) - first_bin(x, dimension) == 1 {
-        return Position::Nowhere;
+    let first = x.first_bin(dimension);
+    let end = x.end_bin(dimension);
+    if end - first == 1 {
+        return None;
     }
-    match layout {
-        Layout::Wide => best_wide(
-            small, large, smallwork, largework, g, x, dimension, all, walk,
-        ),
-        Layout::Narrow => best_narrow(
-            small, large, smallwork, largework, g, x, dimension, all, walk,
-        ),
+    let base = before::<L>(
+        small, large, smallwork, largework, g, x, dimension, walk, first,
+    );
+    let mut best = None;
+    for bin in first + 1..end {
+        let upto = before::<L>(
+            small, large, smallwork, largework, g, x, dimension, walk, bin,
+        );
+        let low = low_side_sums::<L>(small, large, g, x, dimension, bin, upto, base);
+        let later = position_at::<L>(small, large, g, x, dimension, bin, all, low);
+        if later_wins(best, later) {
+            best = later;
+        }
     }
+    best
 }

@@ -11,6 +11,7 @@ use sums::box_sums::Stats;
 use table::layout::Layout;
 
 // One record less another: weight and sums in whole numbers, the squares in f64.
+#[tactic(auto, unfolding(crate::specs::Inner::minus_stats))]
 pub(crate) fn less(a: Stats, b: Stats) -> Stats
     requires { Covers a b }
     ensures { result ≡ minus_stats a b }
@@ -26,6 +27,7 @@ pub(crate) fn less(a: Stats, b: Stats) -> Stats
 
 // What was read, combined by inclusion and exclusion: the corner less what lies left of the box, and less what lies
 // above it but for what was taken off with the left.
+#[tactic(auto, unfolding(crate::specs::Inner::combined_stats))]
 pub(crate) fn combined(corner: Stats, left: Stats, above: Stats, diagonal: Stats) -> Stats
     requires { CanCombine corner left above diagonal }
     ensures { result ≡ combined_stats corner left above diagonal }
@@ -35,8 +37,7 @@ pub(crate) fn combined(corner: Stats, left: Stats, above: Stats, diagonal: Stats
 
 // The statistics of the low side of a position: what lies before the bin, less what lies before the box. The table, the
 // box and the position are named by the contract alone.
-pub(crate) fn low_side_sums(
-    layout: Layout,
+pub(crate) fn low_side_sums<L: Layout>(
     small: &[u32],
     large: &[u64],
     g: Grid,
@@ -46,9 +47,9 @@ pub(crate) fn low_side_sums(
     before: Stats,
     base: Stats,
 ) -> Stats
-    requires { Slabs g (laid_view layout small.now large.now) x dimension bin before base }
+    requires { Slabs g (laid_view L.layout small.now large.now) x dimension bin before base }
     ensures { result
-        ≡ stats_of g (laid_view layout small.now large.now) (low_side x dimension bin) }
+        ≡ stats_of g (laid_view L.layout small.now large.now) (low_side x dimension bin) }
 {
     less(before, base)
 }

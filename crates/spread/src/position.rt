@@ -6,58 +6,50 @@ ghost use Rattle.spread.specs.Cut.{position_of, later_wins, better as better_of}
 use crate::spread::score;
 use sums::box_sums::Stats;
 
-// A position to cut a box at, or that there is none.
+// A position to cut a box at, with its score.
 #[derive(Clone, Copy)]
-pub enum Position {
-    At { dimension: u8, bin: u8, score: f64 },
-    Nowhere,
+pub struct Position {
+    pub dimension: u8,
+    pub bin: u8,
+    pub score: f64,
 }
 
 // The position between two sides, unless one of them is empty.
-pub fn position_between(dimension: u8, bin: u8, low: Stats, high: Stats) -> Position
+#[tactic(auto, unfolding(crate::specs::Cut::position_of))]
+pub fn position_between(dimension: u8, bin: u8, low: Stats, high: Stats) -> Option<Position>
     requires { Plain low × Plain high }
     ensures { result ≡ position_of dimension bin low high }
 {
-    if low.weight == 0 {
-        return Position::Nowhere;
+    if low.weight == 0 || high.weight == 0 {
+        return None;
     }
-    if high.weight == 0 {
-        return Position::Nowhere;
-    }
-    Position::At {
+    Some(Position {
         dimension,
         bin,
         score: score(low, high),
-    }
+    })
 }
 
 // Whether the later of two positions wins.
-pub(crate) fn later_wins(earlier: Position, later: Position) -> bool
+#[tactic(auto, unfolding(crate::specs::Cut::later_wins))]
+pub(crate) fn later_wins(earlier: Option<Position>, later: Option<Position>) -> bool
     ensures { result ≡ later_wins earlier later }
 {
-    match later {
-        Position::Nowhere => false,
-        Position::At {
-            dimension: _,
-            bin: _,
-            score: y,
-        } => match earlier {
-            Position::Nowhere => true,
-            Position::At {
-                dimension: _,
-                bin: _,
-                score: x,
-            } => y < x,
-        },
+    match (earlier, later) {
+        (_, None) => false,
+        (None, Some(_)) => true,
+        (Some(earlier), Some(later)) => later.score < earlier.score,
     }
 }
 
 // Of two positions the later where it wins, else the earlier.
-pub fn better(earlier: Position, later: Position) -> Position
+#[tactic(auto, unfolding(crate::specs::Cut::better))]
+pub fn better(earlier: Option<Position>, later: Option<Position>) -> Option<Position>
     ensures { result ≡ better_of earlier later }
 {
     if later_wins(earlier, later) {
-        return later;
+        later
+    } else {
+        earlier
     }
-    earlier
 }

@@ -18,17 +18,20 @@ use sums::source::Source;
 use table::layout::Layout;
 
 // The best of the positions of the three dimensions, in order.
-fn best_of(first: Position, second: Position, third: Position) -> Position
+fn best_of(
+    first: Option<Position>,
+    second: Option<Position>,
+    third: Option<Position>,
+) -> Option<Position>
     ensures { result ≡ better_of (better_of first second) third }
 {
     better(better(first, second), third)
 }
 
 // The best position of a box, or that it has none, with its two sides (`cut`), from where sums come from. Either search
-// is asked three times, so that the compiler leaves each a function of its own, and each walk is found here, where the
-// dimension is a constant.
-pub fn best_cut(
-    layout: Layout,
+// is asked three times, so that the compiler leaves the two apart, and each walk is found here, where the dimension is a
+// constant.
+pub fn best_cut<L: Layout>(
     small: &[u32],
     large: &[u64],
     smallwork: &[u32],
@@ -36,33 +39,33 @@ pub fn best_cut(
     source: Source,
     g: Grid,
     x: Bounds,
-) -> BestCut
-    requires { CanSum layout limit source g (laid layout small.now large.now)
-        (laid layout smallwork.now largework.now) × Within g x }
+) -> Option<BestCut>
+    requires { CanSum L.layout limit source g (laid L.layout small.now large.now)
+        (laid L.layout smallwork.now largework.now) × Within g x }
     ensures { result
-        ≡ cut_at g (laid_view layout small.now large.now) x
-        (best_cut g (laid_view layout small.now large.now) x) }
+        ≡ cut_at g (laid_view L.layout small.now large.now) x
+        (best_cut g (laid_view L.layout small.now large.now) x) }
 {
     match source {
         Source::Moments => {
-            let all = box_sum(layout, small, large, smallwork, largework, source, g, x);
+            let all = box_sum::<L>(small, large, smallwork, largework, source, g, x);
             let w0 = walk_of(g, x, 0);
             let w1 = walk_of(g, x, 1);
             let w2 = walk_of(g, x, 2);
             let best = best_of(
-                best_by_moments(layout, small, large, smallwork, largework, g, x, 0, all, w0),
-                best_by_moments(layout, small, large, smallwork, largework, g, x, 1, all, w1),
-                best_by_moments(layout, small, large, smallwork, largework, g, x, 2, all, w2),
+                best_by_moments::<L>(small, large, smallwork, largework, g, x, 0, all, w0),
+                best_by_moments::<L>(small, large, smallwork, largework, g, x, 1, all, w1),
+                best_by_moments::<L>(small, large, smallwork, largework, g, x, 2, all, w2),
             );
-            sides_by_moments(layout, small, large, smallwork, largework, g, x, best, all)
+            Some(sides_by_moments::<L>(small, large, smallwork, largework, g, x, best?, all))
         }
         Source::Bins => {
             let best = best_of(
-                best_by_bins(layout, small, large, g, x, 0),
-                best_by_bins(layout, small, large, g, x, 1),
-                best_by_bins(layout, small, large, g, x, 2),
+                best_by_bins::<L>(small, large, g, x, 0),
+                best_by_bins::<L>(small, large, g, x, 1),
+                best_by_bins::<L>(small, large, g, x, 2),
             );
-            sides_by_bins(layout, small, large, g, x, best)
+            Some(sides_by_bins::<L>(small, large, g, x, best?))
         }
     }
 }

@@ -10,7 +10,7 @@ use Rattle.grid.specs.Grid.{Inside, bins_of, place_of}
 use Rattle.grid.proofs.Places.{place_lt, bins_high, row_start, plane_start, place_along}
 use Rattle.table.specs.declared.cell.Cell.{Cell}
 use Rattle.table.specs.Cell.{View, cell_of, number_of, minus_cell, AtLeast}
-use Rattle.table.specs.declared.layout.Layout.{Layout}
+use Rattle.table.specs.Layouts.{Layout}
 use Rattle.table.specs.Layout.{TableIn, view_in, CellIn}
 use Rattle.table.specs.Sound.{limit}
 use Rattle.table.proofs.Layouts.{cell_in}

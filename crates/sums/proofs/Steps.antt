@@ -3,7 +3,6 @@
 -- Assumes nothing.
 use mathlib.Core.Path.{◌≡◌, sym, ap, subst, ◌∙◌}
 use mathlib.Core.Bool.{true}
-use mathlib.Core.List.{List}
 use Prim.Native.Nat.{ℕ, suc, ◌+◌, ◌-◌, ◌*◌, ◌^◌, ◌≤◌, ◌<◌}
 use native.Mathlib.Nat.{zero-add, mul-le-mul_right, add-mul, one-mul, suc-mul, lt_trans}
 use native.Mathlib.Decide.{dec_le, ℕ_discrete}
@@ -17,8 +16,8 @@ use Rattle.grid.proofs.Size.{size_low}
 use Rattle.grid.proofs.Places.{two, three, place_lt, place_along, row_start, plane_start}
 use Rattle.table.specs.declared.cell.Cell.{Cell}
 use Rattle.table.specs.Cell.{View, number_of, cell_of, plus_cell, minus_cell, SumsFit}
-use Rattle.table.specs.declared.layout.Layout.{Layout}
-use Rattle.table.specs.Layout.{TableIn, laid, SizedIn, view_in, written_in, put_in, CellIn, HeldIn, TableOfIn}
+use Rattle.table.specs.Layouts.{Layout}
+use Rattle.table.specs.Layout.{TableIn, SizedIn, view_in, written_in, put_in, CellIn, HeldIn, TableOfIn}
 use Rattle.table.specs.Sound.{limit, limit_of, total, sound as sound_for}
 use Rattle.table.proofs.Cells.{number_cell, number_plus, number_minus, cell_by, zero_cell, zero_cell_lem}
 use Rattle.table.proofs.Layouts.{cell_in, cell_of_lem, list_holds_in, holds_list_in, held_in}
@@ -313,17 +312,6 @@ module _ {layout : Layout} {g : Grid} {t w : TableIn layout} {r gr b : ℕ} (rea
 pub line_start : (g : Grid) (v : View) (r gr : ℕ) → zero_cell ≡ line_cell g v r gr 0
 unfolding line_cell line_sum sum_from
 line_start g v r gr = zero_cell_lem
-
--- where the layout is known
-module _ {l k : Layout} (e : l ≡ k) (g : Grid) (small large smallwork largework : List ℕ) where
-  pub ready_as : (r gr b : ℕ) → Ready l g (laid l small large) (laid l smallwork largework) r gr b
-      → Ready k g (laid k small large) (laid k smallwork largework) r gr b
-  ready_as r gr b h =
-      subst (λ (x : Layout). Ready x g (laid x small large) (laid x smallwork largework) r gr b) e h
-
-  pub before_as : (p : ℕ) → Before k g (laid k small large) (laid k smallwork largework) p
-      → Before l g (laid l small large) (laid l smallwork largework) p
-  before_as p h = subst (λ (x : Layout). Before x g (laid x small large) (laid x smallwork largework) p) (sym e) h
 
 pub before_same : {l : Layout} {g : Grid} {t w : TableIn l} {p : ℕ} → Before l g t w p → {q : ℕ} → p ≡ q → Before l g t w q
 before_same {l} {g} {t} {w} h e = subst (λ (n : ℕ). Before l g t w n) e h

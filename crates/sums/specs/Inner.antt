@@ -6,7 +6,7 @@ use Rattle.grid.specs.declared.place.Grid.{Grid}
 use Rattle.grid.specs.Grid.{place_of, Inside}
 use Rattle.table.specs.declared.cell.Cell.{Cell}
 use Rattle.table.specs.Cell.{View, number_of, cell_of, plus_cell, minus_cell, AtLeast}
-use Rattle.table.specs.declared.layout.Layout.{Layout}
+use Rattle.table.specs.Layouts.{Layout}
 use Rattle.table.specs.Layout.{TableIn, view_in, put_in}
 use Rattle.table.specs.Sound.{limit}
 use Rattle.bins.specs.Sum.{bin_sum}

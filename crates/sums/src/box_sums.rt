@@ -5,13 +5,11 @@ ghost use Rattle.table.specs.Sound.{limit};
 ghost use Rattle.table.specs.Layout.{laid, laid_view};
 ghost use Rattle.boxes.specs.Box.{Within};
 ghost use Rattle.bins.specs.Sum.{box_cell, CanAdd};
-ghost use Rattle.sums.specs.declared.source.Source.TheVariants.{Moments};
 ghost use Rattle.sums.specs.Box.{whole, stats_from, stats_of};
 ghost use Rattle.sums.specs.Moments.{CanSum};
 
-use crate::narrow_box::narrow_box;
+use crate::moments_box::moments_box;
 use crate::source::Source;
-use crate::wide_box::wide_box;
 use bins::add_up::add_up;
 use boxes::sides::Bounds;
 use grid::place::Grid;
@@ -26,26 +24,6 @@ pub struct Stats {
     pub sum2: u64,
     pub sum3: u64,
     pub squares: f64,
-}
-
-// The five sums of a box, from the moments of its table (`volume`), by the layout.
-fn box_cell(
-    layout: Layout,
-    small: &[u32],
-    large: &[u64],
-    smallwork: &[u32],
-    largework: &[u64],
-    g: Grid,
-    x: Bounds,
-) -> Cell
-    requires { CanSum layout limit Moments g (laid layout small.now large.now)
-        (laid layout smallwork.now largework.now) × Within g x }
-    ensures { result ≡ box_cell g (laid_view layout small.now large.now) x }
-{
-    match layout {
-        Layout::Wide => wide_box(large, largework, g, x),
-        Layout::Narrow => narrow_box(small, large, smallwork, largework, g, x),
-    }
 }
 
 // A whole number in f64. The machine turns an i64 into an f64 by one instruction, a u64 by several.
@@ -71,16 +49,15 @@ pub fn stats_of(c: Cell) -> Stats
 }
 
 // The statistics of a box, from its bins.
-pub fn sum_of_bins(layout: Layout, small: &[u32], large: &[u64], g: Grid, x: Bounds) -> Stats
-    requires { CanAdd layout limit g (laid layout small.now large.now) x }
-    ensures { result ≡ stats_of g (laid_view layout small.now large.now) x }
+pub fn sum_of_bins<L: Layout>(small: &[u32], large: &[u64], g: Grid, x: Bounds) -> Stats
+    requires { CanAdd L.layout limit g (laid L.layout small.now large.now) x }
+    ensures { result ≡ stats_of g (laid_view L.layout small.now large.now) x }
 {
-    stats_of(add_up(layout, small, large, g, x))
+    stats_of(add_up::<L>(small, large, g, x))
 }
 
 // The five sums of a box, from where sums come from.
-fn cell_from(
-    layout: Layout,
+fn cell_from<L: Layout>(
     small: &[u32],
     large: &[u64],
     smallwork: &[u32],
@@ -89,19 +66,18 @@ fn cell_from(
     g: Grid,
     x: Bounds,
 ) -> Cell
-    requires { CanSum layout limit source g (laid layout small.now large.now)
-        (laid layout smallwork.now largework.now) × Within g x }
-    ensures { result ≡ box_cell g (laid_view layout small.now large.now) x }
+    requires { CanSum L.layout limit source g (laid L.layout small.now large.now)
+        (laid L.layout smallwork.now largework.now) × Within g x }
+    ensures { result ≡ box_cell g (laid_view L.layout small.now large.now) x }
 {
     match source {
-        Source::Moments => box_cell(layout, small, large, smallwork, largework, g, x),
-        Source::Bins => add_up(layout, small, large, g, x),
+        Source::Moments => moments_box::<L>(small, large, smallwork, largework, g, x),
+        Source::Bins => add_up::<L>(small, large, g, x),
     }
 }
 
 // The statistics of a box, from where sums come from.
-pub fn box_sum(
-    layout: Layout,
+pub fn box_sum<L: Layout>(
     small: &[u32],
     large: &[u64],
     smallwork: &[u32],
@@ -110,9 +86,9 @@ pub fn box_sum(
     g: Grid,
     x: Bounds,
 ) -> Stats
-    requires { CanSum layout limit source g (laid layout small.now large.now)
-        (laid layout smallwork.now largework.now) × Within g x }
-    ensures { result ≡ stats_of g (laid_view layout small.now large.now) x }
+    requires { CanSum L.layout limit source g (laid L.layout small.now large.now)
+        (laid L.layout smallwork.now largework.now) × Within g x }
+    ensures { result ≡ stats_of g (laid_view L.layout small.now large.now) x }
 {
-    stats_of(cell_from(layout, small, large, smallwork, largework, source, g, x))
+    stats_of(cell_from::<L>(small, large, smallwork, largework, source, g, x))
 }

@@ -7,12 +7,11 @@ ghost use Rattle.sums.specs.Inner.{moment_cell, line_cell, Before, Ready, AtEdge
 use crate::join::joined;
 use grid::place::{Grid, place};
 use table::cell::{Cell, ZEROS, plus};
-use table::layout::{Layout, cell_in, put_cell};
+use table::layout::Layout;
 
 // The moments at a bin of such a row, from the sums along the row and what the work table has before it; a row or a
 // plane that is not there counts as zeros. The table is named by the contract alone.
-fn edge_at(
-    layout: Layout,
+fn edge_at<L: Layout>(
     small: &[u32],
     large: &[u64],
     smallwork: &[u32],
@@ -23,26 +22,25 @@ fn edge_at(
     b: usize,
     line: Cell,
 ) -> Cell
-    requires ready { Ready layout g (laid layout small.now large.now)
-        (laid layout smallwork.now largework.now) r gr b }
-    requires line_value { line ≡ line_cell g (laid_view layout small.now large.now) r gr (b + 1) }
+    requires ready { Ready L.layout g (laid L.layout small.now large.now)
+        (laid L.layout smallwork.now largework.now) r gr b }
+    requires line_value { line ≡ line_cell g (laid_view L.layout small.now large.now) r gr (b + 1) }
     requires at_edge { AtEdge r gr }
-    ensures { result ≡ moment_cell g (laid_view layout small.now large.now) (place_of g r gr b) }
+    ensures { result ≡ moment_cell g (laid_view L.layout small.now large.now) (place_of g r gr b) }
 {
     if r == 0 {
         if gr == 0 {
             return joined(line, ZEROS, ZEROS, ZEROS);
         }
-        let above = cell_in(layout, smallwork, largework, place(g, r, gr - 1, b));
+        let above = L::cell(smallwork, largework, place(g, r, gr - 1, b));
         return joined(line, above, ZEROS, ZEROS);
     }
-    let before = cell_in(layout, smallwork, largework, place(g, r - 1, gr, b));
+    let before = L::cell(smallwork, largework, place(g, r - 1, gr, b));
     joined(line, ZEROS, before, ZEROS)
 }
 
 // Writes the moments at a bin of such a row and answers the sums along the row through it.
-fn edge_bin(
-    layout: Layout,
+fn edge_bin<L: Layout>(
     small: &[u32],
     large: &[u64],
     smallwork: &mut [u32],
@@ -53,25 +51,24 @@ fn edge_bin(
     b: usize,
     line: Cell,
 ) -> Cell
-    requires ready { Ready layout g (laid layout small.now large.now)
-        (laid layout smallwork.old largework.old) r gr b }
-    requires line_value { line ≡ line_cell g (laid_view layout small.now large.now) r gr b }
+    requires ready { Ready L.layout g (laid L.layout small.now large.now)
+        (laid L.layout smallwork.old largework.old) r gr b }
+    requires line_value { line ≡ line_cell g (laid_view L.layout small.now large.now) r gr b }
     requires at_edge { AtEdge r gr }
-    ensures sums { result ≡ line_cell g (laid_view layout small.now large.now) r gr (b + 1) }
-    ensures later { laid layout smallwork.new largework.new
-        ≡ with_moment layout g (laid_view layout small.now large.now)
-        (laid layout smallwork.old largework.old) (place_of g r gr b) }
+    ensures sums { result ≡ line_cell g (laid_view L.layout small.now large.now) r gr (b + 1) }
+    ensures later { laid L.layout smallwork.new largework.new
+        ≡ with_moment L.layout g (laid_view L.layout small.now large.now)
+        (laid L.layout smallwork.old largework.old) (place_of g r gr b) }
 {
     let p = place(g, r, gr, b);
-    let sum = plus(line, cell_in(layout, small, large, p));
-    let moment = edge_at(layout, small, large, smallwork, largework, g, r, gr, b, sum);
-    put_cell(layout, smallwork, largework, p, moment);
+    let sum = plus(line, L::cell(small, large, p));
+    let moment = edge_at::<L>(small, large, smallwork, largework, g, r, gr, b, sum);
+    L::put(smallwork, largework, p, moment);
     sum
 }
 
-// Writes the moments of such a row. They are few, so that one loop does for both layouts.
-pub(crate) fn edge_row(
-    layout: Layout,
+// Writes the moments of such a row.
+pub(crate) fn edge_row<L: Layout>(
     small: &[u32],
     large: &[u64],
     smallwork: &mut [u32],
@@ -80,18 +77,14 @@ pub(crate) fn edge_row(
     r: usize,
     gr: usize,
 )
-    requires ready { Ready layout g (laid layout small.now large.now)
-        (laid layout smallwork.old largework.old) r gr 0 }
+    requires ready { Ready L.layout g (laid L.layout small.now large.now)
+        (laid L.layout smallwork.old largework.old) r gr 0 }
     requires at_edge { AtEdge r gr }
-    ensures { Before layout g (laid layout small.now large.now)
-        (laid layout smallwork.new largework.new) (place_of g r gr 0 + g.size3) }
+    ensures { Before L.layout g (laid L.layout small.now large.now)
+        (laid L.layout smallwork.new largework.new) (place_of g r gr 0 + g.size3) }
 {
     let mut line = ZEROS;
-    let mut b = 0;
-    while b < g.size3 {
-        line = edge_bin(
-            layout, small, large, smallwork, largework, g, r, gr, b, line,
-        );
-        b = b + 1;
+    for b in 0..g.size3 {
+        line = edge_bin::<L>(small, large, smallwork, largework, g, r, gr, b, line);
     }
 }

@@ -6,6 +6,5 @@ mod edge_rows;
 mod inner_rows;
 mod join;
 pub mod moments;
-mod narrow_box;
+mod moments_box;
 pub mod source;
-mod wide_box;

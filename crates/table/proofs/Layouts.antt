@@ -6,8 +6,8 @@ use native.Mathlib.Decide.{ℕ_discrete}
 use Rattle.grid.specs.declared.place.Grid.{Grid}
 use Rattle.grid.specs.Grid.{Accepted, bins_of}
 use Rattle.table.specs.declared.cell.Cell.{Cell}
-use Rattle.table.specs.declared.layout.Layout.{Layout}
-use Rattle.table.specs.declared.layout.Layout.TheVariants.{Wide, Narrow}
+use Rattle.table.specs.Layouts.{Layout}
+use Rattle.table.specs.Layouts.{Wide, Narrow}
 use Rattle.table.specs.Cell.{View, zeros, number_of, cell_of, plus_cell}
 use Rattle.table.specs.Table.{table_len, is_sized, view_of, written}
 use Rattle.table.specs.Narrow.{narrow_view, narrow_written}

@@ -1,5 +1,6 @@
 -- How a total goes on from one run of bins to the next.
 -- Assumes nothing.
+use Rattle.std.specs.Prelude.{None, Option, Some}
 use Rattle.std.proofs.Common.{◌≡◌, ℕ, ◌+◌, ◌-◌, ◌*◌, ◌<◌, ◌≤◌, Bool, true, false, ◌&&◌, leb, sym, refl, ap, ◌∙◌, true≢false, add-zero, add_assoc, add-mul, one-mul, zero-add, arith, le-leb, leb-false, leb-true}
 use borrow.Author.Tests.{lt-leb}
 use Rattle.grid.specs.declared.place.Grid.{Grid}
@@ -9,10 +10,8 @@ use Rattle.grid.specs.Grid.{Accepted, Inside, shift_at, bin_at, bins_of, place_o
 use Rattle.basics.proofs.Range.{sum_append, all_append, all_at, term_le, and_left, and_right, and_false}
 use Rattle.grid.proofs.Places.{place_lt, bin_of_place, place_along}
 use Rattle.table.specs.declared.cell.Cell.{Cell}
-use Rattle.table.specs.declared.sound.SoundTotal.{SoundTotal}
-use Rattle.table.specs.declared.sound.SoundTotal.TheVariants.{Total, Unsound}
 use Rattle.table.specs.Cell.{View, cell_of, number_of}
-use Rattle.table.specs.declared.layout.Layout.{Layout}
+use Rattle.table.specs.Layouts.{Layout}
 use Rattle.table.specs.Layout.{TableIn, CellIn}
 use Rattle.table.specs.Sound.{limit, in_bounds, span_at, bin_sound, total, sound, sound_total, Row}
 use Rattle.table.specs.Spans.{spans_of}
@@ -32,7 +31,7 @@ module _ (most : ℕ) (g : Grid) (v : View) where
     pub is : x ≡ had + weights p n
     pub under : had + weights p n ≤ most
 
-  pub scan_says : (p n had x : ℕ) → scanned most g v p n had ≡ Total x → Scanned p n had x
+  pub scan_says : (p n had x : ℕ) → scanned most g v p n had ≡ Some x → Scanned p n had x
   unfolding scanned
   scan_says p n had x e =
       let b = cond_total (all_from p n (bin_sound g v) && leb (had + weights p n) most) (had + weights p n) x e in
@@ -45,27 +44,27 @@ module _ (most : ℕ) (g : Grid) (v : View) where
       }
 
   pub scan_total : (p n had : ℕ) → all_from p n (bin_sound g v) ≡ true → had + weights p n ≤ most
-      → scanned most g v p n had ≡ Total (had + weights p n)
+      → scanned most g v p n had ≡ Some (had + weights p n)
   unfolding scanned
   scan_total p n had b l = rw (b, le-leb (had + weights p n) most l) refl
 
-  pub scan_none : (p had : ℕ) → had ≤ most → scanned most g v p 0 had ≡ Total had
+  pub scan_none : (p had : ℕ) → had ≤ most → scanned most g v p 0 had ≡ Some had
   unfolding all_from sum_from
-  scan_none p had l = scan_total p 0 had refl (omega arith) ∙ ap Total (add-zero had)
+  scan_none p had l = scan_total p 0 had refl (omega arith) ∙ ap Some (add-zero had)
 
   -- the total passes the limit
-  pub scan_over : (p n had : ℕ) → most < had + weights p n → scanned most g v p n had ≡ Unsound
+  pub scan_over : (p n had : ℕ) → most < had + weights p n → scanned most g v p n had ≡ None
   unfolding scanned
   scan_over p n had l = rw (lt-leb (had + weights p n) most l, and_false (all_from p n (bin_sound g v))) refl
 
   -- a bin breaks its bounds, or its weight alone passes the limit
   pub scan_bad : (p n had q : ℕ) → p ≤ q → q < p + n → (leb (v q 0) most && bin_sound g v q) ≡ false
-      → scanned most g v p n had ≡ Unsound
+      → scanned most g v p n had ≡ None
   unfolding scanned
   scan_bad p n had q a b e = go (leb (v q 0) most) refl (all_from p n (bin_sound g v)) refl e
     where
       go : (w : Bool) → leb (v q 0) most ≡ w → (x : Bool) → all_from p n (bin_sound g v) ≡ x
-          → (w && bin_sound g v q) ≡ false → scanned most g v p n had ≡ Unsound
+          → (w && bin_sound g v q) ≡ false → scanned most g v p n had ≡ None
       go false l x r d =
           scan_over p n had (omega (arith, leb-false (v q 0) most l, term_le p n (λ k. v k 0) q a b))
       go true l true r d = absurd (true≢false (sym (all_at p n (bin_sound g v) r q a b) ∙ d))
@@ -73,7 +72,7 @@ module _ (most : ℕ) (g : Grid) (v : View) where
 
   -- which is so where it passes a larger one
   pub scan_worse : {larger : ℕ} → most ≤ larger → (p n had q : ℕ) → p ≤ q → q < p + n
-      → (leb (v q 0) larger && bin_sound g v q) ≡ false → scanned most g v p n had ≡ Unsound
+      → (leb (v q 0) larger && bin_sound g v q) ≡ false → scanned most g v p n had ≡ None
   scan_worse {larger} h p n had q a b e = scan_bad p n had q a b (go (leb (v q 0) larger) refl e)
     where
       go : (w : Bool) → leb (v q 0) larger ≡ w → (w && bin_sound g v q) ≡ false
@@ -82,7 +81,7 @@ module _ (most : ℕ) (g : Grid) (v : View) where
       go true l d = rw (d, and_false (leb (v q 0) most)) refl
 
   -- from a run of bins to the next
-  pub scan_more : (p n m had x : ℕ) → scanned most g v p n had ≡ Total x
+  pub scan_more : (p n m had x : ℕ) → scanned most g v p n had ≡ Some x
       → scanned most g v p (n + m) had ≡ scanned most g v (p + n) m x
   unfolding scanned
   scan_more p n m had x e =
@@ -95,20 +94,20 @@ module _ (most : ℕ) (g : Grid) (v : View) where
         ← add_assoc had (weights p n) (weights (p + n) m),
       ) refl
 
-  pub scan_stop : (p n m had : ℕ) → scanned most g v p n had ≡ Unsound → scanned most g v p (n + m) had ≡ Unsound
+  pub scan_stop : (p n m had : ℕ) → scanned most g v p n had ≡ None → scanned most g v p (n + m) had ≡ None
   unfolding scanned
   scan_stop p n m had e =
       go (all_from p n (bin_sound g v)) refl
       (cond_unsound (all_from p n (bin_sound g v) && leb (had + weights p n) most) (had + weights p n) e)
     where
       go : (x : Bool) → all_from p n (bin_sound g v) ≡ x → (x && leb (had + weights p n) most) ≡ false
-          → scanned most g v p (n + m) had ≡ Unsound
+          → scanned most g v p (n + m) had ≡ None
       go true r l =
           scan_over p (n + m) had (omega (arith, leb-false (had + weights p n) most l, sum_append p n m (λ q. v q 0)))
       go false r l = rw (all_append p n m (bin_sound g v), r) refl
 
   -- block after block of bins, each of one size: rows of a plane, planes of a table
-  pub block_more : (p size k had x : ℕ) (w : SoundTotal) → scanned most g v p (k * size) had ≡ Total x → {q : ℕ}
+  pub block_more : (p size k had x : ℕ) (w : Option ℕ) → scanned most g v p (k * size) had ≡ Some x → {q : ℕ}
       → q ≡ p + k * size → w ≡ scanned most g v q size x → scanned most g v p ((k + 1) * size) had ≡ w
   block_more p size k had x w e {q} at r =
       ap (λ (n : ℕ). scanned most g v p n had) (add-mul k 1 size ∙ ap (λ (n : ℕ). k * size + n) (one-mul size))
@@ -116,8 +115,8 @@ module _ (most : ℕ) (g : Grid) (v : View) where
       ∙ ap (λ (n : ℕ). scanned most g v n size x) (sym at)
       ∙ sym r
 
-  pub block_stop : (p size k count had : ℕ) → k < count → scanned most g v p ((k + 1) * size) had ≡ Unsound
-      → scanned most g v p (count * size) had ≡ Unsound
+  pub block_stop : (p size k count had : ℕ) → k < count → scanned most g v p ((k + 1) * size) had ≡ None
+      → scanned most g v p (count * size) had ≡ None
   block_stop p size k count had h e =
       ap (λ (n : ℕ). scanned most g v p n had)
       (ap (λ (n : ℕ). n * size) (rest k count h) ∙ add-mul (k + 1) (count - (k + 1)) size)
@@ -126,7 +125,7 @@ module _ (most : ℕ) (g : Grid) (v : View) where
       rest : (k count : ℕ) → k < count → count ≡ (k + 1) + (count - (k + 1))
       rest k count h = omega arith
 
-  pub scan_under : (p n had x : ℕ) → scanned most g v p n had ≡ Total x → x ≤ most
+  pub scan_under : (p n had x : ℕ) → scanned most g v p n had ≡ Some x → x ≤ most
   scan_under p n had x e = let s = scan_says p n had x e in omega (arith, s.is, s.under)
 
   -- a table is sound_total by all of its bins

@@ -14,8 +14,8 @@ use Rattle.basics.proofs.Range.{all_same}
 use Rattle.grid.proofs.Size.{in_size, span_byte}
 use Rattle.grid.proofs.Places.{sized_at, bin_at_below}
 use Rattle.table.specs.declared.cell.Cell.{Cell}
-use Rattle.table.specs.declared.layout.Layout.{Layout}
-use Rattle.table.specs.declared.layout.Layout.TheVariants.{Wide, Narrow}
+use Rattle.table.specs.Layouts.{Layout}
+use Rattle.table.specs.Layouts.{Wide, Narrow}
 use Rattle.table.specs.Cell.{View, zeros, number_of}
 use Rattle.table.specs.Table.{Held}
 use Rattle.table.specs.Sound.{limit, limit_of, between, squared_span, plus_span, squares_span}

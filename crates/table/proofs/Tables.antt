@@ -5,8 +5,8 @@ use Rattle.std.proofs.Common.{◌≡◌, ℕ, zero, suc, ◌+◌, ◌*◌, ◌/�
 use lib.ListN.{length-replicate, get_or-replicate}
 use Rattle.basics.proofs.Range.{length_list, list_at, list_is}
 use Rattle.table.specs.declared.cell.Cell.{Cell}
-use Rattle.table.specs.declared.layout.Layout.{Layout}
-use Rattle.table.specs.declared.layout.Layout.TheVariants.{Wide}
+use Rattle.table.specs.Layouts.{Layout}
+use Rattle.table.specs.Layouts.{Wide}
 use Rattle.table.specs.Cell.{View, zeros, number_of}
 use Rattle.table.specs.Layout.{TableIn, SizedIn, view_in}
 use Rattle.table.specs.Table.{Table, table_len, Sized, is_sized, view_of, written, empty_of, put_at, HasCell}

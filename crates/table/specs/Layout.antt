@@ -4,8 +4,8 @@ use Rattle.std.specs.Prelude.{ℕ, Bool, List, length, ◌==◌}
 use Rattle.grid.specs.declared.place.Grid.{Grid}
 use Rattle.grid.specs.Grid.{Accepted, bins_of}
 use Rattle.table.specs.declared.cell.Cell.{Cell}
-use Rattle.table.specs.declared.layout.Layout.{Layout}
-use Rattle.table.specs.declared.layout.Layout.TheVariants.{Wide, Narrow}
+use Rattle.table.specs.Layouts.{Layout}
+use Rattle.table.specs.Layouts.{Wide, Narrow}
 use Rattle.table.specs.Cell.{View}
 use Rattle.table.specs.Table.{Table, table_len, Sized, is_sized, view_of, written, empty_of, put_at, HasCell, Held}
 use Rattle.table.specs.Narrow.{NarrowTable, narrow_table, NarrowSized, narrow_fit, narrow_view, narrow_written}

@@ -1,4 +1,5 @@
 -- Sound tables (Rules, Sound), over a view and for any limit of the total. Definitions only.
+use Rattle.std.specs.Prelude.{None, Option, Some}
 use Rattle.std.specs.Prelude.{ℕ, ◌+◌, ◌*◌, ◌≤◌, Bool, cond, ◌&&◌, [], ◌∷◌, nat_le}
 use Rattle.grid.specs.declared.place.Grid.{Grid}
 use Rattle.grid.specs.declared.dimension.Span.{Span}
@@ -6,11 +7,9 @@ use Rattle.basics.specs.Answer.{Answer}
 use Rattle.basics.specs.Range.{sum_from, all_from}
 use Rattle.grid.specs.Size.{span_of}
 use Rattle.grid.specs.Grid.{Inside, shift_at, bin_at, bins_of}
-use Rattle.table.specs.declared.sound.SoundTotal.{SoundTotal}
-use Rattle.table.specs.declared.sound.SoundTotal.TheVariants.{Total, Unsound}
 use Rattle.table.specs.Cell.{View}
-use Rattle.table.specs.declared.layout.Layout.{Layout}
-use Rattle.table.specs.declared.layout.Layout.TheVariants.{Wide, Narrow}
+use Rattle.table.specs.Layouts.{Layout}
+use Rattle.table.specs.Layouts.{Wide, Narrow}
 use Rattle.table.specs.Layout.{TableIn, TableOfIn}
 
 -- the largest total of a table in the wide layout
@@ -21,6 +20,11 @@ limit = 4294967295
 abbrev pub limit_of : Layout → ℕ
 limit_of Wide = limit
 limit_of Narrow = 16843008
+
+-- the answer beyond a layout's limit: "refused with 15, in the place of 7"
+abbrev pub passed_number : Layout → ℕ
+passed_number Wide = 7
+passed_number Narrow = 15
 
 -- the sum of n values of one bin "lies between n·low and n·high"
 unfoldable pub between : Span → ℕ → ℕ → Bool
@@ -60,17 +64,17 @@ unfoldable pub sound : ℕ → Grid → View → Bool
 sound most g v = all_from 0 (bins_of g) (bin_sound g v) && nat_le (total g v) most
 
 -- the total of a sound table, or that it is not sound
-unfoldable pub sound_total : ℕ → Grid → View → SoundTotal
-sound_total most g v = cond (sound most g v) (Total (total g v)) Unsound
+unfoldable pub sound_total : ℕ → Grid → View → Option ℕ
+sound_total most g v = cond (sound most g v) (Some (total g v)) None
 
 -- the answer and the values of each case; open, so that a call's chain of answers reads through it
-abbrev pub sound_answer : SoundTotal → Answer
-sound_answer (Total n) = record { number = 0; values = n ∷ [] }
-sound_answer Unsound = record { number = 6; values = [] }
+abbrev pub sound_answer : Option ℕ → Answer
+sound_answer (Some n) = record { number = 0; values = n ∷ [] }
+sound_answer None = record { number = 6; values = [] }
 
 -- the answer that every call gives for a table that is not sound
 abbrev pub unsound_number : ℕ
-unsound_number = (sound_answer Unsound).number
+unsound_number = (sound_answer None).number
 
 -- ---- what is asked of who tests a bin, row by row
 -- a row of bins in a table of a grid, with a total that is not past its layout's limit

@@ -3,7 +3,7 @@ ghost use Rattle.std.specs.Prelude.{◌≡◌};
 ghost use Rattle.table.specs.Cell.{plus_cell, minus_cell, SumsFit, AtLeast};
 
 // The five numbers of a bin: weight, component sums, squares.
-#[derive(Clone, Copy)]
+#[derive(Clone, Copy, PartialEq, Eq)]
 pub struct Cell {
     pub weight: u64,
     pub sum1: u64,

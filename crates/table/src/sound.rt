@@ -2,16 +2,15 @@
 ghost use Rattle.std.specs.Prelude.{◌≡◌, ◌*◌, ◌≤◌, ◌&&◌, nat_le};
 ghost use Rattle.grid.specs.Grid.{place_of, Inside};
 ghost use Rattle.table.specs.Cell.{number_of};
-ghost use Rattle.table.specs.Table.{view_of};
-ghost use Rattle.table.specs.Layout.{laid, laid_view, TableOfIn, TableOf};
+ghost use Rattle.table.specs.Layout.{laid, laid_view, TableOfIn};
 ghost use Rattle.table.specs.Sound.{limit, limit_of, between, in_bounds, sound_total, Row, SpanBelow};
-ghost use Rattle.table.specs.Spans.{told_span, spans_of, row_spans, SpanTable};
+ghost use Rattle.table.specs.Spans.{told_span, spans_of, row_spans};
 ghost use Rattle.table.specs.Inner.{scanned};
 
 use crate::cell::Cell;
 use crate::layout::Layout;
 use crate::rows::row_total;
-use crate::spans::{RowSpans, fill_spans};
+use crate::spans::{RowSpans, Spans};
 use grid::place::Grid;
 use std::num::wrapping_sub_u64;
 
@@ -20,23 +19,6 @@ pub const LIMIT: u64 = 4294967295;
 
 // And in the narrow one.
 pub const NARROW_LIMIT: u64 = 16843008;
-
-// The largest total in a layout.
-pub fn limit_of(layout: Layout) -> u64
-    ensures { result ≡ limit_of layout }
-{
-    match layout {
-        Layout::Wide => LIMIT,
-        Layout::Narrow => NARROW_LIMIT,
-    }
-}
-
-// The total of a sound table, or that it is not sound.
-#[derive(Clone, Copy)]
-pub enum SoundTotal {
-    Total(u64),
-    Unsound,
-}
 
 // Whether the sum of n values lies in its bounds, by the span of the values. A sum below n·low wraps to more than any
 // difference of the bounds, so that one comparison does for both. Up to the narrow limit one multiplication gives both
@@ -69,20 +51,11 @@ fn is_bare(c: Cell) -> bool
 }
 
 // Whether a bin keeps its own bounds, with a weight that is not past the limit by itself: by the spans of its row and
-// those of the third dimension. The contract alone names the grid and the bin's row.
-pub fn keeps_bounds(
-    g: Grid,
-    row: RowSpans,
-    spans: &[u64; 256],
-    r: usize,
-    gr: usize,
-    b: usize,
-    c: Cell,
-) -> bool
-    requires inside { Inside g r gr b }
-    requires row { row ≡ row_spans g r gr }
-    requires spans { SpanTable g spans.now }
-    ensures { result ≡ (nat_le c.weight limit && in_bounds (spans_of g r gr b) (number_of c)) }
+// those of the third dimension. The contract alone names the bin's row.
+pub fn keeps_bounds(spans: &Spans, row: RowSpans, r: usize, gr: usize, b: usize, c: Cell) -> bool
+    requires inside { Inside spans.now.g r gr b }
+    requires row { row ≡ row_spans spans.now.g r gr }
+    ensures { result ≡ (nat_le c.weight limit && in_bounds (spans_of spans.now.g r gr b) (number_of c)) }
 {
     let n = c.weight;
     if n == 0 {
@@ -98,65 +71,42 @@ pub fn keeps_bounds(
         return false;
     }
     let at = 2 * b;
-    if !lies_between(spans[at], n, c.sum3) {
+    if !lies_between(spans.third[at], n, c.sum3) {
         return false;
     }
-    lies_far_between(row.squares + spans[at + 1], n, c.squares)
+    lies_far_between(row.squares + spans.third[at + 1], n, c.squares)
 }
 
 // The total with one plane of rows.
-fn plane_total(
-    layout: Layout,
+fn plane_total<L: Layout>(
     small: &[u32],
     large: &[u64],
-    g: Grid,
-    spans: &[u64; 256],
+    spans: &Spans,
     r: usize,
     had: u64,
-) -> SoundTotal
-    requires row { Row layout g (laid layout small.now large.now) r 0 had }
-    requires spans { SpanTable g spans.now }
+) -> Option<u64>
+    requires { Row L.layout spans.now.g (laid L.layout small.now large.now) r 0 had }
     ensures { result
-        ≡ scanned (limit_of layout) g (laid_view layout small.now large.now)
-        (place_of g r 0 0) (g.size2 * g.size3) had }
+        ≡ scanned (limit_of L.layout) spans.now.g (laid_view L.layout small.now large.now)
+        (place_of spans.now.g r 0 0) (spans.now.g.size2 * spans.now.g.size3) had }
 {
     let mut total = had;
-    let mut gr = 0;
-    while gr < g.size2 {
-        match row_total(layout, small, large, g, spans, r, gr, total) {
-            SoundTotal::Total(x) => total = x,
-            SoundTotal::Unsound => return SoundTotal::Unsound,
-        }
-        gr = gr + 1;
+    for gr in 0..spans.g.size2 {
+        total = row_total::<L>(small, large, spans, r, gr, total)?;
     }
-    SoundTotal::Total(total)
+    Some(total)
 }
 
-// The total of a sound table, or that it is not sound, in either layout.
-pub fn total_in(layout: Layout, small: &[u32], large: &[u64], g: Grid) -> SoundTotal
-    requires { TableOfIn layout g (laid layout small.now large.now) }
+// The total of a sound table, or that it is not sound.
+pub fn sound_total<L: Layout>(small: &[u32], large: &[u64], g: Grid) -> Option<u64>
+    requires { TableOfIn L.layout g (laid L.layout small.now large.now) }
     ensures { result
-        ≡ sound_total (limit_of layout) g (laid_view layout small.now large.now) }
+        ≡ sound_total (limit_of L.layout) g (laid_view L.layout small.now large.now) }
 {
-    let mut spans = [0u64; 256];
-    fill_spans(&mut spans, g);
+    let spans = Spans::of(g);
     let mut total = 0;
-    let mut r = 0;
-    while r < g.size1 {
-        match plane_total(layout, small, large, g, &spans, r, total) {
-            SoundTotal::Total(x) => total = x,
-            SoundTotal::Unsound => return SoundTotal::Unsound,
-        }
-        r = r + 1;
+    for r in 0..g.size1 {
+        total = plane_total::<L>(small, large, &spans, r, total)?;
     }
-    SoundTotal::Total(total)
-}
-
-// The same in the wide layout.
-pub fn sound_total(table: &[u64], g: Grid) -> SoundTotal
-    requires { TableOf g table.now }
-    ensures { result ≡ sound_total limit g (view_of table.now) }
-{
-    let none = [0u32; 0];
-    total_in(Layout::Wide, &none, table, g)
+    Some(total)
 }

@@ -2,7 +2,7 @@
 -- Assumes nothing.
 use mathlib.Core.Path.{◌≡◌, refl, sym, ap, ◌∙◌}
 use mathlib.Core.Bool.{Bool, true, false, cond}
-use Prim.Native.Nat.{ℕ, zero, suc, ◌+◌, ◌*◌, ◌-◌, ◌≤◌, ◌<◌}
+use Prim.Native.Nat.{min, ℕ, zero, suc, ◌+◌, ◌*◌, ◌-◌, ◌≤◌, ◌<◌}
 use native.Mathlib.Nat.{lt_of_not-le}
 use native.Mathlib.Omega.{arith}
 use native.Mathlib.Decide.{dec_le}
@@ -109,3 +109,14 @@ module _ (i : ℕ) (f : ℕ → ℕ) where
         let was = p ∙ ap (λ (m : ℕ). key_of (least_from i m f)) back in
         let is = lowest_is n in
         was ∙ ap key_of (sym (ap (λ (m : ℕ). least_from i m f) on ∙ same n (omega (arith, is.to, is.from, was, q, r))))
+
+    -- as the smaller of the two
+    pub key_more : (k l x new : ℕ) → 1 ≤ k → k < 240 → l ≡ key_of (least_from i (k - 1) f) → x ≡ key_of (i + k)
+        → new ≡ min l x → new ≡ key_of (least_from i (k + 1 - 1) f)
+    key_more k l x new h j p q is = go (dec_le l x)
+      where
+        go : Dec (l ≤ x) → new ≡ key_of (least_from i (k + 1 - 1) f)
+        go (yes r) = let e : new ≡ l = omega arith in e ∙ key_same k l x h j p q r
+        go (no r) =
+            let less = lt_of_not-le r in
+            let e : new ≡ x = omega arith in e ∙ key_next k l x h j p q less

@@ -1,4 +1,4 @@
-// The table of the colours, and its three planes: the reds, the greens and the blues, each in a row.
+// The table of the colours, and its planes: the reds, the greens or the blues in a row.
 ghost use Rattle.std.specs.Prelude.{◌≡◌, ◌<◌};
 ghost use Rattle.terminal.specs.Colours.{fixed_table};
 ghost use Rattle.terminal.specs.Inner.{plane_of};
@@ -18,10 +18,8 @@ pub(crate) fn plane(table: &[u8; 720], d: usize) -> [u8; 240]
     ensures { result ≡ plane_of d }
 {
     let mut out = [0; 240];
-    let mut k = 0;
-    while k < 240 {
+    for k in 0..240 {
         out[k] = table[3 * k + d];
-        k = k + 1;
     }
     out
 }

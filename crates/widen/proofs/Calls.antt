@@ -1,14 +1,14 @@
 -- How a widening ends: which answer it gives and what it leaves, case by case.
 -- Assumes nothing.
+use Rattle.std.specs.Prelude.{None, Some}
 use mathlib.Core.Path.{◌≡◌, refl}
 use mathlib.Core.Bool.{true, false}
 use Prim.Native.Nat.{ℕ}
 use Rattle.grid.specs.declared.place.Grid.{Grid}
-use Rattle.grid.specs.declared.place.Chosen.TheVariants as chosen
 use Rattle.basics.specs.Answer.{refuse, when_done}
 use Rattle.grid.specs.Grid.{grid_of, bins_of}
 use Rattle.grid.proofs.Ends.{grid_refused, ends}
-use Rattle.table.specs.declared.layout.Layout.TheVariants.{Narrow}
+use Rattle.table.specs.Layouts.{Narrow}
 use Rattle.table.specs.Table.{Table, Sized}
 use Rattle.table.specs.Narrow.{NarrowTable, narrow_view}
 use Rattle.table.specs.Layout.{SizedIn, is_sized_in}
@@ -25,11 +25,11 @@ module _ (b1 b2 b3 : ℕ) (t : NarrowTable) (old : Table) where
   abbrev pub widen_after : Grid → Table
   widen_after g = widened (bins_of g) t
 
-  pub no_grid_lem : grid_of b1 b2 b3 ≡ chosen.Refused → Ends 1 old
+  pub no_grid_lem : grid_of b1 b2 b3 ≡ None → Ends 1 old
   unfolding widen_number widen_later
   no_grid_lem e = grid_refused (grid_of b1 b2 b3) (widen_on t old) widen_after old e
 
-  module _ {g : Grid} (e : grid_of b1 b2 b3 ≡ chosen.Accepted g) where
+  module _ {g : Grid} (e : grid_of b1 b2 b3 ≡ Some g) where
     ends_with : {n : ℕ} → widen_on t old g ≡ n → {u : Table} → u ≡ when_done n (widen_after g) old → Ends n u
     unfolding widen_number widen_later
     ends_with q r = ends (grid_of b1 b2 b3) (widen_on t old) widen_after old e q r

@@ -1,18 +1,18 @@
 -- What a caller of widen may use without seeing inside its definitions: the widened table holds what the narrow one
 -- does, and what its answer tells.
 -- Assumes nothing.
+use Rattle.std.specs.Prelude.{Some}
 use mathlib.Core.Path.{◌≡◌, refl, sym}
 use mathlib.Core.Bool.{Bool, true, not, ◌&&◌}
 use Prim.Native.Nat.{ℕ, suc}
 use borrow.Author.Tests.{not-false}
 use Rattle.grid.specs.declared.place.Grid.{Grid}
-use Rattle.grid.specs.declared.place.Chosen.TheVariants as chosen
 use Rattle.basics.specs.Answer.{refuse}
 use Rattle.grid.specs.Grid.{grid_of, on_grid, number_on, bins_of}
 use Rattle.basics.proofs.Ends.{passed}
 use Rattle.basics.proofs.Range.{and_left, and_right}
 use Rattle.grid.proofs.Ends.{call_refused, call_done}
-use Rattle.table.specs.declared.layout.Layout.TheVariants.{Narrow}
+use Rattle.table.specs.Layouts.{Narrow}
 use Rattle.table.specs.Cell.{View}
 use Rattle.table.specs.Table.{Table, Sized, is_sized}
 use Rattle.table.specs.Narrow.{NarrowTable, narrow_view}
@@ -41,7 +41,7 @@ module _ (b1 b2 b3 : ℕ) (t : NarrowTable) (old : Table) where
   widen_refused e = call_refused (grid_of b1 b2 b3) (widen_on t old) (widen_after b1 b2 b3 t old) old e
 
   -- its tests on an accepted grid, in their order
-  pub widen_tests_lem : {g : Grid} → grid_of b1 b2 b3 ≡ chosen.Accepted g → widen_number b1 b2 b3 t old
+  pub widen_tests_lem : {g : Grid} → grid_of b1 b2 b3 ≡ Some g → widen_number b1 b2 b3 t old
       ≡ refuse (not (is_sized_in Narrow t (bins_of g) && is_sized old (bins_of g))) 5
       (refuse (not (sound (limit_of Narrow) g (narrow_view t))) 6 0)
   unfolding widen_number widen_on widen_number_on number_on on_grid
@@ -50,7 +50,7 @@ module _ (b1 b2 b3 : ℕ) (t : NarrowTable) (old : Table) where
   -- what a widening that is done tells
   pub record WidenDone : Type 0 where
     pub g : Grid
-    pub chosen : grid_of b1 b2 b3 ≡ chosen.Accepted g
+    pub chosen : grid_of b1 b2 b3 ≡ Some g
     pub lent : SizedIn Narrow t (bins_of g)
     pub list : Sized old (bins_of g)
     pub sound_before : Sound (limit_of Narrow) g (narrow_view t)
@@ -74,6 +74,6 @@ module _ (b1 b2 b3 : ℕ) (t : NarrowTable) (old : Table) where
       }
 
   -- and the other way round: "where none applies, the answer is 0"
-  pub widen_accepts : {g : Grid} → grid_of b1 b2 b3 ≡ chosen.Accepted g → SizedIn Narrow t (bins_of g)
+  pub widen_accepts : {g : Grid} → grid_of b1 b2 b3 ≡ Some g → SizedIn Narrow t (bins_of g)
       → Sized old (bins_of g) → sound (limit_of Narrow) g (narrow_view t) ≡ true → widen_number b1 b2 b3 t old ≡ 0
   widen_accepts e lent list is_sound = sym (all_done b1 b2 b3 t old e lent list is_sound refl).0

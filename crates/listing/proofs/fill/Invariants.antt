@@ -2,9 +2,10 @@
 use Rattle.std.proofs.Common.{◌≡◌, length, take, ◌-◌, ◌≤◌}
 use Rattle.listing.proofs.fill.Given as goal
 
-abbrev pub invariant-loop-n : goal.invariant-loop-n
-invariant-loop-n l =
-    (l.there ≤ l.n) × (l.n ≤ length l.space) × (take l.there l.space ≡ take l.there l.initial.space)
+abbrev pub invariant-loop-filled : goal.invariant-loop-filled
+invariant-loop-filled l =
+    (l.initial.filled ≤ l.filled) × (l.filled ≤ length l.space)
+    × (take l.initial.filled l.space ≡ take l.initial.filled l.initial.space)
 
-abbrev pub decreases-loop-n : goal.decreases-loop-n
-decreases-loop-n l = length l.initial.space - l.n
+abbrev pub decreases-loop-filled : goal.decreases-loop-filled
+decreases-loop-filled l = length l.initial.space - l.filled

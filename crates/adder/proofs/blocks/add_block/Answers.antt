@@ -1,54 +1,69 @@
--- `adder::blocks::add_block` meets its contract: by the layout.
+-- `adder::blocks::add_block` meets its contract: 64 equal colours are added at once, others by `add_each`.
 -- Assumes nothing.
-use borrow.Author.Rules.{rules}
-use Rattle.adder.proofs.ByLayout.{part_fits_as, part_as}
+use Rattle.std.proofs.Common.{◌≡◌, sym, ◌∙◌, ℕ, ◌<◌, ◌+◌, get_or, arith}
+use Rattle.pixels.specs.Colour.{colour_at}
+use Rattle.pixels.proofs.EqualColours.{one_colour}
+use Rattle.table.proofs.Layouts.{holds_list_in}
+use Rattle.table.proofs.Soundness.{limit_high}
+use Rattle.adder.specs.Inner.{with_part}
+use Rattle.adder.proofs.Parts.{light, has_room_lem, at_once}
+use Rattle.adder.proofs.blocks.add_block.Given.{Over}
+use Rattle.adder.proofs.blocks.add_block.Goals.{Then-equal_colours}
 use Rattle.adder.proofs.blocks.add_block.Goals as goal
 
-pub enum_told-1 : goal.enum_told-1
-enum_told-1 c = search rules
+-- each colour is of bytes, and all 64 are the first
+bytes : (g : Over) (k : Then-equal_colours g) (i : ℕ) → get_or k.args.colours.now i 0 < 256
+bytes g k i = omega (arith, k.type_inv.colours i)
 
-pub wide_block-requires : goal.wide_block-requires
-wide_block-requires c =
-    let s = c in
-    let a = s.args in record {
-      fits = part_fits_as c.in-Wide.is a.small.now a.large.now a.g a.scale
-          a.colours.now a.weighted a.weights.now a.at 64 s.requires.fits;
-      whole = s.requires.whole;
-      steps = s.requires.steps;
+same : (g : Over) (k : Then-equal_colours g) (i : ℕ) → i < 64
+    → colour_at k.args.colours.now (k.args.at + i) ≡ colour_at k.args.colours.now k.args.at
+same g k i h =
+    one_colour k.args.colours.now k.args.at (sym k.equal_colours.ensures ∙ k.if-equal_colours.true) i (omega arith)
+
+pub equal_colours-requires : goal.equal_colours-requires
+equal_colours-requires g c = c.requires.whole
+
+pub block_weight-w-requires : goal.block_weight-w-requires
+block_weight-w-requires g c =
+    let fits = c.requires.fits in
+    (omega arith, fits.scaled.few, λ given. omega (arith, fits.there, fits.one_each given))
+
+pub colour-requires : goal.colour-requires
+colour-requires g c = omega (arith, c.requires.whole)
+
+pub add_colour-requires : goal.add_colour-requires
+add_colour-requires g c =
+    let k = (goal.at-add_colour-requires g c).Then-equal_colours in
+    let fits = k.requires.fits in record {
+      weight = omega (
+        arith,
+        light fits (bytes g k) (same g k) c.colour.ensures c.block_weight-w.ensures,
+        limit_high g.L.Layout.layout,
+      );
+      fits = has_room_lem fits (bytes g k) (same g k) c.colour.ensures c.block_weight-w.ensures;
     }
 
-pub enum_told-in-Narrow : goal.enum_told-in-Narrow
-enum_told-in-Narrow c = search rules
+pub returns-then-equal_colours : goal.returns-then-equal_colours
+unfolding with_part
+returns-then-equal_colours g c =
+    let k = (goal.at-returns-then-equal_colours g c).Then-equal_colours in
+    holds_list_in g.L.Layout.layout
+    (at_once k.requires.fits (bytes g k) (same g k) c.colour.ensures c.block_weight-w.ensures _ c.add_colour.ensures)
 
-pub narrow_block-requires : goal.narrow_block-requires
-narrow_block-requires c =
-    let s = c in
-    let a = s.args in record {
-      fits = part_fits_as c.in-Narrow.is a.small.now a.large.now a.g a.scale
-          a.colours.now a.weighted a.weights.now a.at 64 s.requires.fits;
-      whole = s.requires.whole;
-      steps = s.requires.steps;
-    }
+pub add_each-requires : goal.add_each-requires
+add_each-requires g c = c.requires.fits
 
-pub shape_of-large-in-Wide : goal.shape_of-large-in-Wide
-shape_of-large-in-Wide c = search rules
+pub returns-then-scale-ne1 : goal.returns-then-scale-ne1
+returns-then-scale-ne1 g c = c.add_each.ensures
 
-pub returns-in-Wide : goal.returns-in-Wide
-returns-in-Wide c =
-    let w = c in
-    let a = w.args in
-    part_as w.in-Wide.is a.small.now a.large.now a.g a.scale
-    a.colours.now a.weighted a.weights.now a.at 64 _ _ w.wide_block.ensures
+pub add_each-requires-in-Some : goal.add_each-requires-in-Some
+add_each-requires-in-Some g c = rw (c.if-scale-ne1.false, c.in-Some.is) at c.requires.fits
 
-pub shape_of-small : goal.shape_of-small
-shape_of-small c = search rules
+pub returns-in-Some : goal.returns-in-Some
+returns-in-Some g c = rw (c.if-scale-ne1.false, c.in-Some.is) c.add_each-in-Some.ensures
 
-pub shape_of-large-in-Narrow : goal.shape_of-large-in-Narrow
-shape_of-large-in-Narrow c = search rules
+pub add_each-requires-in-None : goal.add_each-requires-in-None
+add_each-requires-in-None g c = rw (c.if-scale-ne1.false, c.in-None.is) at c.requires.fits
 
-pub returns-in-Narrow : goal.returns-in-Narrow
-returns-in-Narrow c =
-    let w = c in
-    let a = w.args in
-    part_as w.in-Narrow.is a.small.now a.large.now a.g a.scale
-    a.colours.now a.weighted a.weights.now a.at 64 _ _ w.narrow_block.ensures
+pub returns-in-None : goal.returns-in-None
+returns-in-None g c = rw (c.if-scale-ne1.false, c.in-None.is) c.add_each-in-None.ensures

@@ -1,97 +1,66 @@
--- `adder::blocks::add_blocks` meets its contract: after i colours the table holds what it held with the first i
--- loaded.
+-- `adder::blocks::add_blocks` meets its contract: after i colours the table holds what it held with the first i loaded.
 -- Assumes nothing.
-use mathlib.Core.Path.{◌≡◌, refl}
-use Prim.Native.Nat.{ℕ, ◌-◌, ◌<◌, ◌+◌}
-use native.Mathlib.Omega.{arith}
-use borrow.Author.Rules.{rules}
-use lib.ListN.{get_or}
+use Rattle.std.proofs.Common.{◌≡◌, ℕ, ◌-◌, ◌<◌, ◌+◌, get_or, is_some, arith}
 use Rattle.table.specs.Layout.{laid}
 use Rattle.table.proofs.Layouts.{holds_list_in}
+use Rattle.adder.specs.Add.{given}
 use Rattle.adder.specs.Inner.{with_part}
 use Rattle.adder.proofs.Parts.{held_none, fits_later, held_later, part_held}
+use Rattle.adder.proofs.blocks.add_blocks.Given.{Over}
 use Rattle.adder.proofs.blocks.add_blocks.Goals.{At-loop-i}
 use Rattle.adder.proofs.blocks.add_blocks.Goals as goal
 
 -- each colour is of bytes
-bytes : (l : At-loop-i) (k : ℕ)
-    → get_or l.args.colours.now k 0 < 256
-bytes l k = omega (arith, l.shared_slice_known-1.given k)
+bytes : (g : Over) (k : At-loop-i g) (i : ℕ) → get_or k.args.colours.now i 0 < 256
+bytes g k i = omega (arith, k.type_inv.colours i)
 
 pub loop-i-init : goal.loop-i-init
-loop-i-init c =
-    let s = c in
-    let a = s.args in (
+loop-i-init g c =
+    let a = c.args in
+    let l = g.L.Layout.layout in (
       omega arith,
-      refl,
-      refl,
-      held_none a.layout a.g (laid a.layout a.small.now a.large.now) a.scale a.colours.now
-          a.weighted a.weights.now 0 s.requires.fits.table.lent,
+      held_none l a.steps.now.g (laid l a.small.now a.large.now) a.scale a.colours.now (is_some a.weights)
+          (given a.weights) 0 c.requires.table.lent,
     )
-
-pub overflow_sub-n : goal.overflow_sub-n
-overflow_sub-n c = omega arith
 
 pub add_block-requires : goal.add_block-requires
-add_block-requires c =
-    let l = c.loop-i in
-    let s = c in record {
-      fits = fits_later s.requires.fits (bytes (goal.at-add_block-requires c).At-loop-i) l.i l.invariant.3 l.i 64 (omega arith)
-          (omega arith);
-      whole = omega (arith, s.requires.fits.there);
-      steps = s.requires.steps;
+add_block-requires g c =
+    let k = (goal.at-add_block-requires g c).At-loop-i in
+    let i = k.loop-i.i in record {
+      fits = fits_later k.requires (bytes g k) i k.loop-i.invariant.1 i 64 (omega arith) (omega arith);
+      whole = omega (arith, k.requires.there);
     }
-
-pub overflow_add-i : goal.overflow_add-i
-overflow_add-i c = omega arith
-
-pub loop-i-smaller : goal.loop-i-smaller
-loop-i-smaller c = omega arith
 
 pub loop-i-preserved : goal.loop-i-preserved
-loop-i-preserved c =
-    let k = (goal.at-loop-i-preserved c).At-loop-i in
-    let l = k.loop-i in
-    let s = k in
-    let a = s.args in (
-      omega (arith, l.invariant.0, c.loop-i-test.true),
-      (search rules),
-      (search rules),
-      held_later s.requires.fits (bytes k) l.i l.invariant.3 l.i 64 (omega arith)
-          (part_held a.layout a.g (laid a.layout l.small l.large) a.scale a.colours.now
-          a.weighted a.weights.now l.i 64 _ c.add_block.ensures),
+loop-i-preserved g c =
+    let k = (goal.at-loop-i-preserved g c).At-loop-i in
+    let a = k.args in
+    let l = g.L.Layout.layout in
+    let i = k.loop-i.i in (
+      omega arith,
+      held_later k.requires (bytes g k) i k.loop-i.invariant.1 i 64 (omega arith)
+          (part_held l a.steps.now.g (laid l k.loop-i.small k.loop-i.large) a.scale a.colours.now (is_some a.weights)
+          (given a.weights) i 64 _ c.add_block.ensures),
     )
 
-pub overflow_sub-n-2 : goal.overflow_sub-n-2
-overflow_sub-n-2 c = omega arith
-
 pub add_last-requires : goal.add_last-requires
-add_last-requires c =
-    let l = c.loop-i in
-    let s = c in record {
-      fits = fits_later s.requires.fits (bytes (goal.at-add_last-requires c).At-loop-i) l.i l.invariant.3 l.i (s.args.n - l.i)
-          (omega arith)
-          (omega arith);
+add_last-requires g c =
+    let k = (goal.at-add_last-requires g c).At-loop-i in
+    let i = k.loop-i.i in record {
+      fits = fits_later k.requires (bytes g k) i k.loop-i.invariant.1 i (k.args.n - i) (omega arith) (omega arith);
       few = omega arith;
-      steps = s.requires.steps;
     }
-
-pub shape_of-small : goal.shape_of-small
-shape_of-small c = (search rules)
-
-pub shape_of-large : goal.shape_of-large
-shape_of-large c = (search rules)
 
 pub returns : goal.returns
 unfolding with_part
-returns c =
-    let k = (goal.at-returns c).At-loop-i in
-    let l = k.loop-i in
-    let s = k in
-    let a = s.args in
-    let all : l.i + (a.n - l.i) ≡ a.n = omega arith in
-    holds_list_in a.layout
+returns g c =
+    let k = (goal.at-returns g c).At-loop-i in
+    let a = k.args in
+    let l = g.L.Layout.layout in
+    let i = k.loop-i.i in
+    let all : i + (a.n - i) ≡ a.n = omega arith in
+    holds_list_in l
     (rw all at
-    (held_later s.requires.fits (bytes k) l.i l.invariant.3 l.i (a.n - l.i) (omega arith)
-    (part_held a.layout a.g (laid a.layout l.small l.large) a.scale a.colours.now a.weighted
-    a.weights.now l.i (a.n - l.i) _ c.add_last.ensures)))
+    (held_later k.requires (bytes g k) i k.loop-i.invariant.1 i (a.n - i) (omega arith)
+    (part_held l a.steps.now.g (laid l k.loop-i.small k.loop-i.large) a.scale a.colours.now (is_some a.weights)
+    (given a.weights) i (a.n - i) _ c.add_last.ensures)))

@@ -1,89 +1,59 @@
 -- `adder::blocks::add_last` meets its contract: equal colours are added at once, others by `add_each`.
 -- Assumes nothing.
 -- where they are seen to be equal: each is of bytes, there are some, and all are the first
-use mathlib.Core.Path.{◌≡◌, sym, ◌∙◌}
-use mathlib.Core.Bool.{true}
-use Prim.Native.Nat.{ℕ, ◌+◌, ◌<◌}
-use native.Mathlib.Omega.{arith}
-use borrow.Author.Rules.{rules}
-use lib.ListN.{get_or}
+use Rattle.std.proofs.Common.{◌≡◌, sym, ◌∙◌, true, ℕ, ◌+◌, ◌<◌, get_or, arith}
 use Rattle.pixels.specs.Colour.{colour_at}
 use Rattle.table.proofs.Layouts.{holds_list_in}
 use Rattle.table.proofs.Soundness.{limit_high}
 use Rattle.adder.specs.Inner.{last_equal, with_part}
 use Rattle.adder.proofs.Parts.{light, has_room_lem, at_once, some_equal, last_same}
-use Rattle.adder.proofs.blocks.add_last.Goals.{After-slice_known-then-last_equal-2-1, Start, Then-last_equal}
+use Rattle.adder.proofs.blocks.add_last.Given.{Over}
+use Rattle.adder.proofs.blocks.add_last.Goals.{Then-last_equal}
 use Rattle.adder.proofs.blocks.add_last.Goals as goal
 
-module _ (f : Then-last_equal) where
-  abbrev start : Start
-  start = (goal.at-Then-last_equal f).Start
+module _ (g : Over) (k : Then-last_equal g) where
+  bytes : (i : ℕ) → get_or k.args.colours.now i 0 < 256
+  bytes i = omega (arith, k.type_inv.colours i)
 
-  bytes : (k : ℕ) → get_or start.args.colours.now k 0 < 256
-  bytes k = omega (arith, f.shared_slice_known-1.given k)
+  equal : last_equal k.args.colours.now k.args.at k.args.n ≡ true
+  equal = sym k.last_equal.ensures ∙ k.if-last_equal.true
 
-  equal : last_equal start.args.colours.now start.args.at start.args.n ≡ true
-  equal = sym f.last_equal.ensures ∙ f.if-last_equal.true
+  some : 0 < k.args.n
+  some = some_equal k.args.colours.now k.args.at k.args.n equal
 
-  some : 0 < start.args.n
-  some = some_equal start.args.colours.now start.args.at start.args.n equal
-
-  same : (k : ℕ) → k < start.args.n
-      → colour_at start.args.colours.now (start.args.at + k)
-      ≡ colour_at start.args.colours.now start.args.at
-  same = last_same start.args.colours.now start.args.at start.args.n start.requires.few equal
-
-pub last_equal-requires : goal.last_equal-requires
-last_equal-requires c = search rules
-
-pub colour-x-requires : goal.colour-x-requires
-colour-x-requires c = omega (arith, some c, (start c).requires.fits.there)
+  same : (i : ℕ) → i < k.args.n
+      → colour_at k.args.colours.now (k.args.at + i) ≡ colour_at k.args.colours.now k.args.at
+  same = last_same k.args.colours.now k.args.at k.args.n k.requires.few equal
 
 pub block_weight-w-requires : goal.block_weight-w-requires
-block_weight-w-requires c =
-    let s = start (goal.at-block_weight-w-requires c).Then-last_equal in
-    let fits = s.requires.fits in
-    (s.requires.few, fits.scaled.few, λ given. omega (arith, fits.there, fits.one_each given))
+block_weight-w-requires g c =
+    let fits = c.requires.fits in
+    (c.requires.few, fits.scaled.few, λ given. omega (arith, fits.there, fits.one_each given))
+
+pub colour-requires : goal.colour-requires
+colour-requires g c = omega (arith, some g (goal.at-colour-requires g c).Then-last_equal, c.requires.fits.there)
 
 pub add_colour-requires : goal.add_colour-requires
-add_colour-requires c =
-    let f = (goal.at-add_colour-requires c).Then-last_equal in
-    let s = start f in record {
-      steps = s.requires.steps;
+add_colour-requires g c =
+    let k = (goal.at-add_colour-requires g c).Then-last_equal in
+    let fits = k.requires.fits in record {
       weight = omega (
         arith,
-        light s.requires.fits (bytes f) (same f) c.colour-x.ensures
-            c.block_weight-w.ensures,
-        limit_high s.args.layout,
+        light fits (bytes g k) (same g k) c.colour.ensures c.block_weight-w.ensures,
+        limit_high g.L.Layout.layout,
       );
-      fits = has_room_lem s.requires.fits (bytes f) (same f) c.colour-x.ensures
-          c.block_weight-w.ensures;
+      fits = has_room_lem fits (bytes g k) (same g k) c.colour.ensures c.block_weight-w.ensures;
     }
-
-pub shape_of-small-then-last_equal : goal.shape_of-small-then-last_equal
-shape_of-small-then-last_equal c = search rules
-
-pub shape_of-large-then-last_equal : goal.shape_of-large-then-last_equal
-shape_of-large-then-last_equal c = search rules
 
 pub returns-then-last_equal : goal.returns-then-last_equal
 unfolding with_part
-returns-then-last_equal c =
-    let b = c in
-    let f = (goal.at-After-slice_known-then-last_equal-2-1 b).Then-last_equal in
-    holds_list_in (start f).args.layout
-    (at_once (start f).requires.fits (bytes f) (same f) b.colour-x.ensures b.block_weight-w.ensures _
-    c.add_colour.ensures)
+returns-then-last_equal g c =
+    let k = (goal.at-returns-then-last_equal g c).Then-last_equal in
+    holds_list_in g.L.Layout.layout
+    (at_once k.requires.fits (bytes g k) (same g k) c.colour.ensures c.block_weight-w.ensures _ c.add_colour.ensures)
 
 pub add_each-requires : goal.add_each-requires
-add_each-requires c =
-    let s = c in record { fits = s.requires.fits; steps = s.requires.steps }
-
-pub shape_of-small : goal.shape_of-small
-shape_of-small c = search rules
-
-pub shape_of-large : goal.shape_of-large
-shape_of-large c = search rules
+add_each-requires g c = c.requires.fits
 
 pub returns : goal.returns
-returns c = c.add_each.ensures
+returns g c = c.add_each.ensures

@@ -1,45 +1,26 @@
--- `adder::shares::add_at` meets its contract: by the layout.
+-- `adder::shares::add_at` meets its contract: the cell that was there, with the other added, is written back.
 -- Assumes nothing.
-use borrow.Author.Rules.{rules}
-use Rattle.adder.proofs.ByLayout.{fits_as, added_as}
+use Rattle.std.proofs.Common.{sym, subst, ap, ◌∙◌}
+use Rattle.table.specs.declared.cell.Cell.{Cell}
+use Rattle.table.specs.Cell.{plus_cell, SumsFit}
+use Rattle.table.specs.Layout.{laid, put_in, HeldIn}
 use Rattle.adder.proofs.shares.add_at.Goals as goal
 
-pub enum_told-1 : goal.enum_told-1
-enum_told-1 c = search rules
+pub cell-before-requires : goal.cell-before-requires
+cell-before-requires g c = c.requires.cell
 
-pub add_wide-requires : goal.add_wide-requires
-add_wide-requires c =
-    let s = c in
-    fits_as c.in-Wide.is s.args.small.now s.args.large.now s.args.place s.args.c
-    s.requires
+pub plus-both-requires : goal.plus-both-requires
+plus-both-requires g c =
+    subst (λ (x : Cell). SumsFit x c.args.c) (sym c.cell-before.ensures) c.requires.sums
 
-pub enum_told-in-Narrow : goal.enum_told-in-Narrow
-enum_told-in-Narrow c = search rules
+pub put-requires : goal.put-requires
+put-requires g c =
+    let is = c.plus-both.ensures ∙ ap (λ (x : Cell). plus_cell x c.args.c) c.cell-before.ensures in
+    (c.requires.cell, subst (HeldIn g.L.Layout.layout) (sym is) c.requires.held)
 
-pub add_narrow-requires : goal.add_narrow-requires
-add_narrow-requires c =
-    let s = c in
-    fits_as c.in-Narrow.is s.args.small.now s.args.large.now s.args.place
-    s.args.c s.requires
-
-pub shape_of-large-in-Wide : goal.shape_of-large-in-Wide
-shape_of-large-in-Wide c = search rules
-
-pub returns-in-Wide : goal.returns-in-Wide
-returns-in-Wide c =
-    let a = c.args in
-    added_as c.in-Wide.is a.small.now a.large.now a.place
-    a.c _ _ c.add_wide.ensures
-
-pub shape_of-small : goal.shape_of-small
-shape_of-small c = search rules
-
-pub shape_of-large-in-Narrow : goal.shape_of-large-in-Narrow
-shape_of-large-in-Narrow c = search rules
-
-pub returns-in-Narrow : goal.returns-in-Narrow
-returns-in-Narrow c =
-    let w = c in
-    let a = w.args in
-    added_as w.in-Narrow.is a.small.now a.large.now a.place a.c
-    _ _ w.add_narrow.ensures
+pub returns : goal.returns
+returns g c =
+    let l = g.L.Layout.layout in
+    c.put.ensures
+    ∙ ap (put_in l (laid l c.args.small.now c.args.large.now) c.args.place)
+    (c.plus-both.ensures ∙ ap (λ (x : Cell). plus_cell x c.args.c) c.cell-before.ensures)

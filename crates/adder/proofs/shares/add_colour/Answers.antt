@@ -1,57 +1,32 @@
--- `adder::shares::add_colour` meets its contract: by the layout.
+-- `adder::shares::add_colour` meets its contract: what was looked up is the place of the colour and its squares.
 -- Assumes nothing.
-use borrow.Author.Rules.{rules}
-use Rattle.grid.specs.Grid.{colour_place}
-use Rattle.table.specs.Cell.{cell_of}
-use Rattle.adder.specs.Batch.{share}
-use Rattle.adder.proofs.ByLayout.{fits_as, colour_as}
+use Rattle.std.proofs.Common.{refl, arith}
+use Rattle.grid.proofs.Places.{Bytes}
+use Rattle.adder.specs.Inner.{with_colour}
+use Rattle.adder.proofs.StepTable.{place_below, squares_above}
+use Rattle.adder.proofs.shares.add_colour.Given.{Over}
+use Rattle.adder.proofs.shares.add_colour.Goals.{After-look_up-v}
 use Rattle.adder.proofs.shares.add_colour.Goals as goal
 
-pub enum_told-1 : goal.enum_told-1
-enum_told-1 c = search rules
+is_bytes : (g : Over) (k : After-look_up-v g) → Bytes k.args.x
+is_bytes g k = record { one = omega arith; two = omega arith; three = omega arith }
 
-pub add_wide_colour-requires : goal.add_wide_colour-requires
-add_wide_colour-requires c =
-    let s = c in
-    let a = s.args in record {
-      steps = s.requires.steps;
-      weight = s.requires.weight;
-      fits = fits_as c.in-Wide.is a.small.now a.large.now (colour_place a.g a.x)
-          (cell_of (share (record { colour = a.x; weight = a.w }))) s.requires.fits;
-    }
+pub share_of-requires : goal.share_of-requires
+share_of-requires g c =
+    let b = is_bytes g (goal.at-share_of-requires g c).After-look_up-v in
+    (omega (arith, c.requires.weight), squares_above c.args.steps.now.filled b c.look_up-v.ensures)
 
-pub enum_told-in-Narrow : goal.enum_told-in-Narrow
-enum_told-in-Narrow c = search rules
+pub add_at-requires : goal.add_at-requires
+add_at-requires g c =
+    let k = (goal.at-add_at-requires g c).After-look_up-v in
+    rw (place_below c.args.steps.now.filled (is_bytes g k) c.look_up-v.ensures, c.share_of.ensures) c.requires.fits
 
-pub add_narrow_colour-requires : goal.add_narrow_colour-requires
-add_narrow_colour-requires c =
-    let s = c in
-    let a = s.args in record {
-      steps = s.requires.steps;
-      weight = s.requires.weight;
-      fits = fits_as c.in-Narrow.is a.small.now a.large.now (colour_place a.g a.x)
-          (cell_of (share (record { colour = a.x; weight = a.w }))) s.requires.fits;
-    }
-
-pub shape_of-large-in-Wide : goal.shape_of-large-in-Wide
-shape_of-large-in-Wide c = search rules
-
-pub returns-in-Wide : goal.returns-in-Wide
-returns-in-Wide c =
-    let w = c in
-    let a = w.args in
-    colour_as w.in-Wide.is a.small.now a.large.now a.g
-    (record { colour = a.x; weight = a.w }) _ _ w.add_wide_colour.ensures
-
-pub shape_of-small : goal.shape_of-small
-shape_of-small c = search rules
-
-pub shape_of-large-in-Narrow : goal.shape_of-large-in-Narrow
-shape_of-large-in-Narrow c = search rules
-
-pub returns-in-Narrow : goal.returns-in-Narrow
-returns-in-Narrow c =
-    let w = c in
-    let a = w.args in
-    colour_as w.in-Narrow.is a.small.now a.large.now a.g
-    (record { colour = a.x; weight = a.w }) _ _ w.add_narrow_colour.ensures
+pub returns : goal.returns
+unfolding with_colour
+returns g c =
+    let k = (goal.at-returns g c).After-look_up-v in
+    rw (
+      c.add_at.ensures,
+      place_below c.args.steps.now.filled (is_bytes g k) c.look_up-v.ensures,
+      c.share_of.ensures,
+    ) refl

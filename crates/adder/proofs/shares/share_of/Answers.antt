@@ -2,7 +2,6 @@
 -- Assumes nothing.
 use mathlib.Core.Path.{sym}
 use native.Mathlib.Omega.{arith}
-use borrow.Author.Rules.{rules}
 use Rattle.grid.proofs.Places.{Bytes}
 use Rattle.table.proofs.Cells.{cell_is}
 use Rattle.adder.specs.Batch.{share}
@@ -17,29 +16,20 @@ is_bytes s =
     let known = s.well_formed.0 in
     record { one = omega (arith, known); two = omega (arith, known); three = omega (arith, known) }
 
-pub overflow_cast-result : goal.overflow_cast-result
-overflow_cast-result c = search rules
-
 pub overflow_mul-result : goal.overflow_mul-result
 overflow_mul-result c =
     let s = c in
-    omega (arith, times_high 4294967295 255 s.args.w s.args.x.c1 s.requires.0 (omega arith))
-
-pub overflow_cast-result-2 : goal.overflow_cast-result-2
-overflow_cast-result-2 c = search rules
+    rw c.from.ensures (omega (arith, times_high 4294967295 255 s.args.w s.args.x.c1 s.requires.0 (omega arith)))
 
 pub overflow_mul-result-2 : goal.overflow_mul-result-2
 overflow_mul-result-2 c =
     let s = c in
-    omega (arith, times_high 4294967295 255 s.args.w s.args.x.c2 s.requires.0 (omega arith))
-
-pub overflow_cast-result-3 : goal.overflow_cast-result-3
-overflow_cast-result-3 c = search rules
+    rw c.from-2.ensures (omega (arith, times_high 4294967295 255 s.args.w s.args.x.c2 s.requires.0 (omega arith)))
 
 pub overflow_mul-result-3 : goal.overflow_mul-result-3
 overflow_mul-result-3 c =
     let s = c in
-    omega (arith, times_high 4294967295 255 s.args.w s.args.x.c3 s.requires.0 (omega arith))
+    rw c.from-3.ensures (omega (arith, times_high 4294967295 255 s.args.w s.args.x.c3 s.requires.0 (omega arith)))
 
 pub overflow_mul-result-4 : goal.overflow_mul-result-4
 overflow_mul-result-4 c =
@@ -54,4 +44,4 @@ pub returns : goal.returns
 unfolding share squares_of
 returns c =
     let s = c in
-    rw s.requires.1 (sym (cell_is (share (record { colour = s.args.x; weight = s.args.w }))))
+    rw (c.from.ensures, c.from-2.ensures, c.from-3.ensures, s.requires.1) (sym (cell_is (share (record { colour = s.args.x; weight = s.args.w }))))

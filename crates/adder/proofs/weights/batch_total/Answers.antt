@@ -1,37 +1,21 @@
 -- `adder::weights::batch_total` meets its contract: without weights each colour weighs the scale.
 -- Assumes nothing.
 -- the colours fit
-use mathlib.Core.Path.{sym}
-use Prim.Native.Nat.{◌+◌, ◌*◌, ◌≤◌}
-use native.Mathlib.Omega.{arith}
-use borrow.Author.Rules.{rules}
+use Rattle.std.proofs.Common.{◌+◌, ◌*◌, ◌≤◌, sym, arith}
 use Rattle.adder.proofs.Totals.{held_within, left_passed, left_fits}
 use Rattle.adder.proofs.weights.batch_total.Goals.{Else-most-had}
 use Rattle.adder.proofs.weights.batch_total.Goals as goal
 
 fits : (c : Else-most-had) → let a = c.args in a.had + a.scale * a.n ≤ a.most
-fits c =
-    let s = c in
-    left_fits s.args.most s.args.had s.args.scale s.args.n s.requires.0 s.requires.2.some (omega arith)
+fits c = left_fits c.args.most c.args.had c.args.scale c.args.n c.requires.0 c.requires.2.some (omega arith)
 
-pub weights_total-requires : goal.weights_total-requires
-weights_total-requires c = search rules
-
-pub returns-then-weighted : goal.returns-then-weighted
-returns-then-weighted c = rw c.if-weighted.true c.weights_total.ensures
-
-pub overflow_sub-most : goal.overflow_sub-most
-overflow_sub-most c = search rules
-
-pub nonzero_div-most : goal.nonzero_div-most
-nonzero_div-most c = search rules
+pub returns-in-Some : goal.returns-in-Some
+returns-in-Some c = rw c.in-Some.is c.weights_total.ensures
 
 pub returns-then-most-had : goal.returns-then-most-had
 returns-then-most-had c =
-    let s = c in
-    rw c.if-weighted.false
-    (left_passed s.args.most s.args.had s.args.scale s.args.n s.requires.0 s.requires.2.some
-    (omega arith))
+    rw c.in_default.is
+    (left_passed c.args.most c.args.had c.args.scale c.args.n c.requires.0 c.requires.2.some (omega arith))
 
 pub overflow_mul-result : goal.overflow_mul-result
 overflow_mul-result c = omega (arith, fits c)
@@ -40,4 +24,4 @@ pub overflow_add-result : goal.overflow_add-result
 overflow_add-result c = omega (arith, fits c)
 
 pub returns : goal.returns
-returns c = rw c.if-weighted.false (sym (held_within c.args.most _ (fits c)))
+returns c = rw c.in_default.is (sym (held_within c.args.most _ (fits c)))

@@ -1,43 +1,27 @@
 -- `adder::weights::block_weight` meets its contract: the sum of the weights, or 1 for each colour, multiplied.
 -- Assumes nothing.
-use mathlib.Core.Path.{◌≡◌, refl, ap, ◌∙◌}
-use Prim.Native.Nat.{ℕ, ◌+◌, ◌-◌, ◌*◌, ◌≤◌}
-use native.Mathlib.Omega.{arith}
-use lib.ListN.{get_or}
-use Rattle.basics.specs.Range.{sum_from}
+use Rattle.std.proofs.Common.{◌≤◌, ◌+◌, ◌*◌, ℕ, length, refl, ap, ◌∙◌, arith}
 use Rattle.adder.proofs.Loading.{times_high}
-use Rattle.adder.proofs.Totals.{block_high}
+use Rattle.adder.proofs.Totals.{all_slice}
+use Rattle.adder.proofs.weights.block_weight.Goals.{In-Some}
 use Rattle.adder.proofs.weights.block_weight.Goals as goal
 
-pub overflow_add-i : goal.overflow_add-i
-overflow_add-i c = omega (arith, c.requires.2 c.if-weighted.true)
-
-pub block_sum-requires : goal.block_sum-requires
-block_sum-requires c = (omega arith, omega (arith, c.requires.2 c.if-weighted.true), omega arith)
+there : (k : In-Some) → k.args.i + k.args.n ≤ length k.in-Some.weights.now
+there k = let r = rw k.in-Some.is at k.requires.2 in r refl
 
 pub overflow_mul-result : goal.overflow_mul-result
-overflow_mul-result c =
-    let s = c in
-    let each : (k : ℕ) → get_or s.args.weights.now k 0 ≤ 4294967295 =
-    λ k. omega (arith, c.shared_slice_known-1.given k) in
-    omega (
-      arith,
-      block_high s.args.scale s.args.i ((s.args.i + s.args.n) - s.args.i) _ s.requires.1 (omega arith) each
-          c.block_sum.ensures,
-    )
+overflow_mul-result c = omega (arith, times_high 4096 17592186040320 c.args.scale c.block_sum.result c.requires.1 c.block_sum.ensures.small)
 
-pub returns-then-weighted : goal.returns-then-weighted
-returns-then-weighted c =
+pub returns-in-Some : goal.returns-in-Some
+returns-in-Some c =
+    let all = there (goal.at-returns-in-Some c).In-Some in
     let a = c.args in
-    let many : (a.i + a.n) - a.i ≡ a.n = omega arith in
-    rw c.if-weighted.true
+    rw c.in-Some.is
     (ap (λ (x : ℕ). a.scale * x)
-    (c.block_sum.ensures ∙ ap (λ (n : ℕ). sum_from a.i n (λ k. get_or a.weights.now k 0)) many))
+    (c.block_sum.ensures.sum ∙ all_slice c.in-Some.weights.now a.i _ a.n all (omega (arith, all))))
 
-pub overflow_mul-result-2 : goal.overflow_mul-result-2
-overflow_mul-result-2 c =
-    let s = c in
-    omega (arith, times_high 4096 64 s.args.scale s.args.n s.requires.1 s.requires.0)
+pub overflow_mul-result-in-None : goal.overflow_mul-result-in-None
+overflow_mul-result-in-None c = omega (arith, times_high 4096 64 c.args.scale c.args.n c.requires.1 c.requires.0)
 
-pub returns : goal.returns
-returns c = rw c.if-weighted.false refl
+pub returns-in-None : goal.returns-in-None
+returns-in-None c = rw c.in-None.is refl

@@ -1,105 +1,53 @@
 -- `adder::weights::weights_total` meets its contract: the total so far is within the limit, so a block more still fits
--- a u64.
+-- a u64, and with the weights that are left it is that of all.
 -- Assumes nothing.
-use mathlib.Core.Path.{◌≡◌, sym, ap, ◌∙◌}
-use Prim.Native.Nat.{ℕ, ◌+◌, ◌≤◌, ◌-◌, ◌*◌}
-use native.Mathlib.Nat.{mul-zero}
-use native.Mathlib.Omega.{arith}
-use lib.ListN.{length, get_or}
+use Rattle.std.specs.Prelude.{Some}
+use Rattle.std.proofs.Common.{◌≡◌, ◌+◌, ◌*◌, ◌≤◌, ◌∙◌, ℕ, List, sym, ap, mul-zero, arith}
+use Rattle.std.proofs.lemmas.List.{nil_from_length}
+use Rattle.std.specs.Slice.Iter.{chunks_rest}
 use Rattle.basics.specs.Range.{sum_from}
-use Rattle.adder.specs.declared.add.Added.TheVariants.{Total}
-use Rattle.adder.proofs.Totals.{held_within, held_past, block_high, more_weights, passes_early}
-use Rattle.adder.proofs.weights.weights_total.Goals.{After-block_sum, After-block_sum-2, At-loop-i}
+use Rattle.adder.specs.Inner.{all_weights}
+use Rattle.adder.proofs.Totals.{held_within, held_past, block_high, block_more}
+use Rattle.adder.proofs.weights.weights_total.Goals.{After-block_sum, In-None}
 use Rattle.adder.proofs.weights.weights_total.Goals as goal
 
--- a block of weights, multiplied, is small
-each : (l : At-loop-i) (k : ℕ) → get_or l.args.weights.now k 0 ≤ 4294967295
-each l k = omega (arith, l.shared_slice_known-1.given k)
+high : (k : After-block_sum) → k.args.scale * k.block_sum.result ≤ 72057594021150720
+high k = block_high k.args.scale k.block_sum.result k.requires.2 k.block_sum.ensures.small
 
-small : (c : After-block_sum)
-    → c.args.scale * c.block_sum.result ≤ 72057594021150720
-small c =
-    let l = (goal.at-After-block_sum c).At-loop-i in
-    block_high _ l.loop-i.i ((l.loop-i.i + 4096) - l.loop-i.i) _ l.requires.2 (omega arith) (each l)
-    c.block_sum.ensures
+-- with what is left after the block
+more : (k : After-block_sum)
+    → (k.loop-block.total + k.args.scale * k.block_sum.result) + k.args.scale * all_weights (chunks_rest k.next.new.self)
+    ≡ k.args.had + k.args.scale * all_weights k.args.weights.now
+more k =
+    block_more k.args.scale k.loop-block.total (k.args.had + k.args.scale * all_weights k.args.weights.now)
+    (chunks_rest k.loop-block.block-iterator) k.in-Some.block.now (chunks_rest k.next.new.self)
+    k.loop-block.invariant.2 k.in-Some.ensures.steps.1.0 k.block_sum.ensures.sum
 
-small_rest : (c : After-block_sum-2)
-    → c.args.scale * c.block_sum-2.result ≤ 72057594021150720
-small_rest c =
-    let l = (goal.at-After-block_sum-2 c).At-loop-i in
-    block_high _ l.loop-i.i (length l.args.weights.now - l.loop-i.i) _
-    l.requires.2
-    (omega arith) (each l) c.block_sum-2.ensures
-
--- the total of all
-all : (c : After-block_sum-2) →
-    let a = c.args in
-    c.loop-i.total + a.scale * c.block_sum-2.result
-    ≡ a.had + a.scale * sum_from 0 (length a.weights.now) (λ k. get_or a.weights.now k 0)
-all c =
-    let l = c in
-    let a = l.args in
-    more_weights a.scale a.had l.loop-i.i (length a.weights.now) _ (omega arith) l.loop-i.invariant.1
-    c.block_sum-2.ensures
-
-pub loop-i-init : goal.loop-i-init
+-- at the end nothing is left
+all : (k : In-None) → k.loop-block.total ≡ k.args.had + k.args.scale * all_weights k.args.weights.now
 unfolding sum_from
-loop-i-init c = (omega arith, omega (arith, mul-zero c.args.scale), c.requires.0)
-
-pub overflow_sub-weights : goal.overflow_sub-weights
-overflow_sub-weights c = omega arith
-
-pub overflow_add-i : goal.overflow_add-i
-overflow_add-i c = omega arith
-
-pub block_sum-requires : goal.block_sum-requires
-block_sum-requires c = (omega arith, omega arith, omega arith)
+all k =
+    let none = nil_from_length _ k.in-None.ensures.steps.1.0 in
+    omega (
+      arith,
+      k.loop-block.invariant.2,
+      ap (λ (w : List ℕ). k.args.scale * all_weights w) none,
+      mul-zero k.args.scale,
+    )
 
 pub overflow_mul-total : goal.overflow_mul-total
-overflow_mul-total c = omega (arith, small c)
+overflow_mul-total c = omega (arith, high c)
 
 pub overflow_add-total : goal.overflow_add-total
-overflow_add-total c = omega (arith, small c)
+overflow_add-total c = omega (arith, high c)
 
 pub returns-then-most-total : goal.returns-then-most-total
 returns-then-most-total c =
-    let l = c in
-    let a = l.args in
-    let f : ℕ → ℕ = λ k. get_or a.weights.now k 0 in
-    let so_far = more_weights a.scale a.had l.loop-i.i (l.loop-i.i + 4096) f (omega arith) l.loop-i.invariant.1
-    c.block_sum.ensures in
-    passes_early a.most a.scale a.had (l.loop-i.i + 4096) (length a.weights.now) f (omega arith)
-    (omega (arith, so_far))
+    sym (held_past c.args.most _ (omega (arith, more (goal.at-returns-then-most-total c).After-block_sum)))
 
-pub overflow_add-i-in-loop-i : goal.overflow_add-i-in-loop-i
-overflow_add-i-in-loop-i c = omega arith
-
-pub loop-i-smaller : goal.loop-i-smaller
-loop-i-smaller c = omega arith
-
-pub loop-i-preserved : goal.loop-i-preserved
-loop-i-preserved c =
-    let l = c in
-    let a = l.args in (
-      omega arith,
-      more_weights a.scale a.had l.loop-i.i (l.loop-i.i + 4096) _ (omega arith) l.loop-i.invariant.1
-          c.block_sum.ensures,
-      omega arith,
-    )
-
-pub block_sum-requires-2 : goal.block_sum-requires-2
-block_sum-requires-2 c = (omega arith, omega arith, omega arith)
-
-pub overflow_mul-total-2 : goal.overflow_mul-total-2
-overflow_mul-total-2 c = omega (arith, small_rest c)
-
-pub overflow_add-total-2 : goal.overflow_add-total-2
-overflow_add-total-2 c = omega (arith, small_rest c)
-
-pub returns-then-most-total-2 : goal.returns-then-most-total-2
-returns-then-most-total-2 c = sym (held_past c.args.most _ (omega (arith, all (goal.at-returns-then-most-total-2 c).After-block_sum-2)))
+pub loop-block-preserved : goal.loop-block-preserved
+loop-block-preserved c =
+    (c.in-Some.ensures.steps.0 ∙ c.loop-block.invariant.0, omega arith, more (goal.at-loop-block-preserved c).After-block_sum)
 
 pub returns : goal.returns
-returns c =
-    sym (held_within c.args.most _ (omega (arith, all (goal.at-returns c).After-block_sum-2))
-    ∙ ap Total (sym (all (goal.at-returns c).After-block_sum-2)))
+returns c = ap Some (all c) ∙ sym (held_within c.args.most _ (omega (arith, all c)))

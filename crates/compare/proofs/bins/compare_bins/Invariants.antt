@@ -1,7 +1,6 @@
 -- `compare::bins::compare_bins` meets its contract: after p places the differences of the first p bins are written, and
 -- those of them that differ are counted.
 -- Assumes nothing.
-use Prim.Native.Nat.{◌-◌, ◌≤◌}
 use Rattle.table.specs.Table.{view_of}
 use Rattle.compare.specs.Compare.{differs}
 use Rattle.compare.proofs.Places.{Found}
@@ -10,8 +9,5 @@ use Rattle.compare.proofs.bins.compare_bins.Given as goal
 
 abbrev pub invariant-loop-p : goal.invariant-loop-p
 invariant-loop-p l =
-    (l.p ≤ l.n) × Written l.n (view_of l.first) (view_of l.second) l.p l.differences
+    Written l.n (view_of l.first) (view_of l.second) l.p l.differences
     × Found l.n (differs (view_of l.first) (view_of l.second)) l.p l.differ l.at
-
-abbrev pub decreases-loop-p : goal.decreases-loop-p
-decreases-loop-p l = l.n - l.p

@@ -5,7 +5,6 @@
 use mathlib.Core.Path.{◌≡◌, sym, subst, ◌∙◌}
 use Prim.Native.Nat.{ℕ, ◌^◌, ◌<◌}
 use native.Mathlib.Nat.{lt_trans}
-use borrow.Author.Rules.{rules}
 use lib.Dec.{lit<}
 use lib.IntN.{pos, ◌-ℤ◌}
 use mir.Syntax.{w64}
@@ -26,12 +25,6 @@ module _ (x y : ℕ) (h : (x < 2 ^ 50) × (y < 2 ^ 50)) where
       record {
         sfits = lt_trans (mag_small (2 ^ 50) (pos y -ℤ pos x) (less_small (2 ^ 50) x y h.0 h.1)) (lit< tt);
       }
-
-pub overflow_cast-x : goal.overflow_cast-x
-overflow_cast-x c = search rules
-
-pub overflow_cast-y : goal.overflow_cast-y
-overflow_cast-y c = search rules
 
 pub overflow_sub-result : goal.overflow_sub-result
 overflow_sub-result c =

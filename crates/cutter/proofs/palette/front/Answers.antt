@@ -1,34 +1,14 @@
 -- `cutter::palette::front` meets its contract: a third of the length is below the number of boxes just where the
 -- length is below three bytes each.
 -- Assumes nothing.
-use Prim.Native.Nat.{◌*◌, ◌≤◌, ◌<◌}
-use native.Mathlib.Nat.{sub-zero}
-use native.Mathlib.Omega.{arith}
-use borrow.Author.Rules.{rules}
-use borrow.Author.Tests.{lt-ltb, le-ltb}
-use lib.ListN.{length}
+use Rattle.std.proofs.Common.{arith}
 use Rattle.cutter.specs.Palette.{front_of}
 use Rattle.cutter.proofs.palette.front.Goals as goal
 
-pub slice_bounds-result-count : goal.slice_bounds-result-count
-slice_bounds-result-count c = search rules
-
 pub returns-then-palette-boxes : goal.returns-then-palette-boxes
 unfolding front_of
-returns-then-palette-boxes c =
-    let s = c in
-    let short : length s.args.palette.now < 3 * s.args.boxes = omega arith in
-    simp (lt-ltb _ _ short)
-
-pub overflow_mul-end : goal.overflow_mul-end
-overflow_mul-end c = search rules
-
-pub slice_bounds-result-count-2 : goal.slice_bounds-result-count-2
-slice_bounds-result-count-2 c = search rules
+returns-then-palette-boxes c = grind arith
 
 pub returns : goal.returns
 unfolding front_of
-returns c =
-    let s = c in
-    let long : 3 * s.args.boxes ≤ length s.args.palette.now = omega arith in
-    simp (sub-zero, le-ltb _ _ long)
+returns c = grind arith

@@ -7,15 +7,9 @@ use Rattle.cutter.specs.Palette.{mean_of}
 use Rattle.cutter.proofs.Colours.{mean_byte, mean_left}
 use Rattle.cutter.proofs.palette.mean.Goals as goal
 
-pub nonzero_div-quotient : goal.nonzero_div-quotient
-nonzero_div-quotient c = omega arith
-
 pub overflow_cast-quotient : goal.overflow_cast-quotient
 unfolding mean_of
 overflow_cast-quotient c = omega (arith, mean_byte _ _ c.requires.0 c.requires.2)
-
-pub nonzero_rem-remainder : goal.nonzero_rem-remainder
-nonzero_rem-remainder c = omega arith
 
 pub overflow_cast-remainder : goal.overflow_cast-remainder
 unfolding mean_of

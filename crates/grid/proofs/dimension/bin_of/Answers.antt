@@ -2,13 +2,9 @@
 -- Assumes nothing.
 use mathlib.Core.Path.{refl}
 use native.Mathlib.Omega.{arith}
-use borrow.Author.Rules.{rules}
 use lib.Pow.{shr_le}
 use Rattle.grid.specs.Size.{bin_of}
 use Rattle.grid.proofs.dimension.bin_of.Goals as goal
-
-pub overflow_shr-result : goal.overflow_shr-result
-overflow_shr-result c = search rules
 
 pub overflow_cast-result : goal.overflow_cast-result
 overflow_cast-result c = omega (arith, shr_le c.args.component c.args.shift)

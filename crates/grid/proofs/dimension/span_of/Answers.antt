@@ -3,14 +3,10 @@
 -- Assumes nothing.
 use mathlib.Core.Path.{refl}
 use native.Mathlib.Omega.{arith}
-use borrow.Author.Rules.{rules}
 use lib.Pow.{pow_pos}
 use Rattle.grid.specs.Size.{span_of}
 use Rattle.grid.proofs.Size.{width_is, span_byte}
 use Rattle.grid.proofs.dimension.span_of.Goals as goal
-
-pub overflow_shl-width : goal.overflow_shl-width
-overflow_shl-width c = search rules
 
 pub overflow_mul-low : goal.overflow_mul-low
 overflow_mul-low c = rw (width_is c.args.shift c.requires.shift_below) (omega (arith, c.requires.bin_below))

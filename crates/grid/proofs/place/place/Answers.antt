@@ -4,7 +4,6 @@
 use mathlib.Core.Path.{◌≡◌, refl}
 use Prim.Native.Nat.{ℕ, ◌+◌, ◌-◌, ◌*◌, ◌%◌, ◌^◌}
 use native.Mathlib.Omega.{arith}
-use borrow.Author.Rules.{rules}
 use Rattle.grid.specs.declared.place.Grid.{Grid}
 use Rattle.grid.specs.Grid.{place_of, Inside}
 use Rattle.grid.proofs.Size.{shifted_left}
@@ -23,12 +22,6 @@ module _ {g : Grid} {r gr b : ℕ} (i : Inside g r gr b) where
 pub overflow_sub-row : goal.overflow_sub-row
 overflow_sub-row c = omega (arith, (two c.requires.accepted).few)
 
-pub overflow_cast-row : goal.overflow_cast-row
-overflow_cast-row c = search rules
-
-pub overflow_shl-row : goal.overflow_shl-row
-overflow_shl-row c = search rules
-
 pub overflow_add-row : goal.overflow_add-row
 overflow_add-row c =
     let i = c.requires in
@@ -36,12 +29,6 @@ overflow_add-row c =
 
 pub overflow_sub-result : goal.overflow_sub-result
 overflow_sub-result c = omega (arith, (three c.requires.accepted).few)
-
-pub overflow_cast-result : goal.overflow_cast-result
-overflow_cast-result c = search rules
-
-pub overflow_shl-result : goal.overflow_shl-result
-overflow_shl-result c = search rules
 
 pub overflow_add-result : goal.overflow_add-result
 unfolding place_of

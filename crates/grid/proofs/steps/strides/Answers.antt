@@ -13,12 +13,6 @@ use Rattle.grid.proofs.steps.strides.Goals as goal
 pub loop-c-init : goal.loop-c-init
 loop-c-init c = (omega arith, refl, λ k h. absurd (omega arith))
 
-pub overflow_cast-c : goal.overflow_cast-c
-overflow_cast-c c = omega arith
-
-pub bin_of-requires : goal.bin_of-requires
-bin_of-requires c = omega arith
-
 pub overflow_mul-out : goal.overflow_mul-out
 unfolding bin_of
 overflow_mul-out c =
@@ -26,18 +20,6 @@ overflow_mul-out c =
     let l = c.loop-c.c in
     let b : c.bin_of.result ≤ 255 = omega (arith, c.bin_of.ensures, shr_le l a.shift) in
     omega (arith, mul-le-mul {n₂ = 255} {m₂ = 16384} b c.requires.1)
-
-pub offset_bounds-out-c : goal.offset_bounds-out-c
-offset_bounds-out-c c = omega arith
-
-pub bounds-out-c : goal.bounds-out-c
-bounds-out-c c = omega arith
-
-pub overflow_add-c : goal.overflow_add-c
-overflow_add-c c = omega arith
-
-pub loop-c-smaller : goal.loop-c-smaller
-loop-c-smaller c = omega arith
 
 pub loop-c-preserved : goal.loop-c-preserved
 loop-c-preserved c =

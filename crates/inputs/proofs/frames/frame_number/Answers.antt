@@ -1,12 +1,9 @@
 -- `inputs::frames::frame_number` meets its contract, case by case.
 -- Assumes nothing.
+use mathlib.Core.Path.{◌∙◌}
 use native.Mathlib.Omega.{arith}
 use Rattle.inputs.proofs.Answers.{few, is_malformed, is_maximum, is_other, is_whole}
-use borrow.Author.Rules.{rules}
 use Rattle.inputs.proofs.frames.frame_number.Goals as goal
-
-pub enum_known-header : goal.enum_known-header
-enum_known-header c = search rules
 
 pub overflow_mul-pixels : goal.overflow_mul-pixels
 overflow_mul-pixels c = omega (arith, few c.requires c.in-Image.is)
@@ -14,26 +11,15 @@ overflow_mul-pixels c = omega (arith, few c.requires c.in-Image.is)
 pub overflow_mul-pixels-in-Image : goal.overflow_mul-pixels-in-Image
 overflow_mul-pixels-in-Image c = omega (arith, few c.requires c.in-Image.is)
 
-pub enum_told-1 : goal.enum_told-1
-enum_told-1 c = search rules
-
-pub enum_told-in-Malformed : goal.enum_told-in-Malformed
-enum_told-in-Malformed c = search rules
-
 pub returns-then-bytes-pixels : goal.returns-then-bytes-pixels
-returns-then-bytes-pixels c =
-    let k = c in
-    let a = k.args in
-    is_whole a.bytes a.lowest k.in-Image.is c.if-bytes-pixels.true
+returns-then-bytes-pixels c = is_whole c.args.bytes c.args.lowest c.in-Image.is c.if-bytes-pixels.true
 
 pub returns-else-bytes-pixels : goal.returns-else-bytes-pixels
 returns-else-bytes-pixels c =
-    let k = c in
-    let a = k.args in
-    is_other a.bytes a.lowest k.in-Image.is c.if-bytes-pixels.false
+    c.number.ensures ∙ is_other c.args.bytes c.args.lowest c.in-Image.is c.if-bytes-pixels.false
 
 pub returns-in-Maximum : goal.returns-in-Maximum
-returns-in-Maximum c = let a = c.args in is_maximum a.bytes a.lowest c.in-Maximum.is
+returns-in-Maximum c = c.number-in-Maximum.ensures ∙ is_maximum c.args.bytes c.args.lowest c.in-Maximum.is
 
 pub returns-in-Malformed : goal.returns-in-Malformed
-returns-in-Malformed c = let a = c.args in is_malformed a.bytes a.lowest c.in-Malformed.is
+returns-in-Malformed c = c.number-in-Malformed.ensures ∙ is_malformed c.args.bytes c.args.lowest c.in-Malformed.is

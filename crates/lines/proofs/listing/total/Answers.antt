@@ -1,53 +1,29 @@
--- `lines::listing::total` meets its contract: the sum so far is that of the counts passed, each below 2^32.
+-- `lines::listing::total` meets its contract: the first counts are summed.
 -- Assumes nothing.
 use mathlib.Core.Path.{◌≡◌, refl, sym, ap, ◌∙◌}
-use Prim.Native.Nat.{ℕ, ◌+◌}
 use mathlib.Core.List.{List}
+use Prim.Native.Nat.{ℕ, zero, suc, ◌+◌, ◌≤◌}
 use native.Mathlib.Nat.{zero-add}
 use native.Mathlib.Omega.{arith}
-use lib.ListN.{get_or}
+use native.Mathlib.Numerals.{add-one}
+use lib.ListN.{length, get_or, take}
+use Rattle.std.specs.List.{sum}
+use Rattle.std.proofs.lemmas.List.Sums.{fold_more}
 use Rattle.basics.specs.Range.{sum_from}
 use Rattle.basics.proofs.Range.{sum_last}
 use Rattle.lines.specs.Text.{total_of}
 use Rattle.lines.proofs.listing.total.Goals as goal
 
-next : (counts : List ℕ) (i : ℕ) → total_of counts (i + 1) ≡ total_of counts i + get_or counts i 0
-unfolding total_of
-next counts i = sum_last 0 i _ ∙ ap (λ (k : ℕ). total_of counts i + get_or counts k 0) (zero-add i)
-
-pub loop-i-init : goal.loop-i-init
+-- the total, count by count
+total_sum : (counts : List ℕ) (n : ℕ) → n ≤ length counts → sum (take n counts) ≡ total_of counts n
 unfolding total_of sum_from
-loop-i-init c = (omega arith, refl, omega arith)
-
-pub offset_bounds-counts-i : goal.offset_bounds-counts-i
-offset_bounds-counts-i c = omega arith
-
-pub bounds-counts-i : goal.bounds-counts-i
-bounds-counts-i c = omega arith
-
-pub overflow_cast-sum : goal.overflow_cast-sum
-overflow_cast-sum c = omega (arith, c.shared_slice_known-1.given c.loop-i.i)
-
-pub overflow_add-sum : goal.overflow_add-sum
-overflow_add-sum c = omega (arith, c.shared_slice_known-1.given c.loop-i.i)
-
-pub overflow_add-i : goal.overflow_add-i
-overflow_add-i c = omega arith
-
-pub loop-i-smaller : goal.loop-i-smaller
-loop-i-smaller c = omega arith
-
-pub loop-i-preserved : goal.loop-i-preserved
-loop-i-preserved c =
-    let l = c.loop-i in
-    let counts = c.args.counts.now in (
-      omega arith,
-      ap (λ (n : ℕ). n + get_or counts l.i 0) l.invariant.1 ∙ sym (next counts l.i),
-      omega (arith, c.shared_slice_known-1.given l.i),
-    )
+total_sum counts zero h = refl
+total_sum counts (suc n) h =
+    (ap (λ (k : ℕ). sum (take k counts)) (sym (add-one n))
+    ∙ fold_more ◌+◌ 0 counts n 0 (omega arith)
+    ∙ ap (λ (s : ℕ). s + get_or counts n 0) (total_sum counts n (omega arith))
+    ∙ sym (sum_last 0 n _ ∙ ap (λ (k : ℕ). total_of counts n + get_or counts k 0) (zero-add n))
+    ∙ ap (total_of counts) (add-one n))
 
 pub returns : goal.returns
-returns c =
-    let l = c.loop-i in
-    let all : l.i ≡ c.args.boxes = omega arith in
-    l.invariant.1 ∙ ap (total_of c.args.counts.now) all
+returns c = c.sum.ensures ∙ total_sum c.args.counts.now c.args.boxes c.requires.1

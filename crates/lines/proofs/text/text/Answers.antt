@@ -1,23 +1,16 @@
--- `lines::text::text` meets its contract: the line of a refusal, and else the text of the cut.
+-- `lines::text::text` meets its contract: the listing of what was found, or the line of the refusal.
 -- Assumes nothing.
-use borrow.Author.Rules.{rules}
-use Rattle.lines.proofs.Texts.{text_refused, text_cut}
+use mathlib.Core.Path.{sym, ap, ◌∙◌}
+use Rattle.lines.proofs.Texts.{said, text_said}
+use Rattle.lines.specs.Inner.{listing_found}
 use Rattle.lines.proofs.text.text.Goals as goal
 
-pub refused-requires : goal.refused-requires
-refused-requires c = search rules
+pub returns-in-Ok : goal.returns-in-Ok
+returns-in-Ok c =
+    let e = text_said c.args.lowest c.args.table.now ∙ ap (said listing_found) (sym c.in-Ok.ensures.is) in
+    rw e c.listing.ensures
 
-pub shape_of-out-then-lowest-ne0 : goal.shape_of-out-then-lowest-ne0
-shape_of-out-then-lowest-ne0 c = search rules
-
-pub returns-then-lowest-ne0 : goal.returns-then-lowest-ne0
-returns-then-lowest-ne0 c = rw (text_refused _ _ c.if-lowest-ne0.true) c.refused.ensures
-
-pub cut_text-requires : goal.cut_text-requires
-cut_text-requires c = search rules
-
-pub shape_of-out : goal.shape_of-out
-shape_of-out c = search rules
-
-pub returns : goal.returns
-returns c = rw (text_cut _ _ c.if-lowest-ne0.false) c.cut_text.ensures
+pub returns-in-Err : goal.returns-in-Err
+returns-in-Err c =
+    let e = text_said c.args.lowest c.args.table.now ∙ ap (said listing_found) (sym c.in-Err.ensures.is) in
+    rw e c.refused.ensures

@@ -1,58 +1,35 @@
--- `mapper::blocks::map_part` meets its contract: after i pixels the first i places hold their indices.
+-- `mapper::blocks::map_part` meets its contract: after some blocks the first 64 places of each hold their indices.
 -- Assumes nothing.
-use mathlib.Core.Path.{◌≡◌, ap, ◌∙◌}
-use native.Mathlib.Omega.{arith}
-use lib.ListN.{length}
-use Rattle.band.specs.Band.{index_at}
-use Rattle.band.proofs.Band.{band_length, band_empty, front_more, front_rest}
-use Rattle.mapper.proofs.blocks.map_part.Goals.{At-loop-i}
+use Rattle.std.proofs.Common.{◌≡◌, ◌+◌, ◌*◌, ◌/◌, ℕ, ap, ◌∙◌, arith}
+use Rattle.band.specs.Band.{index_at, write_band}
+use Rattle.band.proofs.Band.{band_empty, front_more, front_rest}
+use Rattle.mapper.proofs.blocks.map_part.Goals.{At-loop-block}
 use Rattle.mapper.proofs.blocks.map_part.Goals as goal
 
--- the buffer is as long as it was
-same : (k : At-loop-i)
-    → length k.loop-i.indices ≡ length k.args.indices.now
-same k = ap length k.loop-i.invariant.1 ∙ band_length _ _ _ _
-
-pub loop-i-init : goal.loop-i-init
-loop-i-init c = (omega arith, band_empty _ _ _)
-
-pub overflow_sub-n : goal.overflow_sub-n
-overflow_sub-n c = omega arith
+pub loop-block-init : goal.loop-block-init
+loop-block-init c = band_empty _ _ _
 
 pub map_block-requires : goal.map_block-requires
-map_block-requires c =
-    let s = c in record { look_up = s.requires.look_up; inside = (omega (arith, s.requires.one_each), omega (arith, same (goal.at-map_block-requires c).At-loop-i)) }
+map_block-requires c = (omega (arith, c.requires, c.saturating_sub-blocks.ensures), omega (arith, c.saturating_sub-blocks.ensures))
 
-pub overflow_add-i : goal.overflow_add-i
-overflow_add-i c = omega arith
-
-pub loop-i-smaller : goal.loop-i-smaller
-loop-i-smaller c = omega arith
-
-pub loop-i-preserved : goal.loop-i-preserved
-loop-i-preserved c =
+pub loop-block-preserved : goal.loop-block-preserved
+loop-block-preserved c =
     let a = c.args in
-    let l = c.loop-i in (
-      omega arith,
-      front_more (index_at a.g a.map.now a.part.now) a.indices.now l.i 64 l.indices _
-          l.invariant.1 c.map_block.ensures,
-    )
-
-pub overflow_sub-n-2 : goal.overflow_sub-n-2
-overflow_sub-n-2 c = omega arith
+    let m = a.look_up.now in
+    let l = c.loop-block in
+    let more : 64 * l.block + 64 ≡ 64 * (l.block + 1) = omega arith in
+    front_more (index_at m.g m.map.now a.part.now) a.indices.now (64 * l.block) 64 l.indices _
+    l.invariant c.map_block.ensures
+    ∙ ap (λ (n : ℕ). write_band 0 n (index_at m.g m.map.now a.part.now) a.indices.now) more
 
 pub map_some-requires : goal.map_some-requires
-map_some-requires c =
-    let s = c in record { look_up = s.requires.look_up; inside = (omega (arith, s.requires.one_each), omega (arith, same (goal.at-map_some-requires c).At-loop-i)) }
-
-pub shape_of-indices : goal.shape_of-indices
-shape_of-indices c =
-    ap length c.map_some.ensures ∙ band_length _ _ _ _
-    ∙ same (goal.at-shape_of-indices c).At-loop-i
+map_some-requires c = (omega (arith, c.requires), omega (arith, c.saturating_sub-blocks.ensures))
 
 pub returns : goal.returns
 returns c =
     let a = c.args in
-    let l = c.loop-i in
-    front_rest (index_at a.g a.map.now a.part.now) a.indices.now l.i l.indices _
-    (omega (arith, l.invariant.0)) l.invariant.1 c.map_some.ensures
+    let m = a.look_up.now in
+    let all : c.loop-block.block ≡ c.saturating_sub-blocks.result / 64 = omega arith in
+    front_rest (index_at m.g m.map.now a.part.now) a.indices.now
+    (64 * (c.saturating_sub-blocks.result / 64)) c.loop-block.indices _ (omega (arith, c.saturating_sub-blocks.ensures))
+    (rw all at c.loop-block.invariant) c.map_some.ensures

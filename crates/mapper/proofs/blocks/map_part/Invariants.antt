@@ -1,13 +1,9 @@
--- `mapper::blocks::map_part` meets its contract: after i pixels the first i places hold their indices.
+-- `mapper::blocks::map_part` meets its contract: after some blocks the first 64 places of each hold their indices.
 -- Assumes nothing.
-use mathlib.Core.Path.{◌≡◌}
-use Prim.Native.Nat.{◌-◌, ◌≤◌}
+use Rattle.std.proofs.Common.{◌≡◌, ◌*◌}
 use Rattle.band.specs.Band.{index_at, write_band}
 use Rattle.mapper.proofs.blocks.map_part.Given as goal
 
-abbrev pub invariant-loop-i : goal.invariant-loop-i
-invariant-loop-i l =
-    (l.i ≤ l.n) × (l.indices ≡ write_band 0 l.i (index_at l.g l.map l.part) l.initial.indices)
-
-abbrev pub decreases-loop-i : goal.decreases-loop-i
-decreases-loop-i l = l.n - l.i
+abbrev pub invariant-loop-block : goal.invariant-loop-block
+invariant-loop-block l =
+    l.indices ≡ write_band 0 (64 * l.block) (index_at l.look_up.g l.look_up.map.now l.part) l.initial.indices

@@ -1,59 +1,18 @@
 -- `mapper::call::map_band` meets its contract: the part that is put back holds the indices of the band, and the rest is
 -- as it was.
 -- Assumes nothing.
-use Prim.Native.Nat.{◌+◌, ◌-◌, ◌*◌}
-use native.Mathlib.Omega.{arith}
-use borrow.Rule.Slice.PartMut.{mid_len}
+use Rattle.std.proofs.Common.{◌+◌, ◌-◌, ◌*◌, ◌∙◌, arith, take, drop}
+use Rattle.band.specs.Band.{index_at}
 use Rattle.band.proofs.Band.{part_length, part_written}
 use Rattle.band.proofs.Pixels.{part_index}
-use borrow.Author.Rules.{rules}
 use Rattle.mapper.proofs.call.map_band.Goals as goal
-
-pub steps-t1-requires : goal.steps-t1-requires
-steps-t1-requires c = search rules
-
-pub steps-t2-requires : goal.steps-t2-requires
-steps-t2-requires c = search rules
-
-pub overflow_add-end : goal.overflow_add-end
-overflow_add-end c = search rules
-
-pub overflow_mul-from : goal.overflow_mul-from
-overflow_mul-from c = search rules
-
-pub overflow_mul-to : goal.overflow_mul-to
-overflow_mul-to c = search rules
-
-pub slice_bounds-map_part-count : goal.slice_bounds-map_part-count
-slice_bounds-map_part-count c = search rules
-
-pub slice_bounds-map_part-count-2 : goal.slice_bounds-map_part-count-2
-slice_bounds-map_part-count-2 c = search rules
-
-pub map_part-requires : goal.map_part-requires
-map_part-requires c =
-    let s = c in
-    let a = s.args in record {
-      look_up = record {
-        of_grid = s.requires.of_grid;
-        one = c.steps-t1.ensures;
-        two = c.steps-t2.ensures;
-      };
-      one_each = omega (
-        arith,
-        part_length a.first a.pixels a.indices.now s.requires.inside.1,
-        mid_len (3 * a.first) (3 * (a.first + a.pixels)) a.frame.now (omega arith),
-      );
-    }
-
-pub shape_of-indices : goal.shape_of-indices
-shape_of-indices c = search rules
 
 pub returns : goal.returns
 returns c =
-    let s = c in
-    let a = s.args in
-    part_written a.first a.pixels _ _ _ a.indices.now _ s.requires.inside.1
-    (part_length a.first a.pixels a.indices.now s.requires.inside.1) c.map_part.ensures
-    (λ i h. part_index a.g a.map.now a.frame.now a.first (3 * (a.first + a.pixels) - 3 * a.first) i
-    (omega arith))
+    let a = c.args in
+    let m = c.of-look_up in
+    let k = 3 * (a.first + a.pixels) - 3 * a.first in
+    part_written a.first a.pixels _ _ _ a.indices.now _ c.requires.inside.1
+    (part_length a.first a.pixels a.indices.now c.requires.inside.1) c.map_part.ensures
+    (λ i h. (λ t. index_at (m.ensures.grid t) (m.ensures.map t) (take k (drop (3 * a.first) a.frame.now)) i)
+    ∙ part_index a.g a.map.now a.frame.now a.first k i (omega arith))

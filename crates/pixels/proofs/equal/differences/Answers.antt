@@ -12,31 +12,7 @@ use Rattle.pixels.proofs.equal.differences.Goals.{then-bytes-at, else-bytes-at}
 
 pub loop-k-init : goal.loop-k-init
 unfolding sum_from
-loop-k-init c = (omega arith, omega arith, refl)
-
-pub overflow_add-at : goal.overflow_add-at
-overflow_add-at c = omega arith
-
-pub bounds-bytes-at : goal.bounds-bytes-at
-bounds-bytes-at c = omega arith
-
-pub overflow_add-at-in-loop-k : goal.overflow_add-at-in-loop-k
-overflow_add-at-in-loop-k c = omega arith
-
-pub overflow_add-at-in-loop-k-2 : goal.overflow_add-at-in-loop-k-2
-overflow_add-at-in-loop-k-2 c = omega arith
-
-pub bounds-bytes-at-in-loop-k : goal.bounds-bytes-at-in-loop-k
-bounds-bytes-at-in-loop-k c = omega arith
-
-pub overflow_add-count : goal.overflow_add-count
-overflow_add-count c = omega arith
-
-pub overflow_add-k : goal.overflow_add-k
-overflow_add-k c = omega arith
-
-pub loop-k-smaller : goal.loop-k-smaller
-loop-k-smaller c = omega arith
+loop-k-init c = (omega arith, refl)
 
 pub loop-k-preserved : goal.loop-k-preserved
 loop-k-preserved c =
@@ -44,7 +20,6 @@ loop-k-preserved c =
     let a = c.args in
     let b = a.bytes.now in
     let last = sum_last a.at l.k (differs b) in (
-      omega arith,
       elim c.if-bytes-at.branch [ then-bytes-at w ↦ omega arith | else-bytes-at w ↦ omega arith ],
       elim c.if-bytes-at.branch [
         | then-bytes-at w ↦ omega (arith, last, unlike b (a.at + l.k) w.if-bytes-at.true)
@@ -57,4 +32,4 @@ returns c =
     let l = c.loop-k in
     let a = c.args in
     let all : l.k ≡ 192 = omega arith in
-    l.invariant.2 ∙ ap (λ (n : ℕ). sum_from a.at n (differs a.bytes.now)) all
+    l.invariant.1 ∙ ap (λ (n : ℕ). sum_from a.at n (differs a.bytes.now)) all

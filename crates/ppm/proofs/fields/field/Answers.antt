@@ -1,48 +1,44 @@
 -- `ppm::fields::field` meets its contract: a gap, a digit behind it, and the number.
 -- Assumes nothing.
-use mathlib.Core.Path.{sym, ◌∙◌}
+use mathlib.Core.Path.{refl, sym, ◌∙◌}
+use mathlib.Core.Bool.{false}
 use native.Mathlib.Omega.{arith}
-use borrow.Author.Tests.{not-true, not-false}
+use lib.ListN.{drop}
+use Rattle.ppm.specs.Header.{has_blank, after_gap}
+use Rattle.ppm.specs.Inner.{behind, blank_gap}
+use Rattle.ppm.proofs.Gaps.{gap_there, gap_bare}
 use Rattle.ppm.proofs.Headers.{field_no_blank, field_cut, field_no_digit, field_is}
-use borrow.Author.Rules.{rules}
+use Rattle.ppm.proofs.fields.field.Goals.{then-file-end-via-then-file-end, then-file-end-via-else-file-end+then-not-is_digit}
 use Rattle.ppm.proofs.fields.field.Goals as goal
 
-pub gap-g-requires : goal.gap-g-requires
-gap-g-requires c = search rules
-
-pub returns-then-not-g : goal.returns-then-not-g
-returns-then-not-g c =
-    let s = c in
-    let g = c.gap-g.ensures in
-    field_no_blank s.args.file.now s.args.at s.requires g.end (sym g.blank ∙ not-true _ c.if-not-g.true)
+pub returns-in_err-end : goal.returns-in_err-end
+unfolding blank_gap
+returns-in_err-end c =
+    let f = c.args.file.now in
+    let rest = drop c.args.at f in
+    c.from_residual.ensures
+    ∙ field_no_blank f c.args.at c.requires refl
+    (gap_bare (has_blank false rest) (behind f (after_gap false rest)) c.in_err-end.ensures)
 
 pub returns-then-file-end : goal.returns-then-file-end
+unfolding blank_gap
 returns-then-file-end c =
-    let s = c in
-    let g = c.gap-g.ensures in
-    field_cut s.args.file.now s.args.at s.requires g.end (λ h. omega (arith, c.if-file-end.true))
-
-pub bounds-file-end : goal.bounds-file-end
-bounds-file-end c = search rules
-
-pub is_digit-requires : goal.is_digit-requires
-is_digit-requires c = search rules
-
-pub returns-then-not-is_digit : goal.returns-then-not-is_digit
-returns-then-not-is_digit c =
-    let s = c in
-    let g = c.gap-g.ensures in
-    field_no_digit s.args.file.now s.args.at s.requires g.end (omega arith)
-    (sym c.is_digit.ensures ∙ c.if-not-is_digit.true)
-
-pub number-requires : goal.number-requires
-number-requires c = search rules
+    let f = c.args.file.now in
+    let rest = drop c.args.at f in
+    let g = gap_there (has_blank false rest) (behind f (after_gap false rest)) c.in_ok-end.ensures in
+    elim c.then-file-end.branch [
+      | then-file-end-via-then-file-end w ↦
+          field_cut f c.args.at c.requires g.1 (λ h. omega (arith, w.if-file-end.true))
+      | then-file-end-via-else-file-end+then-not-is_digit w ↦
+          field_no_digit f c.args.at c.requires g.1 (omega (arith, w.if-file-end.false))
+          (sym w.is_digit.ensures ∙ w.if-not-is_digit.true)
+    ]
 
 pub returns : goal.returns
+unfolding blank_gap
 returns c =
-    let s = c in
-    let g = c.gap-g.ensures in
-    field_is s.args.file.now s.args.at s.requires g.end (omega arith)
-    (sym g.blank ∙ not-false _ c.if-not-g.false)
-    (sym c.is_digit.ensures ∙ c.if-not-is_digit.false)
+    let f = c.args.file.now in
+    let rest = drop c.args.at f in
+    let g = gap_there (has_blank false rest) (behind f (after_gap false rest)) c.in_ok-end.ensures in
+    field_is f c.args.at c.requires g.1 (omega arith) g.0 (sym c.is_digit.ensures ∙ c.if-not-is_digit.false)
     c.number.ensures.value c.number.ensures.end

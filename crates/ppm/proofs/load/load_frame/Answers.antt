@@ -7,11 +7,7 @@ use Prim.Native.Nat.{ℕ}
 use native.Mathlib.Omega.{arith}
 use Rattle.loader.specs.Load.{load_number, load_later}
 use Rattle.ppm.proofs.Calls.{all_left, few_bytes, other_length, frame_loads}
-use borrow.Author.Rules.{rules}
 use Rattle.ppm.proofs.load.load_frame.Goals as goal
-
-pub overflow_sub-file : goal.overflow_sub-file
-overflow_sub-file c = search rules
 
 pub overflow_mul-f : goal.overflow_mul-f
 overflow_mul-f c = omega (arith, few_bytes c.requires)
@@ -22,15 +18,6 @@ overflow_mul-f-2 c = omega (arith, few_bytes c.requires)
 pub returns-then-file-from : goal.returns-then-file-from
 returns-then-file-from c =
     let a = c.args in let both = other_length a.b1 a.b2 a.b3 a.table.now a.file.now a.f c.if-file-from.true in record { number = both.0; later = both.1 }
-
-pub slice_bounds-load-count : goal.slice_bounds-load-count
-slice_bounds-load-count c = search rules
-
-pub load-requires : goal.load-requires
-load-requires c = search rules
-
-pub shape_of-table : goal.shape_of-table
-shape_of-table c = search rules
 
 pub returns : goal.returns
 returns c =

@@ -2,26 +2,10 @@
 -- Assumes nothing.
 use mathlib.Core.Path.{sym, ◌∙◌}
 use Rattle.ppm.proofs.Calls.{in_file, malformed, other_maximum, image}
-use borrow.Author.Rules.{rules}
 use Rattle.ppm.proofs.load.load_ppm.Goals as goal
-
-pub read_header-requires : goal.read_header-requires
-read_header-requires c = search rules
-
-pub enum_known-f : goal.enum_known-f
-enum_known-f c = search rules
 
 pub load_frame-requires : goal.load_frame-requires
 load_frame-requires c = in_file _ (sym c.read_header.ensures ∙ c.in-Image.is)
-
-pub enum_told-1 : goal.enum_told-1
-enum_told-1 c = search rules
-
-pub enum_told-in-Malformed : goal.enum_told-in-Malformed
-enum_told-in-Malformed c = search rules
-
-pub shape_of-table : goal.shape_of-table
-shape_of-table c = search rules
 
 pub returns-in-Image : goal.returns-in-Image
 returns-in-Image c =

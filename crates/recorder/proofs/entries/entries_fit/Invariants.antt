@@ -3,13 +3,13 @@
 -- Assumes nothing.
 use mathlib.Core.Path.{◌≡◌}
 use mathlib.Core.Bool.{true}
-use Prim.Native.Nat.{ℕ, ◌+◌, ◌-◌, ◌≤◌, ◌<◌}
+use Prim.Native.Nat.{ℕ, ◌+◌, ◌<◌}
 use Rattle.recorder.specs.Replay.{colours_before, is_entry}
 use Rattle.recorder.proofs.entries.entries_fit.Given as goal
 
 abbrev pub invariant-loop-i : goal.invariant-loop-i
 invariant-loop-i l =
-    (l.i ≤ l.n) × ((k : ℕ) → k < l.i → is_entry l.entries k ≡ true) × (l.left + colours_before l.entries l.i ≡ l.weights)
-
-abbrev pub decreases-loop-i : goal.decreases-loop-i
-decreases-loop-i l = l.n - l.i
+    record {
+      entries : (k : ℕ) → k < l.i → is_entry l.entries k ≡ true;
+      counts : l.left + colours_before l.entries l.i ≡ l.weights;
+    }

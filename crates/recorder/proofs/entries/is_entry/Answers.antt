@@ -4,7 +4,7 @@
 use mathlib.Core.Path.{◌≡◌, refl}
 use mathlib.Core.Bool.{Bool, true, false, ◌&&◌, ◌||◌}
 use Prim.Native.Nat.{ℕ, ◌+◌, ◌*◌}
-use borrow.Author.Rules.{rules}
+use native.Mathlib.Omega.{arith}
 use borrow.Author.Tests.{ne_eqb}
 use lib.Dec.{eqb}
 use lib.ListN.{get_or}
@@ -18,34 +18,20 @@ without_colours kind count e = rw e (go (eqb count 0))
     go true = refl
     go false = refl
 
-pub overflow_mul-kind : goal.overflow_mul-kind
-overflow_mul-kind c = search rules
-
-pub offset_bounds-entries-i : goal.offset_bounds-entries-i
-offset_bounds-entries-i c = search rules
-
-pub bounds-entries-i : goal.bounds-entries-i
-bounds-entries-i c = search rules
-
-pub overflow_mul-result : goal.overflow_mul-result
-overflow_mul-result c = search rules
-
-pub overflow_add-result : goal.overflow_add-result
-overflow_add-result c = search rules
-
-pub offset_bounds-entries-i-then-kind-eq0 : goal.offset_bounds-entries-i-then-kind-eq0
-offset_bounds-entries-i-then-kind-eq0 c = search rules
-
-pub bounds-entries-i-then-kind-eq0 : goal.bounds-entries-i-then-kind-eq0
-bounds-entries-i-then-kind-eq0 c = search rules
-
-pub returns-then-kind-eq0 : goal.returns-then-kind-eq0
+pub returns-in-0 : goal.returns-in-0
 unfolding is_entry kind_at count_at
-returns-then-kind-eq0 c =
+returns-in-0 c =
     let a = c.args in
-    without_colours (get_or a.entries.now (3 * a.i) 0) (get_or a.entries.now (3 * a.i + 2) 0)
-    c.if-kind-eq0.true
+    without_colours (get_or a.entries.now (3 * a.i) 0) (get_or a.entries.now (3 * a.i + 2) 0) c.in-0.is
 
-pub returns : goal.returns
-unfolding is_entry kind_at count_at
-returns c = simp (ne_eqb _ _ c.if-kind-eq0.false)
+pub returns-in-1 : goal.returns-in-1
+unfolding is_entry kind_at
+returns-in-1 c = rw c.in-1.is refl
+
+pub returns-in_default : goal.returns-in_default
+unfolding is_entry kind_at
+returns-in_default c =
+    let kind = get_or c.args.entries.now (3 * c.args.i) 0 in
+    let not_0 : kind ≡ 0 → ⊥ = λ e. omega arith in
+    let not_1 : kind ≡ 1 → ⊥ = λ e. omega arith in
+    simp (ne_eqb kind 0 not_0, ne_eqb kind 1 not_1)

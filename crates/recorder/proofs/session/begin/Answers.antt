@@ -1,11 +1,7 @@
 -- `recorder::session::begin` meets its contract: it reloads where nothing is in force.
 -- Assumes nothing.
-use borrow.Author.Rules.{rules}
 use Rattle.recorder.specs.Session.{begun}
 use Rattle.recorder.proofs.session.begin.Goals as goal
-
-pub reload-requires : goal.reload-requires
-reload-requires c = search rules
 
 pub returns : goal.returns
 unfolding begun

@@ -1,6 +1,5 @@
 -- `rescue::bins::walk_plane` meets its contract: after gr rows the walk stands where the next row begins.
 -- Assumes nothing.
-use Prim.Native.Nat.{◌-◌, ◌≤◌}
 use Rattle.grid.specs.Grid.{place_of}
 use Rattle.table.specs.Sound.{limit}
 use Rattle.rescue.specs.Inner.{Onward}
@@ -8,8 +7,6 @@ use Rattle.rescue.proofs.bins.walk_plane.Given as goal
 
 abbrev pub invariant-loop-gr : goal.invariant-loop-gr
 invariant-loop-gr l =
-    (l.gr ≤ l.g.size2)
-    × Onward limit l.g (place_of l.g l.r 0 0) (place_of l.g l.r l.gr 0) l.initial.table l.initial.reasons l.had l.table l.reasons l.total
-
-abbrev pub decreases-loop-gr : goal.decreases-loop-gr
-decreases-loop-gr l = l.g.size2 - l.gr
+    let g = l.spans.g in
+    Onward limit g (place_of g l.r 0 0) (place_of g l.r l.gr 0) l.initial.table l.initial.reasons l.had l.table l.reasons
+    l.total

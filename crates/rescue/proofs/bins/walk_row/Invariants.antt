@@ -1,14 +1,10 @@
 -- `rescue::bins::walk_row` meets its contract: after b bins the walk stands b places further.
 -- Assumes nothing.
-use Prim.Native.Nat.{◌+◌, ◌-◌, ◌≤◌}
+use Prim.Native.Nat.{◌+◌}
 use Rattle.table.specs.Sound.{limit}
 use Rattle.rescue.specs.Inner.{Onward}
 use Rattle.rescue.proofs.bins.walk_row.Given as goal
 
 abbrev pub invariant-loop-b : goal.invariant-loop-b
 invariant-loop-b l =
-    (l.b ≤ l.g.size3)
-    × Onward limit l.g l.start (l.start + l.b) l.initial.table l.initial.reasons l.had l.table l.reasons l.total
-
-abbrev pub decreases-loop-b : goal.decreases-loop-b
-decreases-loop-b l = l.g.size3 - l.b
+    Onward limit l.spans.g l.start (l.start + l.b) l.initial.table l.initial.reasons l.had l.table l.reasons l.total

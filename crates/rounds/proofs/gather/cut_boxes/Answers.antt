@@ -1,59 +1,43 @@
--- `rounds::gather::cut_boxes` meets its contract: the arrays hold the start, the loop's heap, and then the record's
--- places.
+-- `rounds::gather::cut_boxes` meets its contract: the heap is that of the start, then that of the loop's end.
 -- Assumes nothing.
-use mathlib.Core.Path.{refl, ap, ◌∙◌}
+use mathlib.Core.Path.{◌≡◌, refl, ap, ◌∙◌}
+use mathlib.Core.Bool.{false}
+use native.Mathlib.Omega.{arith}
 use borrow.Author.Rules.{rules}
-use lib.Ieee.{of_bits, div}
-use Rattle.table.specs.Layout.{laid_view}
-use Rattle.boxes.specs.Bytes.{pack_of}
-use Rattle.rounds.specs.Loop.{places_of, boxes_of}
-use Rattle.boxes.proofs.Packing.{within_bytes}
-use Rattle.rounds.proofs.Packing.{room_start}
-use Rattle.boxes.proofs.Whole.{whole_within}
-use Rattle.rounds.proofs.Filled.{heap_in_use}
+use lib.ListN.{replicate}
+use lib.Ieee.{inf, of_bits}
+use Rattle.grid.specs.declared.place.Grid.{Grid}
+use Rattle.boxes.specs.Box.{no_box, whole_of}
+use Rattle.heap.specs.Heap.{climb, put_in}
+use Rattle.rounds.specs.Loop.{by_spread, no_item, with_zero, start_room, places_of, boxes_of}
 use Rattle.rounds.proofs.gather.cut_boxes.Goals as goal
 
-pub bounds-spreads-0 : goal.bounds-spreads-0
-bounds-spreads-0 c = search rules
+-- the whole grid put in where nothing was is what the loop starts with
+starts : (g : Grid)
+    → put_in by_spread no_item (replicate 256 (with_zero no_box)) 0 (record { bounds = whole_of g; spread = inf false })
+    ≡ start_room g
+unfolding start_room put_in climb
+starts g = refl
 
-pub whole-requires : goal.whole-requires
-whole-requires c = c.requires.0.table.accepted
-
-pub packed-requires : goal.packed-requires
-packed-requires c =
-    rw c.whole.ensures (within_bytes (whole_within c.requires.0.table.accepted))
-
-pub bounds-boxes-0 : goal.bounds-boxes-0
-bounds-boxes-0 c = search rules
-
-pub all_rounds-end-requires : goal.all_rounds-end-requires
-unfolding of_bits div
-all_rounds-end-requires c =
-    let s = c in record {
-      can_sum = s.requires;
-      two_arrays = (
-        record { spreads_long = refl; boxes_long = refl },
-        room_start s.args.g refl
-            (c.packed.ensures ∙ ap pack_of c.whole.ensures)
-            (within_bytes (whole_within s.requires.0.table.accepted)),
-      );
-    }
-
-pub gathered-places-requires : goal.gathered-places-requires
-gathered-places-requires c =
-    let s = c in (
-      c.all_rounds-end.ensures.arrays,
-      rw c.all_rounds-end.ensures.boxes
-          (heap_in_use s.args.g (laid_view s.args.layout s.args.small.now s.args.large.now) s.args.k s.requires.1).most,
+pub all_rounds-rounds-requires-clause-start : goal.all_rounds-rounds-requires-clause-start
+unfolding of_bits
+all_rounds-rounds-requires-clause-start ty c =
+    let none : c.default.result ≡ with_zero no_box = search rules in
+    let n = c.new-heap.ensures in
+    let e = c.put_in.ensures in (
+      omega arith,
+      e.room
+          ∙ (λ i. put_in by_spread no_item ((n.room ∙ ap (replicate 256) none) i) (n.len i)
+          (record { bounds = c.whole.ensures i; spread = inf false }))
+          ∙ starts c.args.g,
     )
 
 pub returns : goal.returns
 unfolding boxes_of
-returns c =
-    let e = c.all_rounds-end.ensures in
-    λ i.
-    record {
-      boxes = e.boxes i;
+returns ty c =
+    let e = c.all_rounds-rounds.ensures in
+    λ i. record {
+      boxes = (c.len.ensures ∙ e.boxes) i;
       rounds = e.rounds i;
-      places = (c.gathered-places.ensures ∙ (λ j. places_of (e.room j) (e.boxes j))) i;
+      places = (c.gathered.ensures ∙ (λ j. places_of (e.room j) (e.boxes j))) i;
     }

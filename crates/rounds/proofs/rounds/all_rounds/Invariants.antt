@@ -2,17 +2,15 @@
 -- end.
 -- Assumes nothing.
 use Rattle.table.specs.Layout.{laid_view}
-use Rattle.heap.specs.TwoArrays.{TwoArrays}
-use Rattle.rounds.specs.Inner.{room_in}
 use Rattle.rounds.proofs.Filled.{Each, OfGrid}
 use Rattle.rounds.proofs.Fuel.{need, ToCome}
 use Rattle.rounds.proofs.rounds.all_rounds.Given as goal
 
-abbrev pub invariant-loop-len : goal.invariant-loop-len
-invariant-loop-len l =
-    TwoArrays l.spreads l.boxes
-    × Each (OfGrid l.g) (room_in l.spreads l.boxes) l.len
-    × ToCome l.g (laid_view l.layout l.small l.large) l.k (room_in l.spreads l.boxes) l.len l.rounds
+abbrev pub invariant-loop-source : goal.invariant-loop-source
+invariant-loop-source ty l = record {
+  of_grid : Each (OfGrid l.g) l.heap.room l.heap.len;
+  to_come : ToCome l.g (laid_view ty.L.Layout.layout l.small l.large) l.k l.heap.room l.heap.len l.rounds;
+}
 
-abbrev pub decreases-loop-len : goal.decreases-loop-len
-decreases-loop-len l = need l.k (room_in l.spreads l.boxes) l.len
+abbrev pub decreases-loop-source : goal.decreases-loop-source
+decreases-loop-source ty l = need l.k l.heap.room l.heap.len

@@ -2,10 +2,11 @@
 -- Assumes nothing.
 use mathlib.Core.Path.{refl, sym, ap, ◌∙◌}
 use mathlib.Core.List.{List}
-use Prim.Native.Nat.{◌<◌}
+use native.Mathlib.Nat.{le_of_lt}
 use native.Mathlib.Omega.{arith}
 use lib.ListN.{length}
-use Rattle.rounds.specs.declared.gather.BoxSpread.{BoxSpread}
+use Rattle.heap.specs.declared.heap.BoxSpread.{BoxSpread}
+use Rattle.cutter.specs.Cut.{done_record}
 use Rattle.cutter.specs.Fronts.{filled}
 use Rattle.cutter.proofs.Fronts.{filled_none}
 use Rattle.seluvava.specs.Cut.{its_bytes, spread_of}
@@ -13,80 +14,40 @@ use Rattle.seluvava.proofs.Boxes.{six, one, told_all, boxes_next, spreads_next, 
 use Rattle.seluvava.proofs.arrays.put_boxes.Goals as goal
 
 pub loop-i-init : goal.loop-i-init
-loop-i-init c = (omega arith, sym (filled_none 6 its_bytes six _), sym (filled_none 1 spread_of one _))
-
-pub offset_bounds-r-i : goal.offset_bounds-r-i
-offset_bounds-r-i c = omega (arith, c.loop-i-test.true, c.requires)
-
-pub bounds-r-i : goal.bounds-r-i
-bounds-r-i c = omega (arith, c.loop-i-test.true, c.requires)
+loop-i-init c = (sym (filled_none 6 its_bytes six _), sym (filled_none 1 spread_of one _))
 
 pub put_box-requires : goal.put_box-requires
+unfolding done_record
 put_box-requires c =
-    let s = c in
     let l = c.loop-i in
-    omega (
-      arith,
-      c.loop-i-test.true,
-      s.requires,
-      ap length l.invariant.1,
-      boxes_long s.args.r s.requires.0 s.requires.1 l.i l.invariant.0 s.args.boxes.now s.requires.2,
-    )
-
-pub offset_bounds-spreads-i : goal.offset_bounds-spreads-i
-offset_bounds-spreads-i c =
-    omega (
-      arith,
-      c.loop-i-test.true,
-      c.requires,
-    )
+    let r = c.requires in
+    let long = boxes_long (done_record c.args.b.now) r.0 r.1 l.i (le_of_lt c.loop-i-test.true) c.args.boxes.now r.2 in
+    omega (arith, c.loop-i-test.true, r.2, ap length l.invariant.0, long)
 
 pub bounds-spreads-i : goal.bounds-spreads-i
+unfolding done_record
 bounds-spreads-i c =
-    let s = c in
     let l = c.loop-i in
-    omega (
-      arith,
-      c.loop-i-test.true,
-      s.requires,
-      ap length l.invariant.2,
-      spreads_long s.args.r s.requires.0 s.requires.1 l.i l.invariant.0 s.args.spreads.now s.requires.3,
-    )
-
-pub overflow_add-i : goal.overflow_add-i
-overflow_add-i c =
-    omega (
-      arith,
-      c.loop-i-test.true,
-      c.requires,
-    )
-
-pub loop-i-smaller : goal.loop-i-smaller
-loop-i-smaller c = omega (arith, c.loop-i-test.true)
+    let r = c.requires in
+    let long = spreads_long (done_record c.args.b.now) r.0 r.1 l.i (le_of_lt c.loop-i-test.true) c.args.spreads.now r.3 in
+    omega (arith, c.loop-i-test.true, r.3, ap length l.invariant.1, long)
 
 pub loop-i-preserved : goal.loop-i-preserved
+unfolding done_record
 loop-i-preserved c =
-    let s = c in
     let l = c.loop-i in
-    let t : l.i < s.args.r.boxes = c.loop-i-test.true in (
-      omega (arith, t),
-      boxes_next s.args.r s.requires.0 s.requires.1 l.i t refl s.args.boxes.now s.requires.2 l.invariant.1
-          c.put_box.ensures,
-      spreads_next s.args.r s.requires.0 s.requires.1 l.i t refl s.args.spreads.now s.requires.3
-          l.invariant.2 refl,
+    let r = c.requires in
+    let b = done_record c.args.b.now in
+    let t = c.loop-i-test.true in (
+      boxes_next b r.0 r.1 l.i t refl c.args.boxes.now r.2 l.invariant.0 c.put_box.ensures,
+      spreads_next b r.0 r.1 l.i t refl c.args.spreads.now r.3 l.invariant.1 refl,
     )
 
-pub shape_of-boxes : goal.shape_of-boxes
-shape_of-boxes c = let s = c in let l = c.loop-i in ap length l.invariant.1
-    ∙ boxes_long s.args.r s.requires.0 s.requires.1 l.i l.invariant.0 s.args.boxes.now s.requires.2
-
-pub shape_of-spreads : goal.shape_of-spreads
-shape_of-spreads c = let s = c in let l = c.loop-i in ap length l.invariant.2
-    ∙ spreads_long s.args.r s.requires.0 s.requires.1 l.i l.invariant.0 s.args.spreads.now s.requires.3
-
 pub returns : goal.returns
+unfolding done_record
 returns c =
-    let s = c in
     let l = c.loop-i in
-    let all =
-    told_all s.args.r s.requires.0 s.requires.1 {i = l.i} (omega (arith, l.invariant.0, c.loop-i-test.false)) in record { boxes = l.invariant.1 ∙ ap (λ (xs : List BoxSpread). filled 6 its_bytes xs s.args.boxes.now) all; spreads = l.invariant.2 ∙ ap (λ (xs : List BoxSpread). filled 1 spread_of xs s.args.spreads.now) all }
+    let all = told_all (done_record c.args.b.now) c.requires.0 c.requires.1 {i = l.i} (omega arith) in record {
+      boxes = l.invariant.0 ∙ ap (λ (xs : List BoxSpread). filled 6 its_bytes xs c.args.boxes.now) all;
+      spreads = l.invariant.1 ∙ ap (λ (xs : List BoxSpread). filled 1 spread_of xs c.args.spreads.now) all;
+    }

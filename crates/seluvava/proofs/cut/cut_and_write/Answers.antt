@@ -1,83 +1,76 @@
--- `seluvava::cut::cut_and_write` meets its contract: without the room nothing is cut, and else the boxes of the record
+-- `seluvava::cut::cut_and_write` meets its contract: without the room nothing is cut, and else the boxes of the cut
 -- are written.
 -- Assumes nothing.
-use mathlib.Core.Path.{sym, ◌∙◌}
+use mathlib.Core.Path.{refl, sym, ◌∙◌}
 use native.Mathlib.Omega.{arith}
-use borrow.Author.Rules.{rules}
+use borrow.Author.Tests.{eqb-false}
 use lib.ListN.{length}
+use Rattle.basics.proofs.Refusals.{not_done}
 use Rattle.table.specs.Layout.{TableIn, laid}
-use Rattle.cutter.specs.Cut.{BuffersIn, buffers_in}
+use Rattle.cutter.specs.Cut.{BuffersIn, buffers_in, done_record, refused_record}
+use Rattle.cutter.proofs.Fronts.{filled_none}
 use Rattle.cutter.proofs.RecordSize.{few, all_places}
-use Rattle.seluvava.specs.Cut.{LentIn, lent_in}
+use Rattle.seluvava.specs.Cut.{LentIn, lent_in, its_bytes, spread_of, told}
+use Rattle.seluvava.proofs.Boxes.{six, one}
 use Rattle.seluvava.proofs.Calls.{roomy, call_refused, call_done}
+use Rattle.seluvava.proofs.cut.cut_and_write.Given.{Over}
 use Rattle.seluvava.proofs.cut.cut_and_write.Goals.{Start}
 use Rattle.seluvava.proofs.cut.cut_and_write.Goals as goal
 
-abbrev table : (s : Start) → TableIn s.args.layout
-table s = laid s.args.layout s.args.small.now s.args.large.now
+module _ (g : Over) (s : Start g) where
+  abbrev table : TableIn g.L.Layout.layout
+  table = laid g.L.Layout.layout s.args.small.now s.args.large.now
 
-abbrev five : (s : Start) → BuffersIn s.args.layout
-five s =
-    buffers_in s.args.layout (laid s.args.layout s.args.smallwork.now s.args.largework.now)
-    s.args.palette.now s.args.counts.now s.args.remainders.now s.args.map.now
+  abbrev five : BuffersIn g.L.Layout.layout
+  five =
+      buffers_in g.L.Layout.layout (laid g.L.Layout.layout s.args.smallwork.now s.args.largework.now)
+      s.args.palette.now s.args.counts.now s.args.remainders.now s.args.map.now
 
-abbrev all : (s : Start) → LentIn s.args.layout
-all s = lent_in s.args.layout (five s) s.args.boxes.now s.args.spreads.now
+  abbrev all : LentIn g.L.Layout.layout
+  all = lent_in g.L.Layout.layout five s.args.boxes.now s.args.spreads.now
 
-pub room_number-number-requires : goal.room_number-number-requires
-room_number-number-requires c = search rules
-
-pub returns-then-number-ne0 : goal.returns-then-number-ne0
-returns-then-number-ne0 c =
-    let s = (goal.at-returns-then-number-ne0 c).Start in let both = call_refused s.args.layout s.args.source s.args.b1 s.args.b2 s.args.b3 s.args.k (table s) (all s)
-    c.room_number-number.ensures c.if-number-ne0.true in record { answer = both.0; later = both.1 }
-
-pub cut_from-r-requires : goal.cut_from-r-requires
-cut_from-r-requires c = search rules
+pub returns-in-Err : goal.returns-in-Err
+returns-in-Err g c =
+    let a = c.args in
+    let s = (goal.at-returns-in-Err g c).Start in
+    let both = call_refused g.L.Layout.layout a.source a.b1 a.b2 a.b3 a.k (table g s) (all g s) c.in-Err.ensures
+    (eqb-false _ 0 (not_done c.in-Err.refusal)) in
+    record { answer = c.refused.ensures ∙ both.0; later = both.1 }
 
 pub put_boxes-requires : goal.put_boxes-requires
-put_boxes-requires c =
-    let s = (goal.at-put_boxes-requires c).Start in
-    let r = roomy s.args.b1 s.args.b2 s.args.b3 s.args.k (length s.args.boxes.now)
-    (length s.args.spreads.now)
-    (sym c.room_number-number.ensures ∙ c.if-number-ne0.false) in
-    let e = c.cut_from-r.ensures.answer in
-    let n = few s.args.layout s.args.source s.args.k r.least r.most (table s) s.args.b1
-    s.args.b2 s.args.b3 (five s) e in (
-      all_places s.args.layout s.args.source s.args.k (table s) s.args.b1 s.args.b2 s.args.b3
-          (five s) e,
+unfolding done_record
+put_boxes-requires g c =
+    let a = c.args in
+    let l = g.L.Layout.layout in
+    let s = (goal.at-put_boxes-requires g c).Start in
+    let r = roomy a.b1 a.b2 a.b3 a.k (length a.boxes.now) (length a.spreads.now) (sym c.in_default.ensures) in
+    let e = c.in-Ok.ensures.answer in
+    let n = few l a.source a.k r.least r.most (table g s) a.b1 a.b2 a.b3 (five g s) e in (
+      all_places l a.source a.k (table g s) a.b1 a.b2 a.b3 (five g s) e,
       omega (arith, n, r.most),
       omega (arith, n, r.boxes_fit),
       omega (arith, n, r.spreads_fit),
     )
 
-pub shape_of-smallwork : goal.shape_of-smallwork
-shape_of-smallwork c = c.smallwork-1.given
+pub returns-in-Ok : goal.returns-in-Ok
+unfolding done_record
+returns-in-Ok g c =
+    let a = c.args in
+    let s = (goal.at-returns-in-Ok g c).Start in
+    let e = c.in-Ok.ensures in
+    let put = c.put_boxes.ensures in
+    let both = call_done g.L.Layout.layout a.source a.b1 a.b2 a.b3 a.k (table g s) (all g s) c.in_default.ensures
+    refl e.answer e.later put.boxes put.spreads in
+    record { answer = both.0; later = both.1 }
 
-pub shape_of-largework : goal.shape_of-largework
-shape_of-largework c = c.largework-1.given
-
-pub shape_of-palette : goal.shape_of-palette
-shape_of-palette c = c.palette-1.given
-
-pub shape_of-counts : goal.shape_of-counts
-shape_of-counts c = c.counts-1.given
-
-pub shape_of-remainders : goal.shape_of-remainders
-shape_of-remainders c = c.remainders-1.given
-
-pub shape_of-map : goal.shape_of-map
-shape_of-map c = c.map-1.given
-
-pub shape_of-boxes : goal.shape_of-boxes
-shape_of-boxes c = c.boxes-1.given
-
-pub shape_of-spreads : goal.shape_of-spreads
-shape_of-spreads c = c.spreads-1.given
-
-pub returns : goal.returns
-returns c =
-    let s = (goal.at-returns c).Start in
-    let e = c.cut_from-r.ensures in
-    let put = c.put_boxes.ensures in let both = call_done s.args.layout s.args.source s.args.b1 s.args.b2 s.args.b3 s.args.k (table s) (all s)
-    c.room_number-number.ensures c.if-number-ne0.false e.answer e.later put.boxes put.spreads in record { answer = both.0; later = both.1 }
+-- of a refusal no box is told
+pub returns-in-Err-result : goal.returns-in-Err-result
+unfolding refused_record told
+returns-in-Err-result g c =
+    let a = c.args in
+    let s = (goal.at-returns-in-Err-result g c).Start in
+    let e = c.in-Err-result.ensures in
+    let both = call_done g.L.Layout.layout a.source a.b1 a.b2 a.b3 a.k (table g s) (all g s) c.in_default.ensures
+    refl e.answer e.later
+    (sym (filled_none 6 its_bytes six _)) (sym (filled_none 1 spread_of one _)) in
+    record { answer = c.refused-in-Err-result.ensures ∙ both.0; later = both.1 }

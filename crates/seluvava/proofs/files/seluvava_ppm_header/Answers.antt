@@ -1,28 +1,9 @@
 -- `seluvava::files::seluvava_ppm_header` meets its contract: each case of the header with its values.
 -- Assumes nothing.
 use mathlib.Core.Path.{refl, sym, ◌∙◌}
-use borrow.Author.Rules.{rules}
 use Rattle.ppm.specs.Header.{header_answer}
 use Rattle.seluvava.specs.Files.{ppm_answer, ppm_header}
 use Rattle.seluvava.proofs.files.seluvava_ppm_header.Goals as goal
-
-pub read_header-requires : goal.read_header-requires
-read_header-requires c = search rules
-
-pub enum_known-f : goal.enum_known-f
-enum_known-f c = search rules
-
-pub enum_told-1 : goal.enum_told-1
-enum_told-1 c = search rules
-
-pub refused-requires : goal.refused-requires
-refused-requires c = search rules
-
-pub enum_told-in-Malformed : goal.enum_told-in-Malformed
-enum_told-in-Malformed c = search rules
-
-pub refused-requires-in-Malformed : goal.refused-requires-in-Malformed
-refused-requires-in-Malformed c = search rules
 
 pub returns-in-Image : goal.returns-in-Image
 unfolding ppm_header ppm_answer header_answer

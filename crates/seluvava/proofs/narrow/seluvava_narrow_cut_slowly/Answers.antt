@@ -2,41 +2,13 @@
 -- table.
 -- Assumes nothing.
 use mathlib.Core.Path.{sym, ap, ◌∙◌}
-use borrow.Author.Rules.{rules}
-use Rattle.table.specs.declared.layout.Layout.TheVariants.{Narrow}
+use Rattle.table.specs.Layouts.{Narrow}
 use Rattle.table.specs.Narrow.{narrow_table}
 use Rattle.sums.specs.declared.source.Source.TheVariants.{Bins}
 use Rattle.cutter.specs.Cut.{buffers_in, no_work_in}
 use Rattle.seluvava.specs.Cut.{LentIn, lent_in, call_later_in}
 use Rattle.seluvava.proofs.Calls.{call_leaves_work}
 use Rattle.seluvava.proofs.narrow.seluvava_narrow_cut_slowly.Goals as goal
-
-pub slice_bounds-cut_and_write-end : goal.slice_bounds-cut_and_write-end
-slice_bounds-cut_and_write-end c = search rules
-
-pub slice_bounds-cut_and_write-end-2 : goal.slice_bounds-cut_and_write-end-2
-slice_bounds-cut_and_write-end-2 c = search rules
-
-pub cut_and_write-requires : goal.cut_and_write-requires
-cut_and_write-requires c = search rules
-
-pub shape_of-palette : goal.shape_of-palette
-shape_of-palette c = c.palette-1.given
-
-pub shape_of-counts : goal.shape_of-counts
-shape_of-counts c = c.counts-1.given
-
-pub shape_of-remainders : goal.shape_of-remainders
-shape_of-remainders c = c.remainders-1.given
-
-pub shape_of-map : goal.shape_of-map
-shape_of-map c = c.map-1.given
-
-pub shape_of-boxes : goal.shape_of-boxes
-shape_of-boxes c = c.boxes-1.given
-
-pub shape_of-spreads : goal.shape_of-spreads
-shape_of-spreads c = c.spreads-1.given
 
 pub returns : goal.returns
 returns c =

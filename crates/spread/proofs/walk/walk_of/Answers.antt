@@ -4,7 +4,6 @@
 use mathlib.Core.Path.{◌≡◌, ap, ◌∙◌}
 use Prim.Native.Nat.{◌≤◌}
 use native.Mathlib.Omega.{arith}
-use borrow.Author.Rules.{rules}
 use Rattle.grid.specs.Grid.{size_at}
 use Rattle.boxes.specs.Box.{min_at, max_at}
 use Rattle.spread.specs.Inner.{outer_of, inner_of, start_of, walk_of}
@@ -62,30 +61,6 @@ module _ (k : After-end_bin-inner_end) where
 
   inner_end_fits : k.end_bin-inner_end.result ≤ size_at s.args.g (inner_of s.args.dimension)
   inner_end_fits = omega (arith, inner_end_lem, s.requires.fits (inner_of s.args.dimension))
-
-pub outer_of-requires : goal.outer_of-requires
-outer_of-requires c = search rules
-
-pub first_bin-outer-requires : goal.first_bin-outer-requires
-first_bin-outer-requires c = search rules
-
-pub inner_of-requires : goal.inner_of-requires
-inner_of-requires c = search rules
-
-pub first_bin-inner-requires : goal.first_bin-inner-requires
-first_bin-inner-requires c = search rules
-
-pub outer_of-requires-2 : goal.outer_of-requires-2
-outer_of-requires-2 c = search rules
-
-pub end_bin-outer_end-requires : goal.end_bin-outer_end-requires
-end_bin-outer_end-requires c = search rules
-
-pub inner_of-requires-2 : goal.inner_of-requires-2
-inner_of-requires-2 c = search rules
-
-pub end_bin-inner_end-requires : goal.end_bin-inner_end-requires
-end_bin-inner_end-requires c = search rules
 
 pub stride_of-requires : goal.stride_of-requires
 stride_of-requires c = c.requires.accepted

@@ -1,13 +1,9 @@
--- `sums::stats_of` meets its contract: number by number.
+-- `sums::box_sums::stats_of` meets its contract: number by number.
 -- Assumes nothing.
-use mathlib.Core.Path.{ap, ◌∙◌}
-use borrow.Author.Rules.{rules}
+use Rattle.std.proofs.Common.{ap, ◌∙◌}
 use Rattle.sums.specs.Box.{whole}
 use Rattle.sums.proofs.Corners.{cell_numbers}
 use Rattle.sums.proofs.box_sums.stats_of.Goals as goal
-
-pub in_float-requires : goal.in_float-requires
-in_float-requires c = search rules
 
 pub returns : goal.returns
 returns c =

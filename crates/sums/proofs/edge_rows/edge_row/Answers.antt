@@ -1,71 +1,43 @@
--- `sums::edge_rows::edge_row` meets its contract: after b bins of the row their moments stand, and the line is the sum
--- along them.
+-- `sums::edge_rows::edge_row` meets its contract: after b bins of the row their moments stand, and the line is the sum along
+-- them.
 -- Assumes nothing.
-use mathlib.Core.Path.{◌≡◌, refl, sym, ap, ◌∙◌}
-use Prim.Native.Nat.{ℕ, ◌+◌}
-use native.Mathlib.Nat.{add-zero, add_assoc}
-use native.Mathlib.Omega.{arith}
-use borrow.Author.Rules.{rules}
-use Rattle.grid.specs.Grid.{place_of}
-use Rattle.grid.proofs.Places.{three, place_along}
-use Rattle.grid.proofs.Size.{size_high}
+use Rattle.std.proofs.Common.{◌≡◌, ℕ, ◌+◌, sym, ap, ◌∙◌, add-zero, add_assoc, arith}
+use Rattle.grid.specs.Grid.{place_of, Inside}
+use Rattle.grid.proofs.Places.{place_along}
 use Rattle.table.specs.Layout.{laid_view}
 use Rattle.sums.proofs.Steps.{line_start, before_same, row_ready, one_on}
+use Rattle.sums.proofs.edge_rows.edge_row.Given.{Over}
+use Rattle.sums.proofs.edge_rows.edge_row.Goals.{In-loop-b}
 use Rattle.sums.proofs.edge_rows.edge_row.Goals as goal
 
 pub loop-b-init : goal.loop-b-init
-loop-b-init c =
-    let s = c in (
-      omega arith,
-      line_start s.args.g (laid_view s.args.layout s.args.small.now s.args.large.now) s.args.r s.args.gr,
-      before_same s.requires.ready.before (sym (add-zero _)),
-      refl,
-      refl,
-    )
+loop-b-init g c = (
+  line_start c.args.g (laid_view g.L.Layout.layout c.args.small.now c.args.large.now) c.args.r c.args.gr,
+  before_same c.requires.ready.before (sym (add-zero _)),
+)
 
-pub edge_bin-line-requires : goal.edge_bin-line-requires
-edge_bin-line-requires c =
-    let s = c in
-    let l = c.loop-b in
-    let i = s.requires.ready.inside in record {
-      ready = row_ready (record { accepted = i.accepted; one = i.one; two = i.two; three = c.loop-b-test.true })
-          l.invariant.2;
-      line_value = l.invariant.1;
-      at_edge = s.requires.at_edge;
-    }
+-- the next bin of the row
+inside : (g : Over) (k : In-loop-b g) → Inside k.args.g k.args.r k.args.gr k.loop-b.b
+inside g k =
+    let i = k.requires.ready.inside in
+    record { accepted = i.accepted; one = i.one; two = i.two; three = k.loop-b-test.true }
 
-pub overflow_add-b : goal.overflow_add-b
-overflow_add-b c =
-    omega (arith, c.loop-b-test.true, size_high (three c.requires.ready.inside.accepted))
-
-pub loop-b-smaller : goal.loop-b-smaller
-loop-b-smaller c = omega arith
+pub edge_bin-line-requires-clause-ready : goal.edge_bin-line-requires-clause-ready
+edge_bin-line-requires-clause-ready g c =
+    row_ready (inside g (goal.at-edge_bin-line-requires-clause-ready g c).In-loop-b) c.loop-b.invariant.1
 
 pub loop-b-preserved : goal.loop-b-preserved
-loop-b-preserved c =
-    let s = c in
+loop-b-preserved g c =
     let l = c.loop-b in
-    let i = s.requires.ready.inside in
-    let ready =
-    row_ready (record { accepted = i.accepted; one = i.one; two = i.two; three = c.loop-b-test.true }) l.invariant.2 in (
-      omega (arith, c.loop-b-test.true),
+    let ready = row_ready (inside g (goal.at-loop-b-preserved g c).In-loop-b) l.invariant.1 in (
       c.edge_bin-line.ensures.sums,
       before_same (one_on ready c.edge_bin-line.ensures.later)
-          (ap (λ (n : ℕ). n + 1) (sym (place_along s.args.g s.args.r s.args.gr l.b))
-          ∙ add_assoc _ l.b 1),
-      search rules,
-      search rules,
+          (ap (λ (n : ℕ). n + 1) (sym (place_along c.args.g c.args.r c.args.gr l.b)) ∙ add_assoc _ l.b 1),
     )
 
-pub shape_of-smallwork : goal.shape_of-smallwork
-shape_of-smallwork c = c.loop-b.invariant.3
-
-pub shape_of-largework : goal.shape_of-largework
-shape_of-largework c = c.loop-b.invariant.4
-
 pub returns : goal.returns
-returns c =
+returns g c =
     let l = c.loop-b in
     let a = c.args in
     let all : l.b ≡ a.g.size3 = omega arith in
-    before_same l.invariant.2 (ap (λ (n : ℕ). place_of a.g a.r a.gr 0 + n) all)
+    before_same l.invariant.1 (ap (λ (n : ℕ). place_of a.g a.r a.gr 0 + n) all)

@@ -1,21 +1,14 @@
--- `sums::edge_rows::edge_row` meets its contract: after b bins of the row their moments stand, and the line is the sum
--- along them.
+-- `sums::edge_rows::edge_row` meets its contract: after b bins of the row their moments stand, and the line is the sum along
+-- them.
 -- Assumes nothing.
-use mathlib.Core.Path.{◌≡◌}
-use Prim.Native.Nat.{◌+◌, ◌≤◌, ◌-◌}
-use lib.ListN.{length}
+use Rattle.std.proofs.Common.{◌≡◌, ◌+◌}
 use Rattle.grid.specs.Grid.{place_of}
 use Rattle.table.specs.Layout.{laid, laid_view}
 use Rattle.sums.specs.Inner.{line_cell, Before}
 use Rattle.sums.proofs.edge_rows.edge_row.Given as goal
 
 abbrev pub invariant-loop-b : goal.invariant-loop-b
-invariant-loop-b l =
-    (l.b ≤ l.g.size3)
-    × (l.line ≡ line_cell l.g (laid_view l.layout l.small l.large) l.r l.gr l.b)
-    × Before l.layout l.g (laid l.layout l.small l.large) (laid l.layout l.smallwork l.largework) (place_of l.g l.r l.gr 0 + l.b)
-    × (length l.smallwork ≡ length l.initial.smallwork)
-    × (length l.largework ≡ length l.initial.largework)
-
-abbrev pub decreases-loop-b : goal.decreases-loop-b
-decreases-loop-b l = l.g.size3 - l.b
+invariant-loop-b g l =
+    let layout = g.L.Layout.layout in
+    (l.line ≡ line_cell l.g (laid_view layout l.small l.large) l.r l.gr l.b)
+    × Before layout l.g (laid layout l.small l.large) (laid layout l.smallwork l.largework) (place_of l.g l.r l.gr 0 + l.b)

@@ -1,19 +1,18 @@
 -- `sums::inner_rows::inner_at` meets its contract: the line and three neighbours, which are all there.
 -- Assumes nothing.
--- ---- the places of the three neighbours, from the bin's own
-use mathlib.Core.Path.{◌≡◌}
-use Prim.Native.Nat.{ℕ, ◌+◌, ◌-◌, ◌*◌}
-use native.Mathlib.Omega.{arith}
+use Rattle.std.proofs.Common.{◌≡◌, ℕ, ◌+◌, ◌-◌, ◌*◌, arith}
 use Rattle.grid.specs.Grid.{place_of}
 use Rattle.grid.proofs.Places.{plane_high}
 use Rattle.table.specs.declared.cell.Cell.{Cell}
 use Rattle.table.specs.Layout.{laid_view}
 use Rattle.sums.proofs.Steps.{Has, near_cell, above_has, before_has, corner_has, can_join, joined_is}
 use Rattle.sums.proofs.Steps.{row_back, plane_back, both_back}
-use Rattle.sums.proofs.inner_rows.inner_at.Goals.{After-cell_in-corner, Start}
+use Rattle.sums.proofs.inner_rows.inner_at.Given.{Over}
+use Rattle.sums.proofs.inner_rows.inner_at.Goals.{After-cell-corner, Start}
 use Rattle.sums.proofs.inner_rows.inner_at.Goals as goal
 
-module _ (s : Start) where
+-- ---- the places of the three neighbours, from the bin's own
+module _ (g : Over) (s : Start g) where
   abbrev p : ℕ
   p = s.args.p
 
@@ -43,60 +42,60 @@ module _ (s : Start) where
   is_corner = omega (arith, corner_place)
 
 pub overflow_mul-plane : goal.overflow_mul-plane
-overflow_mul-plane c = omega (arith, plane_high c.requires.ready.inside.accepted)
+overflow_mul-plane g c = omega (arith, plane_high c.requires.ready.inside.accepted)
 
 pub overflow_sub-p : goal.overflow_sub-p
-overflow_sub-p c = omega (arith, above_place (goal.at-overflow_sub-p c).Start)
+overflow_sub-p g c = omega (arith, above_place g (goal.at-overflow_sub-p g c).Start)
 
-pub cell_in-above-requires : goal.cell_in-above-requires
-cell_in-above-requires c =
-    let s = (goal.at-cell_in-above-requires c).Start in
-    near_cell s.requires.ready s.args.r (s.args.gr - 1) (omega arith) (omega arith) (is_above s)
+pub cell-above-requires : goal.cell-above-requires
+cell-above-requires g c =
+    near_cell c.requires.ready c.args.r (c.args.gr - 1) (omega arith) (omega arith)
+    (is_above g (goal.at-cell-above-requires g c).Start)
 
 pub overflow_sub-p-2 : goal.overflow_sub-p-2
-overflow_sub-p-2 c = omega (arith, before_place (goal.at-overflow_sub-p-2 c).Start)
+overflow_sub-p-2 g c = omega (arith, before_place g (goal.at-overflow_sub-p-2 g c).Start)
 
-pub cell_in-before-requires : goal.cell_in-before-requires
-cell_in-before-requires c =
-    let s = (goal.at-cell_in-before-requires c).Start in
-    near_cell s.requires.ready (s.args.r - 1) s.args.gr (omega arith) (omega arith) (is_before s)
+pub cell-before-requires : goal.cell-before-requires
+cell-before-requires g c =
+    near_cell c.requires.ready (c.args.r - 1) c.args.gr (omega arith) (omega arith)
+    (is_before g (goal.at-cell-before-requires g c).Start)
 
 pub overflow_sub-p-3 : goal.overflow_sub-p-3
-overflow_sub-p-3 c = omega (arith, before_place (goal.at-overflow_sub-p-3 c).Start)
+overflow_sub-p-3 g c = omega (arith, before_place g (goal.at-overflow_sub-p-3 g c).Start)
 
 pub overflow_sub-p-4 : goal.overflow_sub-p-4
-overflow_sub-p-4 c = omega (arith, corner_place (goal.at-overflow_sub-p-4 c).Start)
+overflow_sub-p-4 g c = omega (arith, corner_place g (goal.at-overflow_sub-p-4 g c).Start)
 
-pub cell_in-corner-requires : goal.cell_in-corner-requires
-cell_in-corner-requires c =
-    let s = (goal.at-cell_in-corner-requires c).Start in
-    near_cell s.requires.ready (s.args.r - 1) (s.args.gr - 1) (omega arith) (omega arith) (is_corner s)
+pub cell-corner-requires : goal.cell-corner-requires
+cell-corner-requires g c =
+    near_cell c.requires.ready (c.args.r - 1) (c.args.gr - 1) (omega arith) (omega arith)
+    (is_corner g (goal.at-cell-corner-requires g c).Start)
 
 -- ---- what was read
-module _ (k : After-cell_in-corner) where
-  abbrev start : Start
-  start = (goal.at-After-cell_in-corner k).Start
+module _ (g : Over) (k : After-cell-corner g) where
+  abbrev start : Start g
+  start = (goal.at-After-cell-corner g k).Start
 
   -- the sums of the bins below r and gr
   abbrev Below : Cell → ℕ → ℕ → Type 0
-  Below =
-      Has start.args.g (laid_view start.args.layout start.args.small.now start.args.large.now)
-      start.args.b
+  Below = Has k.args.g (laid_view g.L.Layout.layout k.args.small.now k.args.large.now) k.args.b
 
-  above : Below k.cell_in-above.result (start.args.r + 1) start.args.gr
-  above = above_has start.requires.ready start.requires.r_nonzero.1 (is_above start) k.cell_in-above.ensures
+  above : Below k.cell-above.result (k.args.r + 1) k.args.gr
+  above = above_has k.requires.ready k.requires.r_nonzero.1 (is_above g start) k.cell-above.ensures
 
-  before : Below k.cell_in-before.result start.args.r (start.args.gr + 1)
-  before = before_has start.requires.ready start.requires.r_nonzero.0 (is_before start) k.cell_in-before.ensures
+  before : Below k.cell-before.result k.args.r (k.args.gr + 1)
+  before = before_has k.requires.ready k.requires.r_nonzero.0 (is_before g start) k.cell-before.ensures
 
-  corner : Below k.cell_in-corner.result start.args.r start.args.gr
+  corner : Below k.cell-corner.result k.args.r k.args.gr
   corner =
-      corner_has start.requires.ready start.requires.r_nonzero.0 start.requires.r_nonzero.1 (is_corner start) k.cell_in-corner.ensures
+      corner_has k.requires.ready k.requires.r_nonzero.0 k.requires.r_nonzero.1 (is_corner g start) k.cell-corner.ensures
 
 pub joined-requires : goal.joined-requires
-joined-requires c = can_join (start c).requires.ready (start c).requires.line_value (above c) (before c) (corner c)
+joined-requires g c =
+    let k = (goal.at-joined-requires g c).After-cell-corner in
+    can_join c.requires.ready c.requires.line_value (above g k) (before g k) (corner g k)
 
 pub returns : goal.returns
-returns c =
-    let k = (goal.at-returns c).After-cell_in-corner in
-    joined_is (start k).requires.ready (start k).requires.line_value (above k) (before k) (corner k) c.joined.ensures
+returns g c =
+    let k = (goal.at-returns g c).After-cell-corner in
+    joined_is c.requires.ready c.requires.line_value (above g k) (before g k) (corner g k) c.joined.ensures

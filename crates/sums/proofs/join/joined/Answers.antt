@@ -1,32 +1,24 @@
--- `sums::joined` meets its contract: number by number.
+-- `sums::join::joined` meets its contract: number by number.
 -- Assumes nothing.
-use mathlib.Core.Path.{ap, ◌∙◌}
-use native.Mathlib.Omega.{arith}
-use borrow.Author.Rules.{rules}
+use Rattle.std.proofs.Common.{ap, ◌∙◌, arith}
 use Rattle.table.specs.declared.cell.Cell.{Cell}
 use Rattle.table.specs.Cell.{number_of, plus_cell}
 use Rattle.table.proofs.Cells.{number_plus, number_minus}
 use Rattle.sums.specs.Inner.{joined_cell}
 use Rattle.sums.proofs.join.joined.Goals as goal
 
-pub plus-requires : goal.plus-requires
-plus-requires c = record { fits = λ j h. omega (arith, c.requires.fits j h) }
-
-pub minus-requires : goal.minus-requires
-minus-requires c = search rules
-
 pub plus-requires-2 : goal.plus-requires-2
 plus-requires-2 c =
-    let s = c in
+    let a = c.args in
     record {
       fits = λ j h.
           omega (
             arith,
-            s.requires.fits j h,
+            c.requires.fits j h,
             ap (λ (x : Cell). number_of x j) c.plus.ensures,
-            number_plus s.args.line s.args.above j h,
+            number_plus a.line a.above j h,
             ap (λ (x : Cell). number_of x j) c.minus.ensures,
-            number_minus s.args.before s.args.corner j h,
+            number_minus a.before a.corner j h,
           );
     }
 

@@ -1,23 +1,18 @@
--- `swatches::text::swatch_text` meets its contract: the line of a refusal, and else the text of the cut.
+-- `swatches::text::swatch_text` meets its contract: the listing of what was found, or the line of the refusal.
 -- Assumes nothing.
-use borrow.Author.Rules.{rules}
-use Rattle.swatches.proofs.Texts.{text_refused, text_cut}
+use mathlib.Core.Path.{sym, ap, ◌∙◌}
+use Rattle.lines.proofs.Texts.{said}
+use Rattle.swatches.specs.Swatches.{numbers_of}
+use Rattle.swatches.proofs.Texts.{listed, text_said}
 use Rattle.swatches.proofs.text.swatch_text.Goals as goal
 
-pub refused-requires : goal.refused-requires
-refused-requires c = search rules
+pub returns-in-Ok : goal.returns-in-Ok
+unfolding numbers_of
+returns-in-Ok c =
+    let e = text_said c.args.lowest c.args.table.now ∙ ap (said listed) (sym c.in-Ok.ensures.is) in
+    rw (e, ← c.nearest.ensures.later) c.swatch_lines.ensures
 
-pub shape_of-out-then-lowest-ne0 : goal.shape_of-out-then-lowest-ne0
-shape_of-out-then-lowest-ne0 c = search rules
-
-pub returns-then-lowest-ne0 : goal.returns-then-lowest-ne0
-returns-then-lowest-ne0 c = rw (text_refused _ _ c.if-lowest-ne0.true) c.refused.ensures
-
-pub cut_text-requires : goal.cut_text-requires
-cut_text-requires c = search rules
-
-pub shape_of-out : goal.shape_of-out
-shape_of-out c = search rules
-
-pub returns : goal.returns
-returns c = rw (text_cut _ _ c.if-lowest-ne0.false) c.cut_text.ensures
+pub returns-in-Err : goal.returns-in-Err
+returns-in-Err c =
+    let e = text_said c.args.lowest c.args.table.now ∙ ap (said listed) (sym c.in-Err.ensures.is) in
+    rw e c.refused.ensures

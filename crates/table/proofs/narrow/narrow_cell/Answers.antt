@@ -1,64 +1,22 @@
 -- `table::narrow::narrow_cell` meets its contract: four numbers of one list and one of the other, read where they stand.
 -- Assumes nothing.
-use Rattle.std.proofs.Common.{◌+◌, ◌*◌, refl, add-zero, arith, lit<, rules}
+use Rattle.std.proofs.Common.{◌+◌, ◌*◌, refl, add-zero, arith, lit<}
 use Rattle.table.specs.Cell.{cell_of}
 use Rattle.table.specs.Narrow.{narrow_table}
 use Rattle.table.proofs.NarrowTables.{narrow_sums, narrow_squares}
 use Rattle.table.proofs.narrow.narrow_cell.Goals as goal
 
-pub overflow_mul-at : goal.overflow_mul-at
-overflow_mul-at c = search rules
-
-pub offset_bounds-sums-at : goal.offset_bounds-sums-at
-offset_bounds-sums-at c = search rules
-
-pub bounds-sums-at : goal.bounds-sums-at
-bounds-sums-at c = search rules
-
 pub overflow_cast-result : goal.overflow_cast-result
 overflow_cast-result c = omega (arith, c.shared_slice_known-1.given (4 * c.args.place))
-
-pub overflow_add-result : goal.overflow_add-result
-overflow_add-result c = search rules
-
-pub offset_bounds-sums-at-2 : goal.offset_bounds-sums-at-2
-offset_bounds-sums-at-2 c = search rules
-
-pub bounds-sums-at-2 : goal.bounds-sums-at-2
-bounds-sums-at-2 c = search rules
 
 pub overflow_cast-result-2 : goal.overflow_cast-result-2
 overflow_cast-result-2 c = omega (arith, c.shared_slice_known-2-1.given (4 * c.args.place + 1))
 
-pub overflow_add-result-2 : goal.overflow_add-result-2
-overflow_add-result-2 c = search rules
-
-pub offset_bounds-sums-at-3 : goal.offset_bounds-sums-at-3
-offset_bounds-sums-at-3 c = search rules
-
-pub bounds-sums-at-3 : goal.bounds-sums-at-3
-bounds-sums-at-3 c = search rules
-
 pub overflow_cast-result-3 : goal.overflow_cast-result-3
 overflow_cast-result-3 c = omega (arith, c.shared_slice_known-3-1.given (4 * c.args.place + 2))
 
-pub overflow_add-result-3 : goal.overflow_add-result-3
-overflow_add-result-3 c = search rules
-
-pub offset_bounds-sums-at-4 : goal.offset_bounds-sums-at-4
-offset_bounds-sums-at-4 c = search rules
-
-pub bounds-sums-at-4 : goal.bounds-sums-at-4
-bounds-sums-at-4 c = search rules
-
 pub overflow_cast-result-4 : goal.overflow_cast-result-4
 overflow_cast-result-4 c = omega (arith, c.shared_slice_known-4-1.given (4 * c.args.place + 3))
-
-pub offset_bounds-squares-place : goal.offset_bounds-squares-place
-offset_bounds-squares-place c = search rules
-
-pub bounds-squares-place : goal.bounds-squares-place
-bounds-squares-place c = search rules
 
 pub returns : goal.returns
 unfolding cell_of

@@ -1,7 +1,7 @@
 -- `table::sound::keeps_bounds` meets its contract: an empty bin, a weight past the limit, and each bound by itself.
 -- Assumes nothing.
 -- ---- on entry: the bin's spans, its bounds by them, and what is told of them
-use Rattle.std.proofs.Common.{◌≡◌, ◌*◌, ◌<◌, Bool, true, ◌&&◌, leb, get_or, sym, ap, ◌∙◌, lt_of_lt_of_le, arith, rules}
+use Rattle.std.proofs.Common.{◌≡◌, ◌*◌, ◌<◌, Bool, true, ◌&&◌, leb, get_or, sym, ap, ◌∙◌, lt_of_lt_of_le, arith}
 use Rattle.grid.specs.declared.dimension.Span.{Span}
 use Rattle.grid.specs.Size.{span_of}
 use Rattle.basics.specs.Dimension.{choose}
@@ -18,36 +18,33 @@ use Rattle.table.proofs.sound.keeps_bounds.Goals.{After-lies_between, After-lies
 use Rattle.table.proofs.sound.keeps_bounds.Goals as goal
 
 abbrev one : Start → Span
-one s = span_of s.args.g.shift1 s.args.r
+one s = span_of s.args.spans.now.g.shift1 s.args.r
 
 abbrev two : Start → Span
-two s = span_of s.args.g.shift2 s.args.gr
+two s = span_of s.args.spans.now.g.shift2 s.args.gr
 
 abbrev third : Start → Span
-third s = span_of s.args.g.shift3 s.args.b
+third s = span_of s.args.spans.now.g.shift3 s.args.b
 
 told : (s : Start)
     → (leb s.args.c.weight limit && in_bounds (λ d. choose d (one s) (two s) (third s)) (number_of s.args.c))
     ≡ (leb s.args.c.weight limit
-    && in_bounds (spans_of s.args.g s.args.r s.args.gr s.args.b) (number_of s.args.c))
+    && in_bounds (spans_of s.args.spans.now.g s.args.r s.args.gr s.args.b) (number_of s.args.c))
 told s =
     ap (λ (x : Bool). leb s.args.c.weight limit && x)
-    (chosen_bounds s.args.g s.args.r s.args.gr s.args.b (number_of s.args.c))
+    (chosen_bounds s.args.spans.now.g s.args.r s.args.gr s.args.b (number_of s.args.c))
 
-same_row : (s : Start) → s.args.row ≡ row_spans s.args.g s.args.r s.args.gr
+same_row : (s : Start) → s.args.row ≡ row_spans s.args.spans.now.g s.args.r s.args.gr
 same_row s = s.requires.row
 
-span_table : (s : Start) → SpanTable s.args.g s.args.spans.now
-span_table s = s.requires.spans
+span_table : (s : Start) → SpanTable s.args.spans.now.g s.args.spans.now.third
+span_table s = s.args.spans.now.filled
 
-third_told : (s : Start) → told_span (get_or s.args.spans.now (2 * s.args.b) 0) ≡ third s
+third_told : (s : Start) → told_span (get_or s.args.spans.now.third (2 * s.args.b) 0) ≡ third s
 third_told s = third_is s.requires.inside (same_row s) (span_table s)
 
 few : (s : Start) → s.args.b < 128
 few s = lt_of_lt_of_le s.requires.inside.three (size_high (three s.requires.inside.accepted))
-
-pub is_bare-requires : goal.is_bare-requires
-is_bare-requires c = search rules
 
 pub returns-then-n-eq0 : goal.returns-then-n-eq0
 returns-then-n-eq0 c =

@@ -1,15 +1,12 @@
 -- `table::sound::lies_between` meets its contract: up to the narrow limit the two parts of one product are both bounds.
 -- Assumes nothing.
-use Rattle.std.proofs.Common.{ℕ, ◌+◌, ◌%◌, ◌^◌, ◌≤◌, leb, sym, ap, ◌∙◌, arith, lit≤, rules}
+use Rattle.std.proofs.Common.{ℕ, ◌+◌, ◌%◌, ◌^◌, ◌≤◌, leb, sym, ap, ◌∙◌, arith, lit≤}
 use Rattle.table.proofs.Packed.{wider, far_between, both_fit, low_part, width_part}
 use Rattle.table.proofs.sound.lies_between.Goals as goal
 
 pub overflow_mul-both : goal.overflow_mul-both
 overflow_mul-both c =
     let s = c in omega (arith, both_fit s.args.n s.args.span s.requires.0 (omega (arith, c.if-n-le-NARROW_LIMIT.true)))
-
-pub wrapping_sub_u64-requires : goal.wrapping_sub_u64-requires
-wrapping_sub_u64-requires c = search rules
 
 pub returns-then-n-le-NARROW_LIMIT : goal.returns-then-n-le-NARROW_LIMIT
 returns-then-n-le-NARROW_LIMIT c =

@@ -1,10 +1,9 @@
 -- `table::sound::plane_total` meets its contract: after each row the total is that of the rows so far.
 -- Assumes nothing.
-use Rattle.std.proofs.Common.{◌≡◌, ℕ, ◌*◌, sym, ap, ◌∙◌, zero-mul, arith, rules}
+use Rattle.std.specs.Prelude.{None, Some}
+use Rattle.std.proofs.Common.{◌≡◌, ℕ, ◌*◌, sym, ap, ◌∙◌, zero-mul, arith}
 use Rattle.grid.specs.Grid.{place_of}
-use Rattle.grid.proofs.Places.{two, row_start}
-use Rattle.grid.proofs.Size.{size_high}
-use Rattle.table.specs.declared.sound.SoundTotal.TheVariants.{Total, Unsound}
+use Rattle.grid.proofs.Places.{row_start}
 use Rattle.table.specs.Inner.{scanned}
 use Rattle.table.specs.Sound.{limit_of}
 use Rattle.table.specs.Layout.{laid_view}
@@ -12,78 +11,48 @@ use Rattle.table.proofs.Scans.{scan_none, scan_under, block_more, block_stop}
 use Rattle.table.proofs.sound.plane_total.Goals as goal
 
 pub loop-gr-init : goal.loop-gr-init
-loop-gr-init c =
-    let s = c in (
-      omega arith,
-      ap (λ (n : ℕ). scanned (limit_of s.args.layout) s.args.g (laid_view s.args.layout s.args.small.now s.args.large.now)
-          (place_of s.args.g s.args.r 0 0) n s.args.had) (zero-mul s.args.g.size3)
-          ∙ scan_none (limit_of s.args.layout) s.args.g (laid_view s.args.layout s.args.small.now s.args.large.now) _ s.args.had s.requires.row.under,
-    )
+loop-gr-init g c =
+    let most = limit_of g.L.Layout.layout in
+    let grid = c.args.spans.now.g in
+    let v = laid_view g.L.Layout.layout c.args.small.now c.args.large.now in
+    ap (λ (n : ℕ). scanned most grid v (place_of grid c.args.r 0 0) n c.args.had) (zero-mul grid.size3)
+    ∙ scan_none most grid v _ c.args.had c.requires.under
 
 pub row_total-requires : goal.row_total-requires
-row_total-requires c =
-    let s = c in
-    let l = c.loop-gr in record {
-      row = record {
-        table = s.requires.row.table;
-        inside =
-            record {
-              accepted = s.requires.row.table.accepted;
-              one = s.requires.row.inside.one;
-              two = c.loop-gr-test.true;
-              three =
-                  s.requires.row.inside.three;
-            };
-        under = scan_under (limit_of s.args.layout) s.args.g (laid_view s.args.layout s.args.small.now s.args.large.now) _ _ _ l.total l.invariant.1;
-      };
-      spans = s.requires.spans;
+row_total-requires g c =
+    let most = limit_of g.L.Layout.layout in
+    let v = laid_view g.L.Layout.layout c.args.small.now c.args.large.now in
+    let had = c.requires in record {
+      table = had.table;
+      inside = record { accepted = had.table.accepted; one = had.inside.one; two = c.loop-gr-test.true; three = had.inside.three };
+      under = scan_under most c.args.spans.now.g v _ _ _ c.loop-gr.total c.loop-gr.invariant;
     }
 
-pub enum_known-x : goal.enum_known-x
-enum_known-x c = search rules
-
-pub enum_told-1 : goal.enum_told-1
-enum_told-1 c = search rules
-
-pub returns-in-Unsound : goal.returns-in-Unsound
-returns-in-Unsound c =
-    let s = c in
+pub returns-in_err-total : goal.returns-in_err-total
+returns-in_err-total g c =
     let l = c.loop-gr in
-    let g = s.args.g in
-    let v = laid_view s.args.layout s.args.small.now s.args.large.now in
-    sym
-    (block_stop (limit_of s.args.layout) g v (place_of g s.args.r 0 0) g.size3 l.gr g.size2 s.args.had
+    let most = limit_of g.L.Layout.layout in
+    let grid = c.args.spans.now.g in
+    let v = laid_view g.L.Layout.layout c.args.small.now c.args.large.now in
+    c.from_residual.ensures
+    ∙ sym (block_stop most grid v (place_of grid c.args.r 0 0) grid.size3 l.gr grid.size2 c.args.had
     c.loop-gr-test.true
-    (block_more (limit_of s.args.layout) g v (place_of g s.args.r 0 0) g.size3 l.gr s.args.had l.total Unsound l.invariant.1
-    (row_start g s.args.r l.gr)
-    (sym c.in-Unsound.is ∙ c.row_total.ensures)))
-
-pub overflow_add-gr : goal.overflow_add-gr
-overflow_add-gr c =
-    let s = c in
-    omega (arith, c.loop-gr-test.true, size_high (two s.requires.row.table.accepted))
-
-pub loop-gr-smaller : goal.loop-gr-smaller
-loop-gr-smaller c = omega arith
+    (block_more most grid v (place_of grid c.args.r 0 0) grid.size3 l.gr c.args.had l.total None l.invariant
+    (row_start grid c.args.r l.gr) c.in_err-total.ensures))
 
 pub loop-gr-preserved : goal.loop-gr-preserved
-loop-gr-preserved c =
-    let s = c in
+loop-gr-preserved g c =
     let l = c.loop-gr in
-    let g = s.args.g in
-    let v = laid_view s.args.layout s.args.small.now s.args.large.now in
-    let good : c.row_total.result ≡ Total c.in-Total.x =
-    c.in-Total.is in (
-      omega (arith, c.loop-gr-test.true),
-      block_more (limit_of s.args.layout) g v (place_of g s.args.r 0 0) g.size3 l.gr s.args.had l.total
-          (Total c.in-Total.x) l.invariant.1 (row_start g s.args.r l.gr)
-          (sym good ∙ c.row_total.ensures),
-    )
+    let grid = c.args.spans.now.g in
+    let v = laid_view g.L.Layout.layout c.args.small.now c.args.large.now in
+    block_more (limit_of g.L.Layout.layout) grid v (place_of grid c.args.r 0 0) grid.size3 l.gr c.args.had l.total
+    (Some c.in_ok-total.total) l.invariant (row_start grid c.args.r l.gr) c.in_ok-total.ensures
 
 pub returns : goal.returns
-returns c =
-    let s = c in
+returns g c =
     let l = c.loop-gr in
-    let all : l.gr ≡ s.args.g.size2 = omega arith in
-    sym l.invariant.1 ∙ ap (λ (n : ℕ). scanned (limit_of s.args.layout) s.args.g (laid_view s.args.layout s.args.small.now s.args.large.now)
-    (place_of s.args.g s.args.r 0 0) (n * s.args.g.size3) s.args.had) all
+    let most = limit_of g.L.Layout.layout in
+    let grid = c.args.spans.now.g in
+    let v = laid_view g.L.Layout.layout c.args.small.now c.args.large.now in
+    let all : l.gr ≡ grid.size2 = omega arith in
+    sym l.invariant ∙ ap (λ (n : ℕ). scanned most grid v (place_of grid c.args.r 0 0) (n * grid.size3) c.args.had) all

@@ -1,24 +1,16 @@
--- `terminal::closest::square` meets its contract.
+-- `terminal::closest::square` meets its contract: a square of at most 255 * 255.
 -- Assumes nothing.
-use Prim.Native.Nat.{◌*◌}
-use native.Mathlib.Omega.{arith}
-use borrow.Author.Rules.{rules}
+use Rattle.std.proofs.Common.{◌*◌, ◌∙◌, arith}
 use Rattle.terminal.specs.Nearest.{square_of}
 use Rattle.terminal.proofs.Laws.{square_bound}
 use Rattle.terminal.proofs.closest.square.Goals as goal
 
-pub difference-by-requires : goal.difference-by-requires
-difference-by-requires c = search rules
-
-pub overflow_mul-result : goal.overflow_mul-result
-overflow_mul-result c = omega (arith, square_bound c.difference-by.result c.difference-by.ensures.1)
-
-pub overflow_cast-result : goal.overflow_cast-result
-overflow_cast-result c = omega (arith, square_bound c.difference-by.result c.difference-by.ensures.1)
+pub overflow_mul-by : goal.overflow_mul-by
+overflow_mul-by c = omega (arith, square_bound c.difference-by.result c.difference-by.ensures.1)
 
 pub returns : goal.returns
 unfolding square_of
 returns c = (
-  λ i. c.difference-by.ensures.0 i * c.difference-by.ensures.0 i,
-  square_bound c.difference-by.result c.difference-by.ensures.1,
+  c.from.ensures ∙ (λ i. c.difference-by.ensures.0 i * c.difference-by.ensures.0 i),
+  omega (arith, c.from.ensures, square_bound c.difference-by.result c.difference-by.ensures.1),
 )

@@ -1,14 +1,13 @@
 -- `widen::call::widen` meets its contract: the refusals in their order, and then the bins are written.
 -- Assumes nothing.
--- where the call stood: on entry, once the grid is accepted, once the narrow lengths are right, and once all are
+-- where the call stood: once the grid is accepted, once the lengths are right, and once the narrow table is sound
+use Rattle.std.specs.Prelude.{Some}
 use mathlib.Core.Bool.{true}
 use mathlib.Core.Path.{◌≡◌, sym, ◌∙◌}
-use borrow.Author.Rules.{rules}
-use Rattle.grid.specs.declared.place.Chosen.TheVariants as chosen
-use Rattle.grid.specs.declared.place.Grid.{Grid}
+use Rattle.basics.proofs.Exits.{there, not_there}
 use Rattle.grid.specs.Grid.{grid_of, Accepted, bins_of}
 use Rattle.grid.proofs.Places.{chose}
-use Rattle.table.specs.declared.layout.Layout.TheVariants.{Narrow}
+use Rattle.table.specs.Layouts.{Narrow}
 use Rattle.table.specs.Table.{Sized}
 use Rattle.table.specs.Narrow.{NarrowTable, narrow_table, narrow_view}
 use Rattle.table.specs.Layout.{TableOfIn}
@@ -17,129 +16,97 @@ use Rattle.table.proofs.Tables.{sized_by, not_sized_by}
 use Rattle.table.proofs.Layouts.{lengths_are, sized_in}
 use Rattle.table.proofs.Total.{unsound_says, total_says}
 use Rattle.widen.proofs.Calls.{no_grid_lem, narrow_length, wide_length, unsound, all_done}
-use Rattle.widen.proofs.call.widen.Goals.{Else-not-lengths_fit, Else-table-table_len, In-Accepted, In-Total, Start}
+use Rattle.widen.proofs.call.widen.Goals.{Else-table-table_len, In_ok-g, In_ok-ok_or, then-not-fits-via-then-not-fits, then-not-fits-via-else-not-fits+then-table-table_len}
 use Rattle.widen.proofs.call.widen.Goals as goal
 
-abbrev entry : In-Accepted → Start
-entry k = (goal.at-In-Accepted k).Start
-
-abbrev on : Else-not-lengths_fit → In-Accepted
-on k = (goal.at-Else-not-lengths_fit k).In-Accepted
-
-abbrev with_narrow : Else-table-table_len → Else-not-lengths_fit
-with_narrow k = (goal.at-Else-table-table_len k).Else-not-lengths_fit
-
-abbrev with_lengths : In-Total → Else-table-table_len
-with_lengths k = (goal.at-In-Total k).Else-table-table_len
-
 -- the grid, once it is accepted
-abbrev grid : In-Accepted → Grid
-grid k = k.in-Accepted.g
+on_grid : (k : In_ok-g) → grid_of k.args.b1 k.args.b2 k.args.b3 ≡ Some k.in_ok-g.g
+on_grid k = sym k.grid_of.ensures ∙ there k.grid_of.result _ k.in_ok-g.ensures.value
 
-on_grid : (k : In-Accepted) → let a = (entry k).args in
-    grid_of a.b1 a.b2 a.b3 ≡ chosen.Accepted (grid k)
-on_grid k = sym k.grid_of.ensures ∙ k.in-Accepted.is
-
-accepted : (k : In-Accepted) → Accepted (grid k)
-accepted k = (chose _ _ _ (grid k) (on_grid k)).accepted
+accepted : (k : In_ok-g) → Accepted k.in_ok-g.g
+accepted k = (chose _ _ _ k.in_ok-g.g (on_grid k)).accepted
 
 -- the narrow table, and the list for the wide one, once their lengths are right
-abbrev narrow : Start → NarrowTable
-narrow s = narrow_table s.args.sums.now s.args.squares.now
+abbrev narrow : In_ok-g → NarrowTable
+narrow k = narrow_table k.args.sums.now k.args.squares.now
 
-lent : (k : Else-not-lengths_fit) → TableOfIn Narrow (grid (on k)) (narrow (entry (on k)))
+lent : (k : Else-table-table_len) → TableOfIn Narrow k.in_ok-g.g (narrow (goal.at-Else-table-table_len k).In_ok-g)
 lent k =
-    let a = (entry (on k)).args in
-    let n = bins_of (grid (on k)) in
+    let j = (goal.at-Else-table-table_len k).In_ok-g in
+    let n = bins_of k.in_ok-g.g in
     record {
-      accepted = accepted (on k);
+      accepted = accepted j;
       lent =
-          sized_in Narrow (narrow (entry (on k))) n
-          (sym (lengths_are Narrow a.sums.now a.squares.now n)
-          ∙ sym k.lengths_fit.ensures
-          ∙ k.if-not-lengths_fit.false);
+          sized_in Narrow (narrow j) n
+          (sym (lengths_are Narrow k.args.sums.now k.args.squares.now n) ∙ sym k.fits.ensures ∙ k.if-not-fits.false);
     }
 
-listed : (k : Else-table-table_len) →
-    let b = on (with_narrow k) in
-    Sized (entry b).args.table.now (bins_of (grid b))
+listed : (k : Else-table-table_len) → Sized k.args.table.now (bins_of k.in_ok-g.g)
 listed k = sized_by (k.if-table-table_len.false ∙ k.table_len.ensures)
 
-is_sound : (k : In-Total) →
-    let b = on (with_narrow (with_lengths k)) in
-    sound (limit_of Narrow) (grid b) (narrow_view (narrow (entry b))) ≡ true
+is_sound : (k : In_ok-ok_or) → sound (limit_of Narrow) k.in_ok-g.g (narrow_view (narrow (goal.at-In_ok-ok_or k).In_ok-g)) ≡ true
 is_sound k =
     (total_says (limit_of Narrow) _ _ _
-    (sym k.total_in.ensures ∙ k.in-Total.is)).0
+    (sym k.sound_total.ensures ∙ there k.sound_total.result _ k.in_ok-ok_or.ensures.value)).0
 
-pub grid_of-requires : goal.grid_of-requires
-grid_of-requires c = search rules
+pub returns-in_err-g : goal.returns-in_err-g
+returns-in_err-g c =
+    let a = c.args in
+    let r = not_there c.grid_of.result _ c.from_residual.result c.in_err-g.ensures.value c.from_residual.ensures.1 in
+    let both = no_grid_lem a.b1 a.b2 a.b3 (narrow_table a.sums.now a.squares.now) a.table.now (sym c.grid_of.ensures ∙ r.0) in
+    record { number = r.1 ∙ both.0; later = both.1 }
 
-pub enum_known-g : goal.enum_known-g
-enum_known-g c = search rules
-
-pub enum_told-1 : goal.enum_told-1
-enum_told-1 c = search rules
-
-pub returns-in_default : goal.returns-in_default
-returns-in_default c =
-    let s = (goal.at-returns-in_default c).Start in
-    let a = s.args in let both = no_grid_lem a.b1 a.b2 a.b3 (narrow s) a.table.now
-    (sym c.grid_of.ensures ∙ c.in_default.is) in record { number = both.0; later = both.1 }
-
-pub lengths_fit-requires : goal.lengths_fit-requires
-lengths_fit-requires c = accepted c
-
-pub returns-then-not-lengths_fit : goal.returns-then-not-lengths_fit
-returns-then-not-lengths_fit c =
-    let k = (goal.at-returns-then-not-lengths_fit c).In-Accepted in
-    let s = entry k in
-    let a = s.args in let both = narrow_length a.b1 a.b2 a.b3 (narrow s) a.table.now (on_grid k)
-    (sym (lengths_are Narrow a.sums.now a.squares.now (bins_of (grid k)))
-    ∙ sym c.lengths_fit.ensures
-    ∙ c.if-not-lengths_fit.true) in record { number = both.0; later = both.1 }
+pub fits-requires : goal.fits-requires
+fits-requires c = accepted c
 
 pub table_len-requires : goal.table_len-requires
-table_len-requires c = accepted (on c)
+table_len-requires c = accepted (goal.at-table_len-requires c).In_ok-g
 
-pub returns-then-table-table_len : goal.returns-then-table-table_len
-returns-then-table-table_len c =
-    let k = (goal.at-returns-then-table-table_len c).Else-not-lengths_fit in
-    let s = entry (on k) in
-    let a = s.args in let both = wide_length a.b1 a.b2 a.b3 (narrow s) a.table.now (on_grid (on k)) (lent k).lent
-    (not_sized_by (λ e. c.if-table-table_len.true (e ∙ sym c.table_len.ensures))) in record { number = both.0; later = both.1 }
+pub returns-then-not-fits : goal.returns-then-not-fits
+returns-then-not-fits c =
+    let a = c.args in
+    let j = (goal.at-returns-then-not-fits c).In_ok-g in
+    let n = bins_of c.in_ok-g.g in
+    let e = on_grid j in
+    let size = sym (lengths_are Narrow a.sums.now a.squares.now n) ∙ sym c.fits.ensures in
+    elim c.then-not-fits.branch [
+      | then-not-fits-via-then-not-fits w ↦
+          let both = narrow_length a.b1 a.b2 a.b3 (narrow j) a.table.now e (size ∙ w.if-not-fits.true) in
+          record { number = both.0; later = both.1 }
+      | then-not-fits-via-else-not-fits+then-table-table_len w ↦
+          let both =
+          wide_length a.b1 a.b2 a.b3 (narrow j) a.table.now e (sized_in Narrow (narrow j) n (size ∙ w.if-not-fits.false))
+          (not_sized_by (λ q. w.if-table-table_len.true (q ∙ sym w.table_len.ensures))) in
+          record { number = both.0; later = both.1 }
+    ]
 
-pub total_in-requires : goal.total_in-requires
-total_in-requires c = lent (with_narrow c)
+pub sound_total-requires : goal.sound_total-requires
+sound_total-requires c = lent c
 
-pub enum_known-total : goal.enum_known-total
-enum_known-total c = search rules
-
-pub enum_told-in_default-total_in : goal.enum_told-in_default-total_in
-enum_told-in_default-total_in c = search rules
-
-pub returns-in_default-total_in : goal.returns-in_default-total_in
-returns-in_default-total_in c =
-    let l = (goal.at-returns-in_default-total_in c).Else-table-table_len in
-    let k = with_narrow l in
-    let s = entry (on k) in
-    let a = s.args in let both = unsound a.b1 a.b2 a.b3 (narrow s) a.table.now (on_grid (on k)) (lent k).lent (listed l)
-    (unsound_says (limit_of Narrow) _ _ (sym c.total_in.ensures ∙ c.in_default-total_in.is)) in record { number = both.0; later = both.1 }
+pub returns-in_err-ok_or : goal.returns-in_err-ok_or
+returns-in_err-ok_or c =
+    let a = c.args in
+    let k = (goal.at-returns-in_err-ok_or c).Else-table-table_len in
+    let j = (goal.at-returns-in_err-ok_or c).In_ok-g in
+    let r =
+    not_there c.sound_total.result _ c.from_residual-in_err-ok_or.result c.in_err-ok_or.ensures.value
+    c.from_residual-in_err-ok_or.ensures.1 in
+    let both =
+    unsound a.b1 a.b2 a.b3 (narrow j) a.table.now (on_grid j) (lent k).lent (listed k)
+    (unsound_says (limit_of Narrow) _ _ (sym c.sound_total.ensures ∙ r.0)) in
+    record { number = r.1 ∙ both.0; later = both.1 }
 
 pub widen_bins-requires : goal.widen_bins-requires
 widen_bins-requires c =
-    let k = (goal.at-widen_bins-requires c).In-Total in
-    let l = with_lengths k in
-    record { table = lent (with_narrow l); list = listed l; is_sound = is_sound k }
-
-pub shape_of-table : goal.shape_of-table
-shape_of-table c = search rules
+    let k = (goal.at-widen_bins-requires c).Else-table-table_len in
+    record { table = lent k; list = listed k; is_sound = is_sound (goal.at-widen_bins-requires c).In_ok-ok_or }
 
 pub returns : goal.returns
 returns c =
-    let t = (goal.at-returns c).In-Total in
-    let l = with_lengths t in
-    let k = with_narrow l in
-    let s = entry (on k) in
-    let a = s.args in let both = all_done a.b1 a.b2 a.b3 (narrow s) a.table.now (on_grid (on k)) (lent k).lent (listed l) (is_sound t)
-    c.widen_bins.ensures in record { number = both.0; later = both.1 }
+    let a = c.args in
+    let k = (goal.at-returns c).Else-table-table_len in
+    let j = (goal.at-returns c).In_ok-g in
+    let both =
+    all_done a.b1 a.b2 a.b3 (narrow j) a.table.now (on_grid j) (lent k).lent (listed k)
+    (is_sound (goal.at-returns c).In_ok-ok_or) c.widen_bins.ensures in
+    record { number = both.0; later = both.1 }

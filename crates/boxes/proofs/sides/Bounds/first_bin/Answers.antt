@@ -1,0 +1,20 @@
+-- `boxes::sides::Bounds::first_bin` meets its contract: by the dimension.
+-- Assumes nothing.
+use mathlib.Core.Path.{refl, sym}
+use borrow.Author.Rules.{rules}
+use Rattle.basics.specs.Dimension.{choose}
+use Rattle.grid.proofs.Places.{choose_third}
+use Rattle.boxes.specs.Box.{min_at}
+use Rattle.boxes.proofs.sides.Bounds.first_bin.Goals as goal
+
+pub returns-in-0 : goal.returns-in-0
+unfolding min_at choose
+returns-in-0 c = rw c.in-0.is refl
+
+pub returns-in-1 : goal.returns-in-1
+unfolding min_at choose
+returns-in-1 c = rw c.in-1.is refl
+
+pub returns-in_default : goal.returns-in_default
+unfolding min_at
+returns-in_default c = sym (choose_third c.args.dimension _ _ _ (search rules) (search rules))
