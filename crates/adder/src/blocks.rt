@@ -11,7 +11,9 @@ use pixels::colour::colour;
 use pixels::equal::equal_colours;
 use table::layout::Layout;
 
-// Adds n colours of a batch, from colour at on, one after the other.
+// Adds n colours of a batch, from colour at on, one after the other. It is inlined, so that the compiler makes a loop of
+// its own where the scale is 1 or no weights are given.
+#[inline(always)]
 fn add_each<L: Layout>(
     steps: &Steps,
     small: &mut [u32],

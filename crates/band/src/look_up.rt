@@ -14,8 +14,8 @@ use pixels::colour::{Rgb, colour};
 #[derive(Drop)]
 pub struct LookUp<'a> {
     pub g: Grid,
-    t1: [usize; 256],
-    t2: [usize; 256],
+    pub t1: [usize; 256],
+    pub t2: [usize; 256],
     pub map: &'a [u8],
     ghost ready: { Lookup g t1 t2 map.now },
 }

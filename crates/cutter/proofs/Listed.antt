@@ -9,7 +9,7 @@ use lib.Seq.{take_all, length-take-le, get_or-take}
 use Rattle.rounds.specs.Loop.{no_item}
 use Rattle.grid.specs.declared.place.Grid.{Grid}
 use Rattle.boxes.specs.declared.sides.Bounds.{Bounds}
-use Rattle.heap.specs.declared.heap.BoxSpread.{BoxSpread}
+use Rattle.heap.specs.Boxes.{BoxSpread}
 use Rattle.rounds.specs.declared.gather.Boxes.{Boxes}
 use Rattle.boxes.specs.Box.{no_box}
 use Rattle.cutter.specs.Cut.{list_of}

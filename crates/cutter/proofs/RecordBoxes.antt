@@ -10,7 +10,7 @@ use borrow.Author.Tests.{lt-ltb}
 use lib.Dec.{ltb}
 use lib.ListN.{length, get_or, take, length-map, get_or-map}
 use lib.Seq.{ext_get_or, get_or-take, length-take-le}
-use Rattle.heap.specs.declared.heap.BoxSpread.{BoxSpread}
+use Rattle.heap.specs.Boxes.{BoxSpread}
 use Rattle.grid.specs.declared.place.Grid.{Grid}
 use Rattle.grid.specs.Grid.{Accepted}
 use Rattle.basics.proofs.Range.{length_list, list_at}

@@ -16,7 +16,7 @@ use Rattle.boxes.specs.Box.{no_box}
 use Rattle.sums.specs.declared.source.Source.{Source}
 use Rattle.sums.specs.declared.source.Source.TheVariants.{Moments, Bins}
 use Rattle.sums.specs.Moments.{moments_of}
-use Rattle.heap.specs.declared.heap.BoxSpread.{BoxSpread}
+use Rattle.heap.specs.Boxes.{BoxSpread}
 use Rattle.rounds.specs.declared.gather.Boxes.{Boxes}
 use Rattle.rounds.specs.Loop.{with_zero, boxes_of}
 use Rattle.cutter.specs.Record.{CutRecord}

@@ -25,7 +25,7 @@ use Rattle.spread.specs.Cut.{best_cut}
 use Rattle.spread.proofs.Best.{answered}
 use Rattle.heap.specs.Heap.{item, put_in, take_out}
 use Rattle.heap.proofs.View.{KeepsOrder, item_view, put_in_view, take_out_view}
-use Rattle.heap.specs.declared.heap.BoxSpread.{BoxSpread}
+use Rattle.heap.specs.Boxes.{BoxSpread}
 use Rattle.rounds.specs.Loop.{by_spread, no_item, with_spread, with_zero, Heap, start_room, start, room_after, boxes_after}
 use Rattle.rounds.specs.Loop.{round_room, round_boxes, round, rounds, heap_of}
 use Rattle.spread.proofs.Cases.{low_box, high_box}

@@ -21,7 +21,7 @@ use Rattle.sums.specs.Box.{stats_of}
 use Rattle.spread.specs.Spread.{zero_of, quotient_of, spread_of}
 use Rattle.spread.specs.declared.position.Position.{Position}
 use Rattle.spread.specs.Cut.{best_cut}
-use Rattle.heap.specs.declared.heap.BoxSpread.{BoxSpread}
+use Rattle.heap.specs.Boxes.{BoxSpread}
 use Rattle.rounds.specs.Loop.{with_spread, start, heap_of}
 use Rattle.rounds.proofs.Filled.{Each, Kept, Fit, fit_kept, each_rounds, start_each, start_fit}
 use Rattle.doubling.specs.Grow.{doubled, grow, times_power}

@@ -6,7 +6,7 @@ use Rattle.std.specs.Float.Ieee.{minus, mul}
 use Rattle.table.specs.Cell.{View}
 use Rattle.sums.specs.Box.{whole}
 use Rattle.spread.specs.declared.position.Position.{Position}
-use Rattle.heap.specs.declared.heap.BoxSpread.{BoxSpread}
+use Rattle.heap.specs.Boxes.{BoxSpread}
 use Rattle.rounds.specs.Loop.{Heap}
 
 -- "multiplying its weights means multiplying all five numbers of every bin": by 2 ^ t

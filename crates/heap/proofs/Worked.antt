@@ -9,7 +9,7 @@ use lib.IntN.{pos}
 use lib.Ieee.{Float, nan, fin, lt, eq, le}
 use Rattle.heap.specs.Heap.{climb, put_in, sink, enter, take_out}
 use Rattle.boxes.specs.Box.{no_box}
-use Rattle.heap.specs.declared.heap.BoxSpread.{BoxSpread}
+use Rattle.heap.specs.Boxes.{BoxSpread}
 use Rattle.heap.specs.Boxes.{by_spread, no_item}
 
 -- a whole number as a spread

@@ -1,15 +1,16 @@
 // How a box climbs and a hole sinks in the room of a heap (Rules, Heap): the code carries the box that enters, and
 // writes it once.
-ghost use Rattle.std.specs.Prelude.{◌≡◌, ◌+◌, ◌*◌, ◌<◌, ◌≤◌};
+ghost use Rattle.std.specs.Prelude.{◌≡◌, ◌+◌, ◌*◌, ◌<◌, ◌≤◌, length};
 ghost use Rattle.heap.specs.Heap.{child, enter, sink as sink_in};
-ghost use Rattle.heap.specs.Boxes.{by_spread, no_item};
+ghost use Rattle.heap.specs.Boxes.{by_spread};
 
 use crate::heap::BoxSpread;
 
 // A box enters at a place and climbs.
-pub(crate) fn climb(room: &mut [BoxSpread; 256], at: usize, x: BoxSpread)
+pub(crate) fn climb<B: Copy>(room: &mut [BoxSpread<B>; 256], at: usize, x: BoxSpread<B>)
     requires { at < 256 }
-    ensures { room.new ≡ enter by_spread no_item (record { room = room.old; hole = at }) x }
+    ensures entered { (none : _) → room.new ≡ enter by_spread none (record { room = room.old; hole = at }) x }
+    ensures long { length room.new ≡ 256 }
 {
     let mut p = at;
     while 0 < p {
@@ -25,9 +26,10 @@ pub(crate) fn climb(room: &mut [BoxSpread; 256], at: usize, x: BoxSpread)
 }
 
 // Which of two children moves up.
-fn child(room: &[BoxSpread; 256], p: usize) -> usize
+fn child<B: Copy>(room: &[BoxSpread<B>; 256], p: usize) -> usize
     requires { 2 * p + 2 < 256 }
-    ensures { result ≡ child by_spread no_item room.now p }
+    ensures chosen { (none : _) → result ≡ child by_spread none room.now p }
+    ensures below { (p < result) × (result ≤ 2 * p + 2) }
 {
     let left = 2 * p + 1;
     let right = 2 * p + 2;
@@ -39,10 +41,11 @@ fn child(room: &[BoxSpread; 256], p: usize) -> usize
 }
 
 // Sinks a hole from place 0 among the first `len` places, and answers where it ends.
-pub(crate) fn sink(room: &mut [BoxSpread; 256], len: usize) -> usize
+pub(crate) fn sink<B: Copy>(room: &mut [BoxSpread<B>; 256], len: usize) -> usize
     requires { len ≤ 256 }
-    ensures hole { result ≡ (sink_in by_spread no_item len room.old len 0).hole }
-    ensures room { room.new ≡ (sink_in by_spread no_item len room.old len 0).room }
+    ensures hole { (none : _) → result ≡ (sink_in by_spread none len room.old len 0).hole }
+    ensures room { (none : _) → room.new ≡ (sink_in by_spread none len room.old len 0).room }
+    ensures long { length room.new ≡ 256 }
 {
     let mut hole = 0;
     while 2 * hole + 2 < len {

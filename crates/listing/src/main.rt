@@ -38,9 +38,16 @@ fn has_argument(rt: &HostRuntime, word: &[u8]) -> bool {
 
 // ---- Writing
 
-// Where standard error cannot be written there is no place left to say so.
+// Writes to standard error, piece by piece: where one cannot be written, the next is tried all the same. There is no
+// place left to say so.
+fn tell(rt: &HostRuntime, pieces: &[&str]) {
+    for piece in pieces {
+        let _ = rt.stderr().write_all(piece.as_bytes());
+    }
+}
+
 fn complain(rt: &HostRuntime, message: &str) {
-    let _ = eprintln!(rt; "listing: {message}");
+    tell(rt, &["listing: ", message, "\n"]);
 }
 
 fn write(rt: &HostRuntime, text: &[u8]) {
@@ -72,8 +79,14 @@ const KINDS: [(&[u8], &str); 14] = [
 fn hint_of_kind(rt: &HostRuntime, bytes: &[u8], fate: &str) {
     for (word, kind) in KINDS {
         if begins_with(bytes, word) {
-            let _ = eprintln!(rt;
-                "listing: the input looks like {kind}{fate}; to list its pixels: magick FILE -depth 8 ppm:- | ./listing --ppm"
+            tell(
+                rt,
+                &[
+                    "listing: the input looks like ",
+                    kind,
+                    fate,
+                    "; to list its pixels: magick FILE -depth 8 ppm:- | ./listing --ppm\n",
+                ],
             );
         }
     }

@@ -12,7 +12,7 @@ use lib.ListN.{length, get_or, get_or-map}
 use lib.Seq.{get_or-take}
 use lib.Ieee.{Float, nan}
 use Rattle.basics.specs.Answer.{when_done}
-use Rattle.heap.specs.declared.heap.BoxSpread.{BoxSpread}
+use Rattle.heap.specs.Boxes.{BoxSpread}
 use Rattle.boxes.specs.Box.{no_box}
 use Rattle.rounds.specs.Loop.{with_zero}
 use Rattle.sums.specs.declared.source.Source.{Source}

@@ -18,6 +18,7 @@ use Rattle.basics.specs.declared.refusal.Refusal.{Refusal}
 use Rattle.basics.proofs.refusal.Refusal.number as number
 use Rattle.basics.proofs.refusal.answer as answer
 use Rattle.grid.specs.declared.place.Grid.{Grid}
+use Rattle.grid.specs.Grid.{steps_of}
 use Rattle.table.specs.declared.cell.Cell.{Cell}
 use Rattle.sums.specs.declared.box_sums.Stats.{Stats}
 use Rattle.spread.specs.declared.both_sides.BestCut.{BestCut}
@@ -27,7 +28,7 @@ use Rattle.table.specs.Layouts.{Wide, Narrow}
 use Rattle.table.specs.Narrow.{NarrowTable, narrow_table}
 use Rattle.cutter.specs.Cut.{Results, buffers, no_work, buffers_in, no_work_in, record_of, done_record, refused_record}
 use Rattle.promises.specs.Seen.{written}
-use Rattle.promises.specs.Layouts.{lists_in, lent_lists, DeterminesIn}
+use Rattle.promises.specs.Layouts.{lists_in, lent_lists, DeterminesIn, DeterminesOf}
 use Rattle.grid.proofs.dimension.shift_of as Shift-of
 use Rattle.grid.proofs.place.grid_of as grid-of
 use Rattle.grid.proofs.place.Grid.rgb as rgb
@@ -54,6 +55,7 @@ use Rattle.table.proofs.layout.NarrowLayout.too_heavy as narrow-too-heavy
 use Rattle.table.proofs.cell.plus as plus
 use Rattle.table.proofs.cell.minus as minus
 use Rattle.table.proofs.spans.row_spans as row-spans
+use Rattle.table.proofs.spans.fill_spans as fill-spans
 use Rattle.table.proofs.spans.Spans.of as spans-of
 use Rattle.table.proofs.sound.keeps_bounds as keeps-bounds
 use Rattle.table.proofs.sound.sound_total as sound-total
@@ -93,8 +95,10 @@ use Rattle.boxes.proofs.bytes.unpacked as unpacked
 use Rattle.boxes.proofs.sides.Bounds.low_side as low-side
 use Rattle.boxes.proofs.sides.Bounds.high_side as high-side
 use Rattle.spread.proofs.search.best_cut as best-cut
-use Rattle.heap.specs.declared.heap.BoxSpread.{BoxSpread}
 use Rattle.heap.specs.declared.heap.Heap.{Heap}
+use Rattle.heap.specs.declared.heap.BoxSpread.{BoxSpread as AnyBox}
+use lib.ListN.{length}
+use Rattle.std.proofs.Math.Nat.{ℕ_set}
 use Rattle.heap.proofs.heap.Heap.new as heap-new
 use Rattle.heap.proofs.heap.Heap.len as heap-len
 use Rattle.heap.proofs.heap.Heap.room as heap-room
@@ -274,6 +278,9 @@ minus_determined κs a r s x y p q = determined p q
 pub row_spans_determined : Determines 0 row-spans.Kinds.ps row-spans.Kinds.r row-spans.Reads.Learnt (λ κs r e. r)
 row_spans_determined κs a r s x y p q = determined p q
 
+pub fill_spans_determined : Determines 1 fill-spans.Kinds.ps fill-spans.Kinds.r fill-spans.Reads.Learnt (λ κs r e. e.0.now)
+fill_spans_determined κs a r s x y p q = determined p q
+
 pub spans_of_determined : Determines {A = Grid × List ℕ} 0 spans-of.Kinds.ps spans-of.Kinds.r spans-of.Reads.Learnt (λ κs r e. (r.g, r.third))
 spans_of_determined κs a r s x y p q = both (determined p.0 q.0) (determined p.1 q.1)
 
@@ -394,33 +401,41 @@ pub best_cut_determined : DeterminesIn {A = Option BestCut} 5 best-cut.Kinds.ps 
 best_cut_determined T laws l d κs a r s x y p q = determined p q
 
 -- ---- heap
--- two heaps are one where they have the same room and as many places in use
-same_heap : {x y : Heap} → x.room ≡ y.room → x.len ≡ y.len → x ≡ y
-same_heap {x} {y} p q = λ i. record {
+-- of boxes of any type: two heaps are one where they have the same room and as many places in use
+same_heap : {B : Type 0} {x y : Heap B} → x.room ≡ y.room → x.len ≡ y.len → x ≡ y
+same_heap {x = x} {y} p q = λ i. record {
   room = p i;
   len = q i;
+  long = is_prop→PathP (λ j. length (p j) ≡ 256) (λ j. ℕ_set _ _) x.long y.long i;
   in_room = is_prop→PathP (λ j. q j ≤ 256) (λ j. le_prop) x.in_room y.in_room i;
 }
 
-pub heap_new_determined : Determines 0 heap-new.Kinds.ps heap-new.Kinds.r heap-new.Reads.Learnt (λ κs r e. r)
-heap_new_determined κs a r s x y p q = same_heap (determined p.0 q.0) (determined p.1 q.1)
+pub heap_new_determined : DeterminesOf {A = λ T. Heap T.Denot} 1 heap-new.Kinds.ps heap-new.Kinds.r heap-new.Reads.Learnt
+    (λ T laws copy κs r e. r)
+heap_new_determined T laws copy clone d κs a r s x y p q = same_heap (determined p.0 q.0) (determined p.1 q.1)
 
-pub heap_len_determined : Determines 1 heap-len.Kinds.ps heap-len.Kinds.r heap-len.Reads.Learnt (λ κs r e. r)
-heap_len_determined κs a r s x y p q = determined p q
+pub heap_len_determined : DeterminesOf {A = λ T. ℕ} 2 heap-len.Kinds.ps heap-len.Kinds.r heap-len.Reads.Learnt
+    (λ T laws copy κs r e. r)
+heap_len_determined T laws copy clone d κs a r s x y p q = determined p q
 
-pub heap_room_determined : Determines 1 heap-room.Kinds.ps heap-room.Kinds.r heap-room.Reads.Learnt (λ κs r e. r.now)
-heap_room_determined κs a r s x y p q = determined p.0 q.0
+pub heap_room_determined : DeterminesOf {A = λ T. List (AnyBox T.Denot)} 2 heap-room.Kinds.ps heap-room.Kinds.r heap-room.Reads.Learnt
+    (λ T laws copy κs r e. r.now)
+heap_room_determined T laws copy clone d κs a r s x y p q = determined p.0 q.0
 
-pub heap_top_determined : Determines 1 heap-top.Kinds.ps heap-top.Kinds.r heap-top.Reads.Learnt (λ κs r e. r)
-heap_top_determined κs a r s x y p q = determined p q
+pub heap_top_determined : DeterminesOf {A = λ T. AnyBox T.Denot} 2 heap-top.Kinds.ps heap-top.Kinds.r heap-top.Reads.Learnt
+    (λ T laws copy κs r e. r)
+heap_top_determined T laws copy clone d κs a r s x y p q = determined (p r) (q r)
 
-pub put_in_determined : Determines 1 put_in.Kinds.ps put_in.Kinds.r put_in.Reads.Learnt (λ κs r e. e.0.now)
-put_in_determined κs a r s x y p q = same_heap (determined p.0 q.0) (determined p.1 q.1)
+pub put_in_determined : DeterminesOf {A = λ T. Heap T.Denot} 2 put_in.Kinds.ps put_in.Kinds.r put_in.Reads.Learnt
+    (λ T laws copy κs r e. e.0.now)
+put_in_determined T laws copy clone d κs a r s x y p q =
+    same_heap (determined (p.0 a.1.0) (q.0 a.1.0)) (determined p.1 q.1)
 
-pub take_out_determined : Determines {A = BoxSpread × Heap} 1 take_out.Kinds.ps take_out.Kinds.r take_out.Reads.Learnt
-    (λ κs r e. (r, e.0.now))
-take_out_determined κs a r s x y p q =
-    both (determined p.0 q.0) (same_heap {x = x.0.now} {y = y.0.now} (determined p.1.0 q.1.0) (determined p.1.1 q.1.1))
+pub take_out_determined : DeterminesOf {A = λ T. AnyBox T.Denot × Heap T.Denot} 2 take_out.Kinds.ps take_out.Kinds.r take_out.Reads.Learnt
+    (λ T laws copy κs r e. (r, e.0.now))
+take_out_determined T laws copy clone d κs a r s x y p q =
+    both (determined (p.0 r) (q.0 r))
+    (same_heap {x = x.0.now} {y = y.0.now} (determined (p.1.0 r) (q.1.0 r)) (determined p.1.1 q.1.1))
 
 -- ---- rounds
 pub cut_boxes_determined : DeterminesIn {A = Boxes} 5 cut-boxes.Kinds.ps cut-boxes.Kinds.r cut-boxes.Reads.Learnt
@@ -462,9 +477,12 @@ pub band_number_determined : Determines {A = Result (Unit {0}) Refusal} 1 band-n
     band-number.Reads.Learnt (λ κs r e. r)
 band_number_determined κs a r s x y p q = answer_tells r s (determined p q)
 
-pub look_up_of_determined : Determines {A = Grid × List ℕ} 1 look-up-of.Kinds.ps look-up-of.Kinds.r
-    look-up-of.Reads.Learnt (λ κs r e. (r.g, r.map.now))
-look_up_of_determined κs a r s x y p q = both (determined p.0 q.0) (determined p.1 q.1)
+pub look_up_of_determined : Determines {A = (Grid × List ℕ) × (List ℕ × List ℕ)} 1 look-up-of.Kinds.ps
+    look-up-of.Kinds.r look-up-of.Reads.Learnt (λ κs r e. ((r.g, r.map.now), (r.t1, r.t2)))
+look_up_of_determined κs a r s x y p q =
+    let steps : (d : ℕ) → steps_of r.g d ≡ steps_of s.g d = λ d. ap (λ g. steps_of g d) (determined p.0 q.0) in
+    both (both (determined p.0 q.0) (determined p.1 q.1))
+    (both (r.ready.one ∙ steps 0 ∙ sym s.ready.one) (r.ready.two ∙ steps 1 ∙ sym s.ready.two))
 
 pub index_at_determined : Determines 3 index_at.Kinds.ps index_at.Kinds.r index_at.Reads.Learnt (λ κs r e. r)
 index_at_determined κs a r s x y p q = determined p q

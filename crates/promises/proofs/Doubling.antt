@@ -38,7 +38,7 @@ use Rattle.sums.specs.declared.source.Source.{Source}
 use Rattle.sums.specs.declared.source.Source.TheVariants.{Moments}
 use Rattle.sums.specs.Moments.{moments_of}
 use Rattle.heap.specs.Heap.{item}
-use Rattle.heap.specs.declared.heap.BoxSpread.{BoxSpread}
+use Rattle.heap.specs.Boxes.{BoxSpread}
 use Rattle.rounds.specs.declared.gather.Boxes.{Boxes}
 use Rattle.rounds.specs.Loop.{no_item, with_zero, places_of, heap_of, boxes_of}
 use Rattle.rounds.proofs.Filled.{Each, heap_in_use}

@@ -19,7 +19,7 @@ use Rattle.boxes.specs.declared.sides.Bounds.{Bounds}
 use Rattle.boxes.specs.Box.{low_side, high_side}
 use Rattle.boxes.proofs.Within.{low_within, high_within}
 use Rattle.spread.proofs.Finite.{spread_finite, score_finite}
-use Rattle.heap.specs.declared.heap.BoxSpread.{BoxSpread}
+use Rattle.heap.specs.Boxes.{BoxSpread}
 use Rattle.rounds.specs.Loop.{Heap, with_spread, with_zero, start_room, start, round_room, round_boxes, round, rounds}
 use Rattle.rounds.specs.Loop.{heap_of}
 use Rattle.rounds.proofs.OneRound.{round_cases, rounds_keep}

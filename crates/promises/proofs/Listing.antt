@@ -39,7 +39,7 @@ use Rattle.spread.specs.Spread.{zero_of, quotient_of, spread_of, score_of}
 use Rattle.boxes.specs.Box.{one_bin}
 use Rattle.spread.specs.Cut.{position_of, position_at, later_wins, better, best_run, best_in, best_cut}
 use Rattle.heap.specs.Heap.{climb, put_in, sink, enter, take_out}
-use Rattle.heap.specs.declared.heap.BoxSpread.{BoxSpread}
+use Rattle.heap.specs.Boxes.{BoxSpread}
 use Rattle.rounds.specs.declared.gather.Boxes.{Boxes}
 use Rattle.rounds.specs.Loop.{with_spread, start_room, start, room_after, boxes_after, round_room, round_boxes}
 use Rattle.rounds.specs.Loop.{round}

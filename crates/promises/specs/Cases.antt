@@ -7,7 +7,7 @@ use Rattle.loader.specs.Load.{load_number, load_later}
 use Rattle.loader.specs.Plan.{Batch}
 use Rattle.spread.specs.Spread.{zero_of}
 use Rattle.spread.specs.Cut.{ScoredAnswer, position_answer, best_cut}
-use Rattle.heap.specs.declared.heap.BoxSpread.{BoxSpread}
+use Rattle.heap.specs.Boxes.{BoxSpread}
 use Rattle.boxes.specs.Box.{whole_of}
 use Rattle.sums.specs.declared.source.Source.TheVariants.{Moments}
 use Rattle.cutter.specs.Record.{CutRecord}

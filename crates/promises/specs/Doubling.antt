@@ -10,7 +10,7 @@ use Rattle.table.specs.Layout.{TableIn, view_in}
 use Rattle.table.specs.Sound.{limit_of, total, sound}
 use Rattle.sums.specs.declared.source.Source.{Source}
 use Rattle.sums.specs.declared.source.Source.TheVariants.{Moments}
-use Rattle.heap.specs.declared.heap.BoxSpread.{BoxSpread}
+use Rattle.heap.specs.Boxes.{BoxSpread}
 use Rattle.cutter.specs.Record.{CutRecord}
 use Rattle.cutter.specs.Cut.{BuffersIn, cut_number_in, cut_record_in, cut_later_in}
 use Rattle.doubling.specs.Grow.{times_power}

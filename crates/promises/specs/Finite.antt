@@ -10,7 +10,7 @@ use Rattle.bins.specs.Sum.{box_sum}
 use Rattle.sums.specs.Box.{stats_of}
 use Rattle.spread.specs.Spread.{score_of}
 use Rattle.heap.specs.Heap.{item}
-use Rattle.heap.specs.declared.heap.BoxSpread.{BoxSpread}
+use Rattle.heap.specs.Boxes.{BoxSpread}
 use Rattle.rounds.specs.Loop.{Heap, no_item, start, rounds}
 
 -- the heap after i rounds of the loop of a cut into at most k boxes, or at its end where that comes sooner

@@ -3,17 +3,16 @@
 ghost use Rattle.std.specs.Prelude.{◌<◌};
 
 use crate::cuts::{cut_table, take_front};
-use crate::lend::{kept, lent};
-use crate::lists::Lists;
+use crate::lend::lent;
+use crate::lists::{Lists, MAP, SHORT};
 use crate::row::Row;
-use crate::tell::Stop;
-use crate::words::{Kind, Name, Word};
+use crate::tell::Difference;
+use crate::words::Kind;
 use basics::refusal::{self, Refusal};
 use loader::load::load;
 use loader::merge::merge;
 use mapper::call::map;
 use painter::call::paint;
-use std::alloc::AllocError;
 use table::layout::Wide;
 
 // What a call answers, as the number that a line has.
@@ -21,68 +20,73 @@ fn number(done: Result<(), Refusal>) -> u64 {
     u64::from(refusal::answer(done))
 }
 
+// The weights, where the line has a 1 for them.
+fn weights_of<'a>(row: &Row, list: &[u64], room: &'a mut [u32]) -> Option<&'a [u32]> {
+    if row.number(6) == 1 {
+        return Some(lent(list, room));
+    }
+    None
+}
+
 // Loads the frame with the weights into the list that the line names.
-fn load_frame(row: &Row, lists: &mut Lists) -> Result<u64, AllocError> {
+fn load_frame(row: &Row, lists: &mut Lists) -> u64 {
     let (b1, b2, b3) = row.bins();
-    let frame = lent(lists.alloc, &lists.frame)?;
-    let weights = lent(lists.alloc, &lists.weights)?;
-    let table = lists.named_mut(row);
-    let weights = if row.number(6) == 1 {
-        Some(weights.as_slice())
-    } else {
-        None
-    };
-    Ok(number(load::<Wide>(b1, b2, b3, &mut [], table, &frame, weights)))
+    let mut frame = [0; SHORT];
+    let mut weights = [0; SHORT];
+    let frame = lent(lists.frame.items(), &mut frame);
+    let weights = weights_of(row, lists.weights.items(), &mut weights);
+    let table = lists.named_mut(row.number(2));
+    let n = table.len;
+    number(load::<Wide>(b1, b2, b3, &mut [], &mut table.room[..n], frame, weights))
 }
 
 // Adds the second table to the list that the line names, which may be that table.
-fn merge_second(row: &Row, lists: &mut Lists) -> Result<u64, AllocError> {
+fn merge_second(row: &mut Row, lists: &mut Lists) -> u64 {
     let (b1, b2, b3) = row.bins();
-    let second = lists.second.clone()?;
-    let table = lists.named_mut(row);
-    Ok(number(merge::<Wide>(b1, b2, b3, &mut [], table, &[], &second)))
+    let name = row.number(2);
+    let second = row.copy_behind(lists.second.items());
+    let table = lists.named_mut(name);
+    let n = table.len;
+    number(merge::<Wide>(b1, b2, b3, &mut [], &mut table.room[..n], &[], second))
 }
 
 // Maps a band of the frame into the indices.
-fn map_frame(row: &Row, lists: &mut Lists) -> Result<u64, AllocError> {
+fn map_frame(row: &Row, lists: &mut Lists) -> u64 {
     let (b1, b2, b3) = row.bins();
-    let by = lent(lists.alloc, &lists.map)?;
-    let frame = lent(lists.alloc, &lists.frame)?;
-    let mut indices = lent(lists.alloc, &lists.indices)?;
+    let mut by = [0; MAP];
+    let mut frame = [0; SHORT];
+    let mut indices = [0; SHORT];
+    let by = lent(lists.map.items(), &mut by);
+    let frame = lent(lists.frame.items(), &mut frame);
+    let indices = lent(lists.indices.items(), &mut indices);
     let colours = row.size(6);
     let answer = map(
         b1,
         b2,
         b3,
-        &by,
+        by,
         colours,
-        &frame,
-        &mut indices,
+        frame,
+        indices,
         row.size(7),
         row.size(8),
     );
-    lists.indices = kept(lists.alloc, &indices)?;
-    Ok(number(answer))
+    lists.indices.keep(indices);
+    number(answer)
 }
 
 // Paints a band of the frame with the palette.
-fn paint_frame(row: &Row, lists: &mut Lists) -> Result<u64, AllocError> {
+fn paint_frame(row: &Row, lists: &mut Lists) -> u64 {
     let (b1, b2, b3) = row.bins();
-    let by = lent(lists.alloc, &lists.map)?;
-    let palette = lent(lists.alloc, &lists.palette)?;
-    let mut frame = lent(lists.alloc, &lists.frame)?;
-    let answer = paint(
-        b1,
-        b2,
-        b3,
-        &by,
-        &palette,
-        &mut frame,
-        row.size(6),
-        row.size(7),
-    );
-    lists.frame = kept(lists.alloc, &frame)?;
-    Ok(number(answer))
+    let mut by = [0; MAP];
+    let mut palette = [0; SHORT];
+    let mut frame = [0; SHORT];
+    let by = lent(lists.map.items(), &mut by);
+    let palette = lent(lists.palette.items(), &mut palette);
+    let frame = lent(lists.frame.items(), &mut frame);
+    let answer = paint(b1, b2, b3, by, palette, frame, row.size(6), row.size(7));
+    lists.frame.keep(frame);
+    number(answer)
 }
 
 // Where the answer of a call stands in its line.
@@ -100,7 +104,7 @@ fn place_of(kind: Kind) -> usize
 }
 
 // Makes a call, and answers its number.
-fn answer(kind: Kind, row: &Row, lists: &mut Lists) -> Result<u64, AllocError> {
+fn answer(kind: Kind, row: &mut Row, lists: &mut Lists) -> u64 {
     match kind {
         Kind::Load => load_frame(row, lists),
         Kind::Merge => merge_second(row, lists),
@@ -112,10 +116,8 @@ fn answer(kind: Kind, row: &Row, lists: &mut Lists) -> Result<u64, AllocError> {
 }
 
 // Makes the call of a line, counts it, and holds its number.
-pub(crate) fn make(kind: Kind, row: &Row, lists: &mut Lists) -> Result<(), Stop> {
-    let answer = answer(kind, row, lists)?;
-    if let Some(n) = lists.calls.get_mut(kind as usize) {
-        *n = n.wrapping_add(1);
-    }
+pub(crate) fn make(kind: Kind, row: &mut Row, lists: &mut Lists) -> Result<(), Difference> {
+    let answer = answer(kind, row, lists);
+    lists.calls.count(kind as usize);
     row.agree(place_of(kind), answer, &[])
 }

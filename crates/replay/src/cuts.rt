@@ -1,12 +1,11 @@
 // A cut, with its record as a list, and the filled front of a palette.
-use crate::lend::{kept, lent};
-use crate::lists::Lists;
+use crate::lend::lent;
+use crate::lists::{List, Lists, MAP, SHORT};
 use crate::row::Row;
 use boxes::sides::Bounds;
 use cutter::call::cut;
 use cutter::palette::front;
 use rounds::gather::{BoxSpread, Boxes};
-use std::alloc::AllocError;
 use sums::source::Source;
 use table::layout::Wide;
 
@@ -52,22 +51,27 @@ const NO_BOXES: Boxes = Boxes {
 
 // Makes the record of a cut a list: how many boxes there are, how many rounds there were, and every place, those past
 // the last box too.
-fn put_record(record: &mut Vec<u64>, r: &Boxes) -> Result<(), AllocError> {
-    record.clear();
-    record.extend_from_slice(&[r.boxes as u64, r.rounds as u64])?;
+fn put_record(record: &mut List, r: &Boxes) {
+    record.truncate(0);
+    record.extend(&[r.boxes as u64, r.rounds as u64]);
     for place in &r.places {
-        record.extend_from_slice(&numbers_of(place))?;
+        record.extend(&numbers_of(place));
     }
-    Ok(())
 }
 
 // Cuts the table, with the second table as work table.
-pub(crate) fn cut_table(row: &Row, lists: &mut Lists) -> Result<u64, AllocError> {
+pub(crate) fn cut_table(row: &Row, lists: &mut Lists) -> u64 {
     let (b1, b2, b3) = row.bins();
-    let mut palette = lent(lists.alloc, &lists.palette)?;
-    let mut counts = lent(lists.alloc, &lists.counts)?;
-    let mut left = lent(lists.alloc, &lists.left)?;
-    let mut map = lent(lists.alloc, &lists.map)?;
+    let mut palette = [0; SHORT];
+    let mut counts = [0; SHORT];
+    let mut left = [0; SHORT];
+    let mut map = [0; MAP];
+    let palette = lent(lists.palette.items(), &mut palette);
+    let counts = lent(lists.counts.items(), &mut counts);
+    let left = lent(lists.left.items(), &mut left);
+    let map = lent(lists.map.items(), &mut map);
+    let work = &mut lists.second;
+    let n = work.len;
     let done = cut::<Wide>(
         Source::Moments,
         b1,
@@ -75,30 +79,31 @@ pub(crate) fn cut_table(row: &Row, lists: &mut Lists) -> Result<u64, AllocError>
         b3,
         row.size(6),
         &[],
-        &lists.table,
+        lists.table.items(),
         &mut [],
-        &mut lists.second,
-        &mut palette,
-        &mut counts,
-        &mut left,
-        &mut map,
+        &mut work.room[..n],
+        palette,
+        counts,
+        left,
+        map,
     );
     let (boxes, answer) = match done {
         Ok(boxes) => (boxes, 0),
         Err(refusal) => (NO_BOXES, refusal.number()),
     };
-    put_record(&mut lists.record, &boxes)?;
-    lists.palette = kept(lists.alloc, &palette)?;
-    lists.counts = kept(lists.alloc, &counts)?;
-    lists.left = kept(lists.alloc, &left)?;
-    lists.map = kept(lists.alloc, &map)?;
-    Ok(u64::from(answer))
+    put_record(&mut lists.record, &boxes);
+    lists.palette.keep(palette);
+    lists.counts.keep(counts);
+    lists.left.keep(left);
+    lists.map.keep(map);
+    u64::from(answer)
 }
 
 // Makes the palette its filled front, and answers how many bytes that has.
-pub(crate) fn take_front(row: &Row, lists: &mut Lists) -> Result<u64, AllocError> {
-    let palette = lent(lists.alloc, &lists.palette)?;
-    let filled = front(&palette, row.size(3)).len();
+pub(crate) fn take_front(row: &Row, lists: &mut Lists) -> u64 {
+    let mut palette = [0; SHORT];
+    let palette = lent(lists.palette.items(), &mut palette);
+    let filled = front(palette, row.size(3)).len();
     lists.palette.truncate(filled);
-    Ok(filled as u64)
+    filled as u64
 }

@@ -1,7 +1,5 @@
-// Copies of lists as calls take them, and back.
-ghost use Rattle.std.specs.Prelude.{◌≡◌, ℕ, ◌%◌, map, IfOk};
-
-use std::alloc::{AllocError, Global};
+// Copies of lists as calls take them.
+ghost use Rattle.std.specs.Prelude.{◌≡◌, ℕ, ◌%◌, map, take, length};
 
 // A type that calls take numbers in: the lowest bits of a list's number.
 pub(crate) trait Entry: Copy {
@@ -27,17 +25,13 @@ impl Entry for u32 {
     }
 }
 
-// The copy of a list that a call is lent.
-pub(crate) fn lent<T: Entry>(alloc: Global, list: &[u64]) -> Result<Vec<T>, AllocError>
-    ensures { IfOk result (λ copy. copy.items ≡ map T.lowest_of list.now) }
+// The copy of a list that a call is lent, as much of it as there is room for.
+pub(crate) fn lent<'a, T: Entry>(list: &[u64], room: &'a mut [T]) -> &'a mut [T]
+    ensures { result.now ≡ map T.lowest_of (take (length room.old) list.now) }
 {
-    list.iter().map(|n| T::lowest(*n)).collect(alloc)
-}
-
-// The list that a call left in its copy.
-pub(crate) fn kept<T: Copy>(alloc: Global, copy: &[T]) -> Result<Vec<u64>, AllocError>
-where
-    u64: From<T>,
-{
-    copy.iter().map(|n| u64::from(*n)).collect(alloc)
+    let n = list.len().min(room.len());
+    for i in 0..n {
+        room[i] = T::lowest(list[i]);
+    }
+    &mut room[..n]
 }

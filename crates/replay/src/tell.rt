@@ -1,39 +1,11 @@
 // What the program writes: the first thing that does not agree and its line, or how many lines there were.
-use std::alloc::AllocError;
-use std::fmt;
 
 // A number that came is not the one to come.
 #[derive(Clone, Copy)]
 pub(crate) struct Difference {
-    place: usize,
-    came: u64,
-    due: u64,
-}
-
-impl fmt::Display for Difference {
-    fn fmt<W: fmt::Write>(&self, f: &mut fmt::Formatter<W>) -> fmt::Result {
-        let Difference { place, came, due } = *self;
-        write!(f, "place {place}: came {came}, to come {due}")
-    }
-}
-
-// Why a script is replayed no further.
-#[derive(Drop)]
-pub(crate) enum Stop {
-    Differs(Difference),
-    OutOfMemory(AllocError),
-}
-
-impl Stop {
-    pub(crate) fn at(place: usize, came: u64, due: u64) -> Stop {
-        Stop::Differs(Difference { place, came, due })
-    }
-}
-
-impl From<AllocError> for Stop {
-    fn from(e: AllocError) -> Stop {
-        Stop::OutOfMemory(e)
-    }
+    pub(crate) place: usize,
+    pub(crate) came: u64,
+    pub(crate) due: u64,
 }
 
 // How a replay ended, with the last line that was replayed.
@@ -44,12 +16,30 @@ pub(crate) enum Ending {
     Unfinished(u64),
 }
 
-impl fmt::Display for Ending {
-    fn fmt<W: fmt::Write>(&self, f: &mut fmt::Formatter<W>) -> fmt::Result {
+// Words and the number after them. Where standard output takes nothing the program goes on.
+fn say(rt: &HostRuntime, words: &[u8], n: u64) {
+    let _ = rt.stdout().write_all(words);
+    let _ = rt.stdout().print(n);
+}
+
+impl Difference {
+    fn tell(self, rt: &HostRuntime) {
+        say(rt, b"place ", self.place as u64);
+        say(rt, b": came ", self.came);
+        say(rt, b", to come ", self.due);
+    }
+}
+
+impl Ending {
+    pub(crate) fn tell(self, rt: &HostRuntime) {
         match self {
-            Ending::Agreed(lines) => write!(f, "all agreed, lines: {lines}"),
-            Ending::Differs(difference, line) => write!(f, "{difference}; not agreed: line {line}"),
-            Ending::Unfinished(line) => write!(f, "; not agreed: line {line}"),
+            Ending::Agreed(lines) => say(rt, b"all agreed, lines: ", lines),
+            Ending::Differs(difference, line) => {
+                difference.tell(rt);
+                say(rt, b"; not agreed: line ", line);
+            }
+            Ending::Unfinished(line) => say(rt, b"; not agreed: line ", line),
         }
+        let _ = rt.stdout().write_all(b"\n");
     }
 }

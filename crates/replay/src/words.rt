@@ -1,20 +1,63 @@
 // The words of a script. In a row a word stands as the number that its bytes make, the first the highest, and a script
 // may write that number in its place.
-ghost use Rattle.std.specs.Prelude.{◌+◌, ◌*◌, ◌≤◌};
 
-// As many bins as a grid may have here.
-pub(crate) const BINS: usize = 32768;
+// The number that the bytes of a word make.
+macro_rules! word {
+    ($first:literal $($letter:literal)*) => {
+        word!(@ ($first as u64); $($letter)*)
+    };
+    (@ $number:expr; $letter:literal $($letters:literal)*) => {
+        word!(@ (256 * $number + $letter as u64); $($letters)*)
+    };
+    (@ $number:expr;) => {
+        $number
+    };
+}
+
+const CASE: u64 = word!(b'c' b'a' b's' b'e');
+
+const LET: u64 = word!(b'l' b'e' b't');
+
+const IS: u64 = word!(b'i' b's');
+
+const SUMS: u64 = word!(b's' b'u' b'm' b's');
+
+const LOAD: u64 = word!(b'l' b'o' b'a' b'd');
+
+const MERGE: u64 = word!(b'm' b'e' b'r' b'g' b'e');
+
+const CUT: u64 = word!(b'c' b'u' b't');
+
+const FRONT: u64 = word!(b'f' b'r' b'o' b'n' b't');
+
+const MAP: u64 = word!(b'm' b'a' b'p');
+
+const PAINT: u64 = word!(b'p' b'a' b'i' b'n' b't');
+
+const TABLE: u64 = word!(b't' b'a' b'b' b'l' b'e');
+
+const SECOND: u64 = word!(b's' b'e' b'c' b'o' b'n' b'd');
+
+const PALETTE: u64 = word!(b'p' b'a' b'l' b'e' b't' b't' b'e');
+
+const FRAME: u64 = word!(b'f' b'r' b'a' b'm' b'e');
+
+const INDICES: u64 = word!(b'i' b'n' b'd' b'i' b'c' b'e' b's');
+
+const COUNTS: u64 = word!(b'c' b'o' b'u' b'n' b't' b's');
+
+const LEFT: u64 = word!(b'l' b'e' b'f' b't');
+
+const WEIGHTS: u64 = word!(b'w' b'e' b'i' b'g' b'h' b't' b's');
+
+const RECORD: u64 = word!(b'r' b'e' b'c' b'o' b'r' b'd');
+
+const CALLS: u64 = word!(b'c' b'a' b'l' b'l' b's');
 
 // A kind of words.
 pub(crate) trait Word: Sized {
-    fn parse(text: &[u8]) -> Option<Self>;
-
-    // The word that a number is, if it is one: the number's bytes from the first that is not 0 on.
-    fn of(number: u64) -> Option<Self> {
-        let bytes = number.to_be_bytes();
-        let start = bytes.iter().position(|b| *b != 0).unwrap_or(bytes.len());
-        Self::parse(&bytes[start..])
-    }
+    // The word that a number is, if it is one.
+    fn of(number: u64) -> Option<Self>;
 }
 
 // The kinds of calls, in the order in which they are counted.
@@ -39,18 +82,18 @@ pub(crate) enum Verb {
 }
 
 impl Word for Verb {
-    fn parse(text: &[u8]) -> Option<Verb> {
-        match text {
-            b"case" => Some(Verb::Case),
-            b"let" => Some(Verb::Let),
-            b"is" => Some(Verb::Is),
-            b"sums" => Some(Verb::Sums),
-            b"load" => Some(Verb::Call(Kind::Load)),
-            b"merge" => Some(Verb::Call(Kind::Merge)),
-            b"cut" => Some(Verb::Call(Kind::Cut)),
-            b"front" => Some(Verb::Call(Kind::Front)),
-            b"map" => Some(Verb::Call(Kind::Map)),
-            b"paint" => Some(Verb::Call(Kind::Paint)),
+    fn of(number: u64) -> Option<Verb> {
+        match number {
+            CASE => Some(Verb::Case),
+            LET => Some(Verb::Let),
+            IS => Some(Verb::Is),
+            SUMS => Some(Verb::Sums),
+            LOAD => Some(Verb::Call(Kind::Load)),
+            MERGE => Some(Verb::Call(Kind::Merge)),
+            CUT => Some(Verb::Call(Kind::Cut)),
+            FRONT => Some(Verb::Call(Kind::Front)),
+            MAP => Some(Verb::Call(Kind::Map)),
+            PAINT => Some(Verb::Call(Kind::Paint)),
             _ => None,
         }
     }
@@ -72,34 +115,20 @@ pub(crate) enum Name {
     Calls,
 }
 
-impl Name {
-    // How many numbers a list has room for.
-    pub(crate) fn room(self) -> usize
-        ensures { result ≤ 5 * BINS + 1 }
-    {
-        match self {
-            Name::Table | Name::Second => 5 * BINS + 1,
-            Name::Map => BINS + 1,
-            Name::Calls => 15,
-            _ => 4095,
-        }
-    }
-}
-
 impl Word for Name {
-    fn parse(text: &[u8]) -> Option<Name> {
-        match text {
-            b"table" => Some(Name::Table),
-            b"second" => Some(Name::Second),
-            b"map" => Some(Name::Map),
-            b"palette" => Some(Name::Palette),
-            b"frame" => Some(Name::Frame),
-            b"indices" => Some(Name::Indices),
-            b"counts" => Some(Name::Counts),
-            b"left" => Some(Name::Left),
-            b"weights" => Some(Name::Weights),
-            b"record" => Some(Name::Record),
-            b"calls" => Some(Name::Calls),
+    fn of(number: u64) -> Option<Name> {
+        match number {
+            TABLE => Some(Name::Table),
+            SECOND => Some(Name::Second),
+            MAP => Some(Name::Map),
+            PALETTE => Some(Name::Palette),
+            FRAME => Some(Name::Frame),
+            INDICES => Some(Name::Indices),
+            COUNTS => Some(Name::Counts),
+            LEFT => Some(Name::Left),
+            WEIGHTS => Some(Name::Weights),
+            RECORD => Some(Name::Record),
+            CALLS => Some(Name::Calls),
             _ => None,
         }
     }

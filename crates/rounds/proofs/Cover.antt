@@ -14,7 +14,7 @@ use Rattle.boxes.specs.Box.{min_at, max_at, low_side, high_side}
 use Rattle.spread.proofs.Best.{answered}
 use Rattle.heap.specs.Heap.{item, put_in, take_out, sum_items}
 use Rattle.heap.proofs.Keeps.{put_in_long, put_in_sum, take_out_sum}
-use Rattle.heap.specs.declared.heap.BoxSpread.{BoxSpread}
+use Rattle.heap.specs.Boxes.{BoxSpread}
 use Rattle.rounds.specs.Loop.{by_spread, no_item, with_spread, with_zero, start_room, start, round_room, round_boxes}
 use Rattle.rounds.specs.Loop.{round, heap_of}
 use Rattle.boxes.specs.Box.{whole_of}

@@ -25,7 +25,7 @@ use Rattle.spread.proofs.Finite.{spread_finite}
 use Rattle.heap.specs.Heap.{item, put_in, take_out, InOrder, NoNaN}
 use Rattle.basics.proofs.Compare.{not_less_trans, finite_number}
 use Rattle.heap.proofs.Order.{put_in_order, take_out_order, top_greatest}
-use Rattle.heap.specs.declared.heap.BoxSpread.{BoxSpread}
+use Rattle.heap.specs.Boxes.{BoxSpread}
 use Rattle.rounds.specs.Loop.{by_spread, Heap, no_item, with_spread, with_zero, start_room, start, round_room}
 use Rattle.rounds.specs.Loop.{round_boxes, round, rounds, heap_of}
 use Rattle.rounds.proofs.OneRound.{room_stops, boxes_stops, round_cases}

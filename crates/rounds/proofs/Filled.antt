@@ -20,7 +20,7 @@ use Rattle.spread.specs.Cut.{best_cut}
 use Rattle.spread.proofs.Best.{answered}
 use Rattle.heap.specs.Heap.{item, put_in, take_out}
 use Rattle.heap.proofs.Keeps.{put_in_long, put_in_all, take_out_long, take_out_all}
-use Rattle.heap.specs.declared.heap.BoxSpread.{BoxSpread}
+use Rattle.heap.specs.Boxes.{BoxSpread}
 use Rattle.rounds.specs.Loop.{by_spread, Heap, no_item, with_spread, with_zero, start_room, round_room}
 use Rattle.rounds.specs.Loop.{round_boxes, round, rounds, start, heap_of}
 use Rattle.boxes.specs.Box.{no_box, whole_of}

@@ -18,7 +18,7 @@ use Rattle.boxes.specs.Box.{low_side, high_side}
 use Rattle.spread.specs.Spread.{zero_of}
 use Rattle.heap.specs.Heap.{item, put_in, take_out, sum_items}
 use Rattle.heap.proofs.Keeps.{put_in_long, put_in_sum, take_out_sum}
-use Rattle.heap.specs.declared.heap.BoxSpread.{BoxSpread}
+use Rattle.heap.specs.Boxes.{BoxSpread}
 use Rattle.rounds.specs.Loop.{by_spread, Heap, no_item, with_spread, with_zero, start_room, start, round_room}
 use Rattle.rounds.specs.Loop.{round_boxes, round, rounds, heap_of}
 use Rattle.rounds.proofs.OneRound.{round_cases}

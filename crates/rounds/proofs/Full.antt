@@ -25,7 +25,7 @@ use Rattle.spread.specs.Spread.{SpreadsAbove}
 use Rattle.spread.specs.Cut.{best_cut}
 use Rattle.spread.proofs.Best.{two_occupied}
 use Rattle.heap.specs.Heap.{item, sum_items}
-use Rattle.heap.specs.declared.heap.BoxSpread.{BoxSpread}
+use Rattle.heap.specs.Boxes.{BoxSpread}
 use Rattle.rounds.specs.Loop.{no_item, with_spread, start, heap_of}
 use Rattle.boxes.specs.Box.{whole_of}
 use Rattle.rounds.proofs.Grids.{whole_sum}

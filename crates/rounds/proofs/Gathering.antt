@@ -15,7 +15,7 @@ use lib.ListN.{length, get_or, replicate}
 use Rattle.std.proofs.lemmas.List.{places}
 use Rattle.basics.proofs.Range.{list_is}
 use Rattle.heap.specs.Heap.{item}
-use Rattle.heap.specs.declared.heap.BoxSpread.{BoxSpread}
+use Rattle.heap.specs.Boxes.{BoxSpread}
 use Rattle.boxes.specs.Box.{no_box}
 use Rattle.rounds.specs.Loop.{no_item, with_zero, places_of}
 

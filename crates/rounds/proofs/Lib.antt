@@ -6,3 +6,4 @@ pub mod Gathering
 pub mod Cover
 pub mod Ends
 pub mod Full
+pub mod Packing

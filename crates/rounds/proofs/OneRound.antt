@@ -16,7 +16,7 @@ use Rattle.std.specs.Prelude.{Option, Some, None}
 use Rattle.spread.specs.Spread.{zero_of}
 use Rattle.spread.specs.Cut.{best_cut}
 use Rattle.heap.specs.Heap.{item, put_in, take_out}
-use Rattle.heap.specs.declared.heap.BoxSpread.{BoxSpread}
+use Rattle.heap.specs.Boxes.{BoxSpread}
 use Rattle.rounds.specs.Loop.{by_spread, no_item, with_spread, with_zero, Heap, room_after, boxes_after, round_room}
 use Rattle.rounds.specs.Loop.{round_boxes, round, rounds}
 

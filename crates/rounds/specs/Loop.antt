@@ -14,7 +14,7 @@ use Rattle.spread.specs.Spread.{zero_of, spread_of}
 use Rattle.spread.specs.Cut.{best_cut}
 use Rattle.heap.specs.Heap.{item, put_in, take_out}
 pub use Rattle.heap.specs.Boxes.{by_spread, no_item}
-use Rattle.heap.specs.declared.heap.BoxSpread.{BoxSpread}
+use Rattle.heap.specs.Boxes.{BoxSpread}
 use Rattle.rounds.specs.declared.gather.Boxes.{Boxes}
 
 -- a box with its own spread

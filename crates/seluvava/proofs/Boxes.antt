@@ -9,7 +9,7 @@ use lib.Seq.{length-take-le, get_or-take, take_all}
 use lib.Ieee.{Float, nan}
 use Rattle.boxes.specs.declared.sides.Bounds.{Bounds}
 use Rattle.boxes.specs.Bytes.{box_bytes}
-use Rattle.heap.specs.declared.heap.BoxSpread.{BoxSpread}
+use Rattle.heap.specs.Boxes.{BoxSpread}
 use Rattle.cutter.specs.Record.{CutRecord}
 use Rattle.cutter.specs.Fronts.{filled, put_from}
 use Rattle.rounds.specs.Loop.{no_item}

@@ -10,7 +10,7 @@ use Rattle.table.specs.Layout.{TableIn, view_in}
 use Rattle.table.specs.Sound.{limit_of}
 use Rattle.boxes.specs.Bytes.{box_bytes}
 use Rattle.sums.specs.declared.source.Source.{Source}
-use Rattle.heap.specs.declared.heap.BoxSpread.{BoxSpread}
+use Rattle.heap.specs.Boxes.{BoxSpread}
 use Rattle.cutter.specs.Record.{CutRecord}
 use Rattle.cutter.specs.Fronts.{filled}
 use Rattle.cutter.specs.Cut.{BuffersIn, Buffers, lengths_right, cut_number_on, cut_record_in, cut_later_in}

@@ -45,9 +45,11 @@ pub trait Layout {
 }
 
 // All five numbers of a bin in the large list.
+#[derive(Clone, Copy)]
 pub struct Wide;
 
 // All but the squares in the small list.
+#[derive(Clone, Copy)]
 pub struct Narrow;
 
 impl Layout for Wide {

@@ -1,6 +1,6 @@
 // The spans of bins, each packed into one number: its low, and 2^32 times what its high has more. One number read then
 // gives both ends of a span, and one multiplication by a weight both bounds of a sum.
-ghost use Rattle.std.specs.Prelude.{◌≡◌, replicate};
+ghost use Rattle.std.specs.Prelude.{◌≡◌, length, replicate};
 ghost use Rattle.grid.specs.Grid.{Accepted, Inside};
 ghost use Rattle.table.specs.Sound.{squared_span, SpanBelow};
 ghost use Rattle.table.specs.Spans.{packed_span, row_spans, filled_spans, SpanTable};
@@ -49,8 +49,21 @@ pub fn row_spans(g: Grid, r: usize, gr: usize) -> RowSpans
     }
 }
 
-// The spans of a grid's bins in the third dimension, each with its squares beside it: whoever tests a table finds them
-// once.
+// Fills a list with the spans of a grid's bins in the third dimension, each with its squares beside it. What is past the
+// last bin stays.
+pub fn fill_spans(spans: &mut [u64; 256], g: Grid)
+    requires { Accepted g × (length spans.old ≡ 256) }
+    ensures { spans.new ≡ filled_spans g spans.old }
+{
+    for b in 0..g.size3 {
+        let s = span_of(g.shift3, b);
+        let at = 2 * b;
+        spans[at] = pack(s);
+        spans[at + 1] = pack(squared(s));
+    }
+}
+
+// The spans of a grid's bins in the third dimension: whoever tests a table finds them once.
 #[derive(Drop)]
 pub struct Spans {
     pub g: Grid,
@@ -66,12 +79,7 @@ impl Spans {
         ensures third { result.third ≡ filled_spans g (replicate 256 0) }
     {
         let mut third = [0u64; 256];
-        for b in 0..g.size3 {
-            let s = span_of(g.shift3, b);
-            let at = 2 * b;
-            third[at] = pack(s);
-            third[at + 1] = pack(squared(s));
-        }
+        fill_spans(&mut third, g);
         Spans { g, third }
     }
 }

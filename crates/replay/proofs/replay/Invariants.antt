@@ -1,10 +1,9 @@
 -- Each line that was replayed has a byte at least.
-use Rattle.std.proofs.Common.{◌+◌, ◌≤◌, length}
-use Rattle.std.specs.Slice.Iter.{split_inclusive_rest}
+use Rattle.std.proofs.Common.{◌-◌, ◌≤◌, length}
 use Rattle.replay.proofs.replay.Given as goal
 
-abbrev pub invariant-loop-line : goal.invariant-loop-line
-invariant-loop-line l =
-    (goal.iterator-loop-line).can_next l.line-iterator
-    × (goal.iterator-loop-line).is_finite l.line-iterator
-    × (l.lines + length (split_inclusive_rest l.line-iterator) ≤ length l.text)
+abbrev pub invariant-loop-at : goal.invariant-loop-at
+invariant-loop-at l = l.lines ≤ l.at
+
+abbrev pub decreases-loop-at : goal.decreases-loop-at
+decreases-loop-at l = length l.text - l.at

@@ -4,16 +4,16 @@ use mathlib.Core.Path.{◌≡◌}
 use Prim.Native.Nat.{◌<◌}
 use lib.ListN.{length}
 use Rattle.heap.specs.Heap.{enter}
-use Rattle.heap.specs.Boxes.{by_spread, no_item}
+use Rattle.heap.specs.Boxes.{by_spread}
 use Rattle.heap.proofs.carry.climb.Given as goal
 
 abbrev pub invariant-loop-p : goal.invariant-loop-p
-invariant-loop-p l = record {
+invariant-loop-p g l = record {
   in_room : l.p < 256;
   long : length l.room ≡ 256;
-  same : enter by_spread no_item (record { room = l.initial.room; hole = l.at }) l.x
-      ≡ enter by_spread no_item (record { room = l.room; hole = l.p }) l.x;
+  same : (none : _) → enter by_spread none (record { room = l.initial.room; hole = l.at }) l.x
+      ≡ enter by_spread none (record { room = l.room; hole = l.p }) l.x;
 }
 
 abbrev pub decreases-loop-p : goal.decreases-loop-p
-decreases-loop-p l = l.p
+decreases-loop-p g l = l.p

@@ -26,7 +26,7 @@ all_rounds-rounds-requires-clause-start ty c =
     let n = c.new-heap.ensures in
     let e = c.put_in.ensures in (
       omega arith,
-      e.room
+      e.room no_item
           ∙ (λ i. put_in by_spread no_item ((n.room ∙ ap (replicate 256) none) i) (n.len i)
           (record { bounds = c.whole.ensures i; spread = inf false }))
           ∙ starts c.args.g,

@@ -15,7 +15,7 @@ use Rattle.spread.specs.declared.both_sides.BestCut.{BestCut}
 use Rattle.spread.specs.Spread.{spread_of, Plain}
 use Rattle.spread.specs.Cut.{best_cut}
 use Rattle.spread.proofs.Choose.{plain_stats}
-use Rattle.heap.specs.declared.heap.BoxSpread.{BoxSpread}
+use Rattle.heap.specs.Boxes.{BoxSpread}
 use Rattle.heap.specs.Heap.{put_in}
 use Rattle.rounds.specs.Loop.{by_spread, no_item, with_spread}
 use Rattle.boxes.proofs.Within.{within_ordered}
@@ -68,7 +68,7 @@ returns-in_default ty c =
     in
     record {
       boxes = c.put_in.ensures.len ∙ sym (boxes_none g v h.room h.len c.args.x q);
-      room = c.put_in.ensures.room ∙ sym (room_none g v h.room h.len c.args.x q);
+      room = c.put_in.ensures.room no_item ∙ sym (room_none g v h.room h.len c.args.x q);
     }
 
 pub with_spread-low-requires : goal.with_spread-low-requires
@@ -99,8 +99,8 @@ returns ty c =
     let low = spread_is g v c.low_side.ensures (the_low ty k b q) c.with_spread-low.ensures in
     let high = spread_is g v c.high_side.ensures (the_high ty k b q) c.with_spread-high.ensures in record {
       boxes = omega (arith, boxes_cut g v h.room h.len c.args.x best);
-      room = c.put_in-3.ensures.room
+      room = c.put_in-3.ensures.room no_item
           ∙ (λ t. put_in by_spread no_item
-          ((c.put_in-2.ensures.room ∙ ap (put_in by_spread no_item h.room h.len) low) t) (c.put_in-2.ensures.len t) (high t))
+          ((c.put_in-2.ensures.room no_item ∙ ap (put_in by_spread no_item h.room h.len) low) t) (c.put_in-2.ensures.len t) (high t))
           ∙ sym (room_cut g v h.room h.len c.args.x best);
     }

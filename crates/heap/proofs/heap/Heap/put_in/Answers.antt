@@ -5,4 +5,4 @@ use Rattle.heap.proofs.heap.Heap.put_in.Goals as goal
 
 pub returns-clause-room : goal.returns-clause-room
 unfolding put_in enter
-returns-clause-room c = c.climb.ensures
+returns-clause-room g c = c.climb.ensures.entered
