@@ -20,4 +20,6 @@ unfolding all_below
 tops_all n top old all e = rw (← e, ← all) old
 
 pub returns : goal.returns
-returns c = tops_all c.loop-entry.entry-index c.loop-entry.top c.loop-entry.invariant (omega arith) (grind (arith, common_steps))
+returns c =
+    let l = c.loop-entry in
+    tops_all l.entry-index l.top l.invariant (omega arith) (grind (arith, common_steps))

@@ -13,7 +13,8 @@ use Rattle.swatches.proofs.Texts.{listed, text_said}
 use Rattle.swatches.proofs.text.swatch_text.Goals as goal
 
 -- the text by what was found with the same refusal of the loads
-text_found : (n : ℕ) (t : List ℕ) {m : ℕ} {r : Result Found ℕ} → r ≡ found_of m t → n ≡ m → swatch_text n t ≡ said listed r
+text_found : (n : ℕ) (t : List ℕ) {m : ℕ} {r : Result Found ℕ} → r ≡ found_of m t → n ≡ m
+    → swatch_text n t ≡ said listed r
 text_found n t is e = text_said n t ∙ ap (said listed) (ap (λ (n : ℕ). found_of n t) e ∙ sym is)
 
 pub returns-in-Ok : goal.returns-in-Ok
