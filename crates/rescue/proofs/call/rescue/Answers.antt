@@ -12,7 +12,9 @@ use Rattle.rescue.proofs.call.rescue.Goals as goal
 
 -- the grid, once it is accepted
 accepted : (k : In_ok-g) → Accepted k.in_ok-g.g
-accepted k = (chose _ _ _ k.in_ok-g.g (sym k.grid_of.ensures ∙ there k.grid_of.result _ k.in_ok-g.ensures.value)).accepted
+accepted k =
+    (chose _ _ _ k.in_ok-g.g
+    (sym k.grid_of.ensures ∙ there k.grid_of.result _ k.in_ok-g.ensures.value)).accepted
 
 pub table_len-requires : goal.table_len-requires
 table_len-requires c = accepted c
