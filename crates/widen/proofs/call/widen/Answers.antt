@@ -6,8 +6,8 @@ use native.Mathlib.Omega.{arith}
 use Rattle.basics.proofs.Exits.{there}
 use Rattle.grid.specs.Grid.{Accepted}
 use Rattle.grid.proofs.Places.{chose}
-use Rattle.table.specs.Layout.{lengths_fit}
-use Rattle.table.specs.Sound.{sound_total}
+use Rattle.table.proofs.Layouts.{lengths_are}
+use Rattle.table.proofs.Total.{total_says}
 use Rattle.table.proofs.NarrowTables.{test_narrow}
 use Rattle.table.proofs.Tables.{sized_by}
 use Rattle.widen.proofs.call.widen.Goals.{In_ok-g}
@@ -26,16 +26,20 @@ pub table_len-requires : goal.table_len-requires
 table_len-requires c = accepted (goal.at-table_len-requires c).In_ok-g
 
 pub sound_total-requires : goal.sound_total-requires
-unfolding lengths_fit
 sound_total-requires c =
-    record { accepted = accepted (goal.at-sound_total-requires c).In_ok-g; lent = test_narrow (grind arith) }
+    record {
+      accepted = accepted (goal.at-sound_total-requires c).In_ok-g;
+      lent = test_narrow (grind (arith, lengths_are));
+    }
 
 pub widen_bins-requires : goal.widen_bins-requires
-unfolding lengths_fit sound_total
 widen_bins-requires c =
     record {
       table =
-          record { accepted = accepted (goal.at-widen_bins-requires c).In_ok-g; lent = test_narrow (grind arith) };
+          record {
+            accepted = accepted (goal.at-widen_bins-requires c).In_ok-g;
+            lent = test_narrow (grind (arith, lengths_are));
+          };
       list = sized_by (omega arith);
-      is_sound = grind arith;
+      is_sound = grind (arith, total_says);
     }
