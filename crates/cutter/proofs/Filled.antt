@@ -99,6 +99,14 @@ module _ (index : ℕ) (old : List ℕ) (at end : ℕ) (h : at ≤ end) (l : end
         | no j ↦ rw (outside p (λ a b. j a)) (run_before p (omega arith))
       ])
 
+  -- what is put at the places up to one that is the end
+  pub run_put : (n : ℕ) (put : List ℕ) → n ≡ end → put ≡ replicate (n - at) index
+      → put_mid at (n - at) old put ≡ fill_where (lies at end) index old
+  run_put n put e f =
+      ap (λ (ys : List ℕ). put_mid at (n - at) old ys) f
+      ∙ ap (λ (m : ℕ). put_mid at (m - at) old (replicate (m - at) index)) e
+      ∙ run_filled
+
 -- the places of a row of a box are a run
 module _ (g : Grid) (x : Bounds) (r gr : ℕ) (h : gr < g.size2) (l : x.b1 ≤ g.size3) where
   row_in : (p : ℕ) → lies (place_of g r gr 0 + x.b0) (place_of g r gr 0 + x.b1) p ≡ true

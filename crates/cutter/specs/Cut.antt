@@ -42,8 +42,12 @@ pub record CanCut (limit : ℕ) (g : Grid) (k : ℕ) (v : View) : Type 0 where
 -- ---- the record: "its answer, the number of boxes, the number of rounds, and the boxes with their spreads in order;
 -- places past the last box are all zeros"
 -- "A refused cut hands back its answer, zero boxes, zero rounds and box places all zero."
+abbrev pub no_boxes : Boxes
+no_boxes = record { boxes = 0; rounds = 0; places = replicate 256 (with_zero no_box) }
+
 unfoldable pub refused_record : ℕ → CutRecord
-refused_record n = record { number = n; boxes = 0; rounds = 0; places = replicate 256 (with_zero no_box) }
+refused_record n =
+    record { number = n; boxes = no_boxes.boxes; rounds = no_boxes.rounds; places = no_boxes.places }
 
 unfoldable pub done_record : Boxes → CutRecord
 done_record b = record { number = 0; boxes = b.boxes; rounds = b.rounds; places = b.places }

@@ -6,13 +6,14 @@ ghost use Rattle.table.specs.Sound.{limit_of, sound};
 ghost use Rattle.rounds.specs.Loop.{boxes_of};
 ghost use Rattle.cutter.specs.Cut.{buffers_in, lengths_of, CanCut, LengthsFit};
 ghost use Rattle.cutter.specs.Cut.{work_fits, work_later, later_on};
-ghost use Rattle.cutter.specs.Cut.{record_of, cut_record_in, cut_later_in};
+ghost use Rattle.cutter.specs.Cut.{no_boxes, record_of, cut_record_in, cut_later_in};
 
 use crate::number::check;
 use crate::results::{fill_boxes, put_results};
 use basics::refusal::Refusal;
+use boxes::sides::Bounds;
 use grid::place::{Grid, grid_of};
-use rounds::gather::{Boxes, cut_boxes};
+use rounds::gather::{BoxSpread, Boxes, cut_boxes};
 use sums::moments::moments;
 use sums::source::Source;
 use table::layout::Layout;
@@ -71,6 +72,21 @@ fn cut_on<L: Layout>(
     );
     fill_boxes(g, &b, map);
     b
+}
+
+// What the record of a refused cut tells: no boxes, no rounds, and all zeros at every place.
+pub fn no_boxes() -> Boxes
+    ensures { result ≡ no_boxes }
+{
+    let none = BoxSpread {
+        bounds: Bounds::default(),
+        spread: 0.0,
+    };
+    Boxes {
+        boxes: 0,
+        rounds: 0,
+        places: [none; 256],
+    }
 }
 
 // Cuts a table into at most k boxes: their colours go into the palette, their weights into the counts, what the means

@@ -13,7 +13,7 @@ use Rattle.cutter.specs.Cut.{Buffers, buffers, cut_record, cut_later}
 use Rattle.std.specs.Prelude.{Result, Ok, Err}
 use Rattle.lines.specs.declared.found.Found.{Found}
 use Rattle.lines.specs.Text.{refused_of}
-use Rattle.lines.specs.Listing.{lower_of, lent_zeros, cut_text, found_of, text_of}
+use Rattle.lines.specs.Listing.{lower_of, lent_zeros, cut_text, found_in, found_of, text_of}
 use Rattle.lines.specs.Inner.{listing_found}
 
 -- ---- the lower of two answers
@@ -74,24 +74,24 @@ unfolding cut_text
 cut_refused t {r} e h = rw (← e) (when_refused r.number _ _ h)
 
 -- ---- what there is to list
-pub found_refused : (n : ℕ) (t : List ℕ) → (n ≡ 0 → ⊥) → Err n ≡ found_of n t
-unfolding found_of
-found_refused n t h = sym (when_refused n _ _ h)
+pub found_refused : (k n : ℕ) (t : List ℕ) → (n ≡ 0 → ⊥) → Err n ≡ found_in k n t
+unfolding found_in
+found_refused k n t h = sym (when_refused n _ _ h)
 
-module _ (n : ℕ) (t : List ℕ) (none : n ≡ 0) {r : CutRecord} (e : r ≡ cut_record Moments 8 8 8 16 t lent_zeros) where
-  pub found_cut_refused : (r.number ≡ 0 → ⊥) → Err r.number ≡ found_of n t
-  unfolding found_of
+module _ (k n : ℕ) (t : List ℕ) (none : n ≡ 0) {r : CutRecord} (e : r ≡ cut_record Moments 8 8 8 k t lent_zeros) where
+  pub found_cut_refused : (r.number ≡ 0 → ⊥) → Err r.number ≡ found_in k n t
+  unfolding found_in
   found_cut_refused h = sym (when_done_lem n _ _ none ∙ rw (← e) (when_refused r.number _ _ h))
 
-  pub found_cut : {later : Buffers} → later ≡ cut_later Moments 8 8 8 16 t lent_zeros → r.number ≡ 0
+  pub found_cut : {later : Buffers} → later ≡ cut_later Moments 8 8 8 k t lent_zeros → r.number ≡ 0
       → Ok (record {
         boxes = r.boxes;
         rounds = r.rounds;
         palette = later.results.palette;
         counts = later.results.counts;
       })
-      ≡ found_of n t
-  unfolding found_of
+      ≡ found_in k n t
+  unfolding found_in
   found_cut l h = sym (when_done_lem n _ _ none ∙ rw (← e, ← l) (when_done_lem r.number _ _ h))
 
 -- a text by what there is to list
@@ -105,7 +105,7 @@ when_done_through f zero x y = refl
 when_done_through f (suc n) x y = refl
 
 pub text_said : (n : ℕ) (t : List ℕ) → text_of n t ≡ said listing_found (found_of n t)
-unfolding text_of cut_text found_of
+unfolding text_of cut_text found_in
 text_said n t =
     let say = said listing_found in
     ap (λ (x : List ℕ). when_done n x (refused_of n)) (when_done_through say (cut_record Moments 8 8 8 16 t lent_zeros).number (Ok _) (Err _))

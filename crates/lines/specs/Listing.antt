@@ -48,16 +48,19 @@ cut_text t =
     when_done r.number (listing_of r.boxes r.rounds later.results.palette later.results.counts)
     (refused_of r.number)
 
--- the cut, or the number of a refusal: the lowest of the loads, or else that of the cut
-unfoldable pub found_of : ℕ → List ℕ → Result Found ℕ
-found_of number t =
-    let r = cut_record Moments 8 8 8 16 t lent_zeros in
-    let later = cut_later Moments 8 8 8 16 t lent_zeros in
+-- the cut into at most k boxes, or the number of a refusal: the lowest of the loads, or else that of the cut
+unfoldable pub found_in : ℕ → ℕ → List ℕ → Result Found ℕ
+found_in k number t =
+    let r = cut_record Moments 8 8 8 k t lent_zeros in
+    let later = cut_later Moments 8 8 8 k t lent_zeros in
     when_done number
     (when_done r.number
     (Ok (record { boxes = r.boxes; rounds = r.rounds; palette = later.results.palette; counts = later.results.counts }))
     (Err r.number))
     (Err number)
+
+abbrev pub found_of : ℕ → List ℕ → Result Found ℕ
+found_of = found_in 16
 
 -- "On a refusal it writes only `refused N`": the lowest refusal of the loads, or else that of the cut
 unfoldable pub text_of : ℕ → List ℕ → List ℕ

@@ -1,12 +1,12 @@
 // What there is to list of a table that was loaded.
 ghost use Rattle.std.specs.Prelude.{◌≡◌, ◌≤◌, IfOk};
-ghost use Rattle.lines.specs.Listing.{found_of};
+ghost use Rattle.lines.specs.Listing.{found_in, found_of};
 
 use cutter::call::cut;
 use sums::source::Source;
 use table::layout::Wide;
 
-// A cut by the program's grid and k: each of the first boxes has a colour and a count.
+// A cut by the program's grid: each of the first boxes has a colour and a count.
 #[derive(Drop)]
 pub struct Found {
     pub boxes: usize,
@@ -15,11 +15,11 @@ pub struct Found {
     pub counts: [u32; 16],
 }
 
-// The cut of a table, or the number of a refusal: the lowest of the loads, or else that of the cut. The lowest is a
-// number, as callers may hand in any.
-pub fn cut_loaded(table: &[u64], lowest: u8) -> Result<Found, u8>
-    ensures is { result ≡ found_of lowest table.now }
-    ensures few { IfOk result (λ f. f.boxes ≤ 16) }
+// The cut of a table into at most k boxes, or the number of a refusal: the lowest of the loads, or else that of the cut,
+// for whose palette there is room up to 16. The lowest is a number, as callers may hand in any.
+pub fn cut_into(table: &[u64], lowest: u8, k: usize) -> Result<Found, u8>
+    ensures is { result ≡ found_in k lowest table.now }
+    ensures few { IfOk result (λ f. f.boxes ≤ k) }
 {
     if lowest != 0 {
         return Err(lowest);
@@ -34,7 +34,7 @@ pub fn cut_loaded(table: &[u64], lowest: u8) -> Result<Found, u8>
         8,
         8,
         8,
-        16,
+        k,
         &[],
         table,
         &mut [],
@@ -53,4 +53,12 @@ pub fn cut_loaded(table: &[u64], lowest: u8) -> Result<Found, u8>
         }),
         Err(refusal) => Err(refusal.number()),
     }
+}
+
+// The cut of a table by the program's k.
+pub fn cut_loaded(table: &[u64], lowest: u8) -> Result<Found, u8>
+    ensures is { result ≡ found_of lowest table.now }
+    ensures few { IfOk result (λ f. f.boxes ≤ 16) }
+{
+    cut_into(table, lowest, 16)
 }

@@ -7,6 +7,7 @@ use crate::colour::colour;
 
 // How many of 192 bytes differ from the byte three after. All are compared, whatever the first give, so that the
 // machine can compare many at once.
+#[tactic(auto, using(basics::proofs::Range::sum_last, crate::proofs::EqualColours::alike, crate::proofs::EqualColours::unlike))]
 fn differences(bytes: &[u8], at: usize) -> u8
     requires { at + 194 < length bytes.now }
     ensures { result ≡ sum_from at 192 (differs bytes.now) }

@@ -134,7 +134,7 @@ module _ (layout : Layout) (source : Source) (b1 b2 b3 k : ℕ) (t : TableIn lay
   call_tells e =
       let enough = roomy b1 b2 b3 k (length l.boxes) (length l.spreads) (has_room_lem e) in
       let has = call_has layout source b1 b2 b3 k t l (sym is_number_lem ∙ e) in
-      let most : r.boxes ≤ k = few layout source k enough.least enough.most t b1 b2 b3 l.buffers refl in
+      let most : r.boxes ≤ k = few layout source k t b1 b2 b3 l.buffers refl in
       let many = told_length r (all_places layout source k t b1 b2 b3 l.buffers refl) (omega (arith, most, enough.most)) in
       record {
         answer = has.0

@@ -106,6 +106,7 @@ use Rattle.heap.proofs.heap.Heap.top as heap-top
 use Rattle.heap.proofs.heap.Heap.put_in as put_in
 use Rattle.heap.proofs.heap.Heap.take_out as take_out
 use Rattle.rounds.proofs.gather.cut_boxes as cut-boxes
+use Rattle.cutter.proofs.call.no_boxes as no-boxes
 use Rattle.cutter.proofs.palette.front as front
 use Rattle.band.proofs.number.band_number as band-number
 use Rattle.band.proofs.look_up.LookUp.of as look-up-of
@@ -121,6 +122,7 @@ use Rattle.lines.proofs.batches.empty_table as empty_table_lem
 use Rattle.lines.proofs.batches.load_batch as load-batch
 use Rattle.lines.specs.declared.writer.Writer.{Writer}
 use Rattle.lines.specs.Writing.{Writes}
+use Rattle.lines.proofs.found.cut_into as cut-into
 use Rattle.lines.proofs.found.cut_loaded as cut-loaded
 use Rattle.lines.proofs.writer.Writer.word as word
 use Rattle.lines.proofs.writer.Writer.named as named
@@ -443,6 +445,9 @@ pub cut_boxes_determined : DeterminesIn {A = Boxes} 5 cut-boxes.Kinds.ps cut-box
 cut_boxes_determined T laws l d κs a r s x y p q = determined p q
 
 -- ---- cutter
+pub no_boxes_determined : Determines {A = Boxes} 0 no-boxes.Kinds.ps no-boxes.Kinds.r no-boxes.Reads.Learnt (λ κs r e. r)
+no_boxes_determined κs a r s x y p q = determined p q
+
 pub front_determined : Determines 1 front.Kinds.ps front.Kinds.r front.Reads.Learnt (λ κs r e. r.now)
 front_determined κs a r s x y p q = determined p q
 
@@ -526,6 +531,9 @@ load_batch_determined κs a r s x y p q = both (determined p.0 q.0) (determined 
 same_written : {before one two : Writer} {text : List ℕ} {room : ℕ} → Writes before text room one
     → Writes before text room two → written one ≡ written two
 same_written p q = both (determined p.put.ends q.put.ends) (determined p.put.later q.put.later)
+
+pub cut_into_determined : Determines 1 cut-into.Kinds.ps cut-into.Kinds.r cut-into.Reads.Learnt (λ κs r e. r)
+cut_into_determined κs a r s x y p q = determined p.0 q.0
 
 pub cut_loaded_determined : Determines 1 cut-loaded.Kinds.ps cut-loaded.Kinds.r cut-loaded.Reads.Learnt (λ κs r e. r)
 cut_loaded_determined κs a r s x y p q = determined p.0 q.0

@@ -53,7 +53,7 @@ module _ (t : List ℕ) (done : cut_number Moments 8 8 8 16 t lent_zeros ≡ 0) 
   unfolding later_on results_on box_list lent_zeros palette_later done_record
   long =
       let d = cut_says Wide Moments 8 8 8 16 t lent_zeros is_grid8 done in
-      let most = few Wide Moments 16 (lit≤ tt) (lit≤ tt) t 8 8 8 lent_zeros (sym d.hands) in
+      let most = few Wide Moments 16 t 8 8 8 lent_zeros (sym d.hands) in
       let size = list_length (all_found grid8 (view_of t) 16 d.can.most d.accepted d.can.some).placed in
       ap (λ (b : Buffers). length b.results.palette) d.leaves
       ∙ length_filled 3 (its_colour grid8 (view_of t)) (three grid8 (view_of t)) (box_list grid8 (view_of t) 16)
@@ -74,5 +74,5 @@ module _ (t : List ℕ) (done : cut_number Moments 8 8 8 16 t lent_zeros ≡ 0) 
       → IsNearest (colour_at (listed_palette t) i) (get_or (numbers_of (listed_palette t)) i 0)
   unfolding numbers_of
   swatch_nearest i h =
-      let most = few Wide Moments 16 (lit≤ tt) (lit≤ tt) t 8 8 8 lent_zeros refl in
+      let most = few Wide Moments 16 t 8 8 8 lent_zeros refl in
       each_nearest (listed_palette t) (replicate 16 0) accepted i (rw long (omega (arith, h, most)))

@@ -5,12 +5,13 @@ use mathlib.Core.Path.{◌≡◌, refl, sym, ap, ◌∙◌}
 use mathlib.Core.Bool.{Bool, true, false, not, ◌&&◌}
 use mathlib.Core.List.{List}
 use Prim.Native.Nat.{ℕ, suc, ◌+◌, ◌/◌, ◌%◌, ◌≤◌}
-use borrow.Author.Tests.{eq-eqb, ltb-false}
+use borrow.Author.Tests.{eq-eqb, eqb-false, ltb-false}
 use lib.Dec.{eqb, ltb}
 use lib.ListN.{length}
 use Rattle.grid.specs.declared.place.Grid.{Grid}
 use Rattle.basics.specs.Answer.{refuse, when_done}
 use Rattle.basics.proofs.Ends.{passed, refused_keeps}
+use Rattle.basics.proofs.Refusals.{not_done}
 use Rattle.grid.specs.Grid.{grid_of, bins_of}
 use Rattle.table.specs.Table.{Table, Sized, view_of, written}
 use Rattle.table.specs.Sound.{limit, total, sound}
@@ -24,7 +25,7 @@ use Rattle.loader.proofs.Laws.{load_refused, load_tests_lem}
 use Rattle.recorder.specs.declared.session.Session.{Session}
 use Rattle.recorder.specs.Session.{is_interval}
 use Rattle.recorder.specs.Batch.{in_force, batch_number, batch_later}
-use Rattle.recorder.proofs.Sessions.{force_passes, force_passed, force_then}
+use Rattle.recorder.proofs.Sessions.{force_passes, force_passed, force_then, force_scale}
 
 module _ (s : Session) (i b1 b2 b3 : ℕ) (t : Table) (colours : List ℕ) (weighted : Bool) (weights : List ℕ) where
   abbrev batch : ℕ
@@ -32,9 +33,6 @@ module _ (s : Session) (i b1 b2 b3 : ℕ) (t : Table) (colours : List ℕ) (weig
 
   abbrev later : Table
   later = batch_later s i b1 b2 b3 t colours weighted weights
-
-  abbrev BatchEnds : ℕ → Table → Type 0
-  BatchEnds n e = (n ≡ batch) × (e ≡ later)
 
   -- the weights that it loads, and the colours with them
   abbrev scaled : List ℕ
@@ -50,20 +48,22 @@ module _ (s : Session) (i b1 b2 b3 : ℕ) (t : Table) (colours : List ℕ) (weig
   abbrev loaded_table : Table
   loaded_table = load_later b1 b2 b3 t colours true scaled
 
-  pub batch_refused : {n : ℕ} → n ≡ in_force s i 0 → (n ≡ 0 → ⊥) → BatchEnds n t
-  unfolding batch_number batch_later
-  batch_refused p r = (
-    p ∙ refused_keeps (in_force s i 0) (λ q. r (p ∙ q)) (in_force s i 0) load ∙ sym (force_then s i load),
-    refused_keeps (in_force s i 0) (λ q. r (p ∙ q)) t loaded_table,
-  )
+  -- by what its interval answers: it refuses, or the batch loads
+  pub refused_number : eqb (in_force s i 0) 0 ≡ false → batch ≡ in_force s i 0
+  unfolding batch_number
+  refused_number r = force_then s i load ∙ sym (refused_keeps _ (eqb-false _ 0 r) (in_force s i 0) load)
 
-  pub batch_loads : in_force s i 0 ≡ 0 → {n : ℕ} → n ≡ load_number b1 b2 b3 t colours true scaled
-      → {e : Table} → e ≡ load_later b1 b2 b3 t colours true scaled → BatchEnds n e
-  unfolding batch_number batch_later when_done
-  batch_loads force p q = (
-    p ∙ sym (force_then s i load ∙ ap (λ (m : ℕ). when_done m load (in_force s i 0)) force),
-    q ∙ sym (ap (λ (m : ℕ). when_done m loaded_table t) force),
-  )
+  pub refused_later : eqb (in_force s i 0) 0 ≡ false → later ≡ t
+  unfolding batch_later
+  refused_later r = sym (refused_keeps _ (eqb-false _ 0 r) t loaded_table)
+
+  pub loads_number : in_force s i 0 ≡ 0 → batch ≡ load
+  unfolding batch_number when_done
+  loads_number force = force_then s i load ∙ ap (λ (m : ℕ). when_done m load (in_force s i 0)) force
+
+  pub loads_later : in_force s i 0 ≡ 0 → later ≡ loaded_table
+  unfolding batch_later when_done
+  loads_later force = ap (λ (m : ℕ). when_done m loaded_table t) force
 
   -- a refusal leaves the table
   pub batch_kept : {n : ℕ} → batch ≡ suc n → later ≡ t
@@ -112,4 +112,7 @@ module _ (s : Session) (i b1 b2 b3 : ℕ) (t : Table) (colours : List ℕ) (weig
         ltb-false limit (total g (view_of t) + weight_of its) (passed _ 6 0 in_force_lem.2).0 in
         let ends = load_done b1 b2 b3 t colours true scaled e threes four lent is_sound fits refl in
         let force = force_passes s i 0 in_force_lem.0 in_force_lem.1 in
-        (fits, sym (batch_loads force refl ends.1).1)
+        (fits, loads_later force ∙ sym ends.1)
+
+-- what `batch` needs at each of its ends
+pub ruleset batch_ends = (not_done, force_scale, refused_number, refused_later, loads_number, loads_later)

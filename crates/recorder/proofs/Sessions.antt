@@ -88,6 +88,12 @@ module _ (s : Session) (i : ℕ) where
       let two = passed (not (eqb i s.interval)) 13 rest one.1 in
       (not-false _ one.0, eqb-true i s.interval (not-false _ two.0), two.1)
 
+  -- an interval in force is a scale; the first part is there for `grind`, which applies this wherever one is tested
+  pub force_scale : in_force s i 0 ≡ 0 → (in_force s i 0 ≡ 0) × (1 ≤ i) × (i ≤ 4096)
+  force_scale e =
+      let range = interval_says i (force_passed e).0 in
+      (e, range.0, range.1)
+
   -- what comes after the interval is looked at only where the interval is accepted
   pub force_then : (rest : ℕ) → in_force s i rest ≡ when_done (in_force s i 0) rest (in_force s i 0)
   unfolding in_force refuse when_done

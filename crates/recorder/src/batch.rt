@@ -21,6 +21,7 @@ pub(crate) fn in_force(s: Session, interval: u32) -> Result<(), Refusal>
 }
 
 // Adds a batch of colours to a table, each weight multiplied by its interval.
+#[tactic(auto, using(crate::proofs::Batches::batch_ends))]
 pub fn batch(
     s: Session,
     interval: u32,

@@ -20,6 +20,7 @@ use table::wide::table_len;
 
 // One entry, with the colours and weights that belong to it: it changes the session, or adds to the table and its
 // total. Its kind is a number, as the list is the C interface's.
+#[tactic(auto, using(crate::proofs::Steps::entry_ends))]
 fn one_entry(
     steps: &Steps,
     table: &mut [u64],

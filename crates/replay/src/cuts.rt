@@ -2,8 +2,7 @@
 use crate::lend::lent;
 use crate::lists::{List, Lists, MAP, SHORT};
 use crate::row::Row;
-use boxes::sides::Bounds;
-use cutter::call::cut;
+use cutter::call::{cut, no_boxes};
 use cutter::palette::front;
 use rounds::gather::{BoxSpread, Boxes};
 use sums::source::Source;
@@ -31,23 +30,6 @@ fn numbers_of(x: &BoxSpread) -> [u64; 7] {
         bits(x.spread),
     ]
 }
-
-// What the record of a refused cut has.
-const NO_BOXES: Boxes = Boxes {
-    boxes: 0,
-    rounds: 0,
-    places: [BoxSpread {
-        bounds: Bounds {
-            r0: 0,
-            r1: 0,
-            g0: 0,
-            g1: 0,
-            b0: 0,
-            b1: 0,
-        },
-        spread: 0.0,
-    }; 256],
-};
 
 // Makes the record of a cut a list: how many boxes there are, how many rounds there were, and every place, those past
 // the last box too.
@@ -89,7 +71,7 @@ pub(crate) fn cut_table(row: &Row, lists: &mut Lists) -> u64 {
     );
     let (boxes, answer) = match done {
         Ok(boxes) => (boxes, 0),
-        Err(refusal) => (NO_BOXES, refusal.number()),
+        Err(refusal) => (no_boxes(), refusal.number()),
     };
     put_record(&mut lists.record, &boxes);
     lists.palette.keep(palette);

@@ -1,10 +1,10 @@
--- How a rescue ends: which answer it gives and what it leaves, case by case.
+-- How a rescue ends where its grid is refused, and where it is done: its answer, and what it leaves.
 -- Assumes nothing.
 use Rattle.std.specs.Prelude.{None, Some}
-use mathlib.Core.Path.{◌≡◌, refl}
+use mathlib.Core.Path.{◌≡◌}
 use mathlib.Core.List.{List}
 use Prim.Native.Nat.{ℕ}
-use borrow.Author.Tests.{eq-eqb, ne_eqb}
+use borrow.Author.Tests.{eq-eqb}
 use lib.ListN.{length}
 use Rattle.grid.specs.declared.place.Grid.{Grid}
 use Rattle.basics.specs.Answer.{refuse, when_done}
@@ -12,7 +12,7 @@ use Rattle.grid.specs.Grid.{grid_of, bins_of}
 use Rattle.grid.proofs.Ends.{grid_refused, ends}
 use Rattle.table.specs.Table.{Table, Sized, view_of, written}
 use Rattle.table.specs.Sound.{limit}
-use Rattle.table.proofs.Tables.{sized_test, not_sized_test}
+use Rattle.table.proofs.Tables.{sized_test}
 use Rattle.rescue.specs.Rescue.{rescued, reasons_of, rescue_on, rescue_number, rescue_leaves, rescue_table}
 use Rattle.rescue.specs.Rescue.{rescue_reasons}
 
@@ -44,15 +44,7 @@ module _ (b1 b2 b3 : ℕ) (t : Table) (l : List ℕ) where
         let m = ends (grid_of b1 b2 b3) (rescue_on t l) reasons_on l e q o in
         (u.0, (u.1, m.1))
 
-    pub table_length : (Sized t (bins_of g) → ⊥) → Ends 5 t l
+    pub all_done : Sized t (bins_of g) → length l ≡ bins_of g → {u : Table} → u ≡ table_on g → {m : List ℕ}
+        → m ≡ reasons_on g → Ends 0 u m
     unfolding rescue_on refuse when_done
-    table_length n = ends_with (simp (not_sized_test n)) refl refl
-
-    module _ (h : Sized t (bins_of g)) where
-      pub list_length : (length l ≡ bins_of g → ⊥) → Ends 5 t l
-      unfolding rescue_on refuse when_done
-      list_length n = ends_with (simp (sized_test h, ne_eqb _ _ n)) refl refl
-
-      pub all_done : length l ≡ bins_of g → {u : Table} → u ≡ table_on g → {m : List ℕ} → m ≡ reasons_on g → Ends 0 u m
-      unfolding rescue_on refuse when_done
-      all_done k p o = ends_with (simp (sized_test h, eq-eqb _ _ k)) p o
+    all_done h k p o = ends_with (simp (sized_test h, eq-eqb _ _ k)) p o

@@ -33,6 +33,7 @@ fn told(reason: Option<Reason>) -> u8
 }
 
 // Why a bin is cleared: by whether it keeps its bounds, and the total of the bins kept so far.
+#[tactic(auto, unfolding(crate::specs::Rescue::reason_for))]
 fn reason_for(keeps: bool, had: u64, weight: u64) -> Option<Reason>
     requires { had ≤ limit }
     ensures { told result ≡ reason_for limit keeps had weight }
@@ -57,6 +58,7 @@ fn clear_for(table: &mut [u64], p: usize, reason: Option<Reason>)
 }
 
 // The total with a bin, which counts where there is no reason to clear it.
+#[tactic(auto, using(crate::proofs::Walks::told_some, crate::proofs::Walks::told_none), unfolding(crate::specs::Inner::with_weight))]
 fn with_weight(had: u64, weight: u64, reason: Option<Reason>) -> u64
     requires { with_weight had weight (told reason) ≤ limit }
     ensures { result ≡ with_weight had weight (told reason) }

@@ -9,6 +9,7 @@ use grid::place::{bins, grid_of};
 use table::wide::table_len;
 
 // Clears what keeps a table from being sound, and says why.
+#[tactic(auto, using(table::proofs::Tables::sized_is), unfolding(crate::specs::Rescue::rescue_number, crate::specs::Rescue::rescue_table, crate::specs::Rescue::rescue_reasons, crate::specs::Rescue::rescue_leaves, crate::specs::Rescue::rescue_on, grid::specs::Grid::number_on, grid::specs::Grid::on_grid, grid::specs::Grid::grid_answer, basics::specs::Answer::refuse, basics::specs::Answer::when_done))]
 pub fn rescue(
     b1: usize,
     b2: usize,

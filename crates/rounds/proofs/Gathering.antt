@@ -1,6 +1,6 @@
 -- The places of the record: the boxes in use, and a place without a box for each place past them.
 -- Assumes nothing.
-use mathlib.Core.Path.{◌≡◌}
+use mathlib.Core.Path.{◌≡◌, ◌∙◌}
 use mathlib.Core.Bool.{cond}
 use mathlib.Core.List.{List}
 use Prim.Native.Nat.{ℕ, ◌-◌, ◌≤◌, ◌<◌}
@@ -47,3 +47,9 @@ gathered_is h n l m =
           | yes j ↦ rw (le-ltb p n j) (past p j k)
           | no j ↦ rw (lt-ltb p n (lt_of_not-le j)) (front p (lt_of_not-le j))
         ]
+
+-- the same, whatever the number of boxes and the room are called
+pub gathered_from : (h : List BoxSpread) (n : ℕ) {was put : List BoxSpread} {m : ℕ} → was ≡ h → m ≡ n
+    → put ≡ replicate (256 - m) no_place → length h ≡ 256 → n ≤ 256 → put_mid m (256 - m) was put ≡ places_of h n
+gathered_from h n {was} {put} {m} e f p l k =
+    (λ i. put_mid (f i) (256 - f i) (e i) ((p ∙ (λ j. replicate (256 - f j) no_place)) i)) ∙ gathered_is h n l k

@@ -5,7 +5,7 @@ use mathlib.Core.Bool.{false}
 use mathlib.Core.List.{List, map}
 use Prim.Native.Nat.{ℕ, ◌≤◌, ◌<◌}
 use native.Mathlib.Omega.{arith}
-use lib.ListN.{get_or, set, replicate, length}
+use lib.ListN.{set, replicate, length}
 use lib.Ieee.{Float, inf}
 use Rattle.grid.specs.declared.place.Grid.{Grid}
 use Rattle.boxes.specs.declared.sides.Bounds.{Bounds}

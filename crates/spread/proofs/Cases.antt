@@ -17,7 +17,7 @@ use Rattle.sums.specs.declared.box_sums.Stats.{Stats}
 use Rattle.sums.specs.Box.{stats_of}
 use Rattle.spread.specs.declared.position.Position.{Position}
 use Rattle.spread.specs.declared.both_sides.BestCut.{BestCut}
-use Rattle.spread.specs.Cut.{best_cut, sides_at, cut_at}
+use Rattle.spread.specs.Cut.{better, best_in, best_cut, sides_at, cut_at}
 use Rattle.spread.proofs.Best.{answered}
 
 -- the position that an answer has
@@ -30,6 +30,15 @@ module _ (g : Grid) (v : View) (x : Bounds) where
   unfolding cut_at sides_at
   cut_position (Some p) = refl
   cut_position None = refl
+
+  -- the best position is the best of those of the three dimensions
+  pub best_of_three : best_cut g v x ≡ better (better (best_in g v x 0) (best_in g v x 1)) (best_in g v x 2)
+  unfolding best_cut
+  best_of_three = refl
+
+  pub cut_some : (p : Position) → cut_at g v x (Some p) ≡ Some (sides_at g v x p)
+  unfolding cut_at
+  cut_some p = refl
 
   module _ {o : Option Position} where
     pub cut_none : o ≡ None → None ≡ cut_at g v x o

@@ -31,6 +31,7 @@ fn best_of(
 // The best position of a box, or that it has none, with its two sides (`cut`), from where sums come from. Either search
 // is asked three times, so that the compiler leaves the two apart, and each walk is found here, where the dimension is a
 // constant.
+#[tactic(auto, using(crate::proofs::Cases::best_of_three, crate::proofs::Cases::cut_none, crate::proofs::Cases::cut_some))]
 pub fn best_cut<L: Layout>(
     small: &[u32],
     large: &[u64],

@@ -10,7 +10,7 @@ use Rattle.lines.specs.Text.{refused_of}
 use Rattle.std.specs.Prelude.{Ok, Err}
 use Rattle.basics.specs.Answer.{when_done}
 use Rattle.lines.specs.declared.found.Found.{Found}
-use Rattle.lines.specs.Listing.{lent_zeros, found_of}
+use Rattle.lines.specs.Listing.{lent_zeros, found_in, found_of}
 use Rattle.lines.proofs.Texts.{when_refused, when_done_lem, when_done_through, said}
 use Rattle.swatches.specs.Inner.{swatches_found}
 use Rattle.swatches.specs.Swatches.{numbers_of, cut_swatches, swatch_text}
@@ -35,7 +35,7 @@ abbrev pub listed : Found → List ℕ
 listed f = swatches_found f (numbers_of f.palette)
 
 pub text_said : (n : ℕ) (t : List ℕ) → swatch_text n t ≡ said listed (found_of n t)
-unfolding swatch_text cut_swatches found_of
+unfolding swatch_text cut_swatches found_in
 text_said n t =
     let say = said listed in
     ap (λ (x : List ℕ). when_done n x (refused_of n)) (when_done_through say (cut_record Moments 8 8 8 16 t lent_zeros).number (Ok _) (Err _))

@@ -1,7 +1,7 @@
 -- Laws of a lent table: its size, the view that it holds, and a cell that is written into it. What stands above needs
 -- no inside of them.
 -- Assumes nothing.
-use Rattle.std.proofs.Common.{◌≡◌, ℕ, zero, suc, ◌+◌, ◌*◌, ◌/◌, ◌%◌, ◌<◌, true, false, length, get_or, set, replicate, sym, refl, ap, ◌∙◌, add-zero, arith, length-set, get_or-set_other, get_or-set_same, eq-eqb, ne_eqb, eqb-true}
+use Rattle.std.proofs.Common.{◌≡◌, ℕ, zero, suc, ◌+◌, ◌*◌, ◌/◌, ◌%◌, ◌<◌, true, false, eqb, length, get_or, set, replicate, sym, refl, ap, ◌∙◌, add-zero, arith, length-set, get_or-set_other, get_or-set_same, eq-eqb, ne_eqb, eqb-true}
 use lib.ListN.{length-replicate, get_or-replicate}
 use Rattle.basics.proofs.Range.{length_list, list_at, list_is}
 use Rattle.table.specs.declared.cell.Cell.{Cell}
@@ -12,6 +12,11 @@ use Rattle.table.specs.Layout.{TableIn, SizedIn, view_in}
 use Rattle.table.specs.Table.{Table, table_len, Sized, is_sized, view_of, written, empty_of, put_at, HasCell}
 
 -- ---- size
+-- what the test compares
+pub sized_is : (t : Table) (n : ℕ) → is_sized t n ≡ eqb (length t) (table_len n)
+unfolding is_sized
+sized_is t n = refl
+
 module _ {t : Table} {n : ℕ} where
   -- by its numbers, as the code counts them
   pub sized_by : length t ≡ table_len n → Sized t n

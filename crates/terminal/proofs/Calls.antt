@@ -1,19 +1,20 @@
 -- The answer to a call, test by test, and the list that it leaves.
 -- Assumes nothing.
 use mathlib.Core.Path.{◌≡◌, refl, sym, ap, ◌∙◌}
+use mathlib.Core.Bool.{false}
 use mathlib.Core.List.{List, ◌++◌}
 use Prim.Native.Nat.{ℕ, suc, ◌+◌, ◌%◌, ◌≤◌, ◌<◌}
 use native.Mathlib.Omega.{arith}
 use native.Mathlib.Nat.{zero-add}
-use borrow.Author.Tests.{eqb-true, leb-true, ltb-false, not-false, le-ltb, le-leb, eq-eqb}
-use lib.Dec.{leb}
+use borrow.Author.Tests.{eqb-true, eqb-false, leb-true, ltb-false, not-false, le-ltb, le-leb, eq-eqb}
+use lib.Dec.{leb, eqb}
 use lib.ListN.{length, get_or, set, take, drop, length-set, length-append, length-drop}
 use lib.ListN.{take-append-drop, get_or-append}
 use lib.Seq.{length-take-le, get_or-take, drop_at, drop-set-lt, drop-drop}
 use Rattle.basics.specs.Answer.{refuse, when_done}
 use Rattle.basics.specs.Range.{list_from}
 use Rattle.basics.proofs.Range.{Filled, filled_more, length_list, list_at, list_is, and_left, and_right}
-use Rattle.basics.proofs.Ends.{passed}
+use Rattle.basics.proofs.Ends.{passed, refused_keeps}
 use Rattle.terminal.specs.Nearest.{entries_in, nearest_at, nearest_number, numbers_for, nearest_later, CanNearest}
 
 -- ---- the answer
@@ -36,13 +37,6 @@ module _ (palette answers : List ℕ) where
   pub number_accepted : CanNearest palette answers → nearest_number palette answers ≡ 0
   unfolding nearest_number refuse
   number_accepted p = simp (le-leb _ _ p.some, le-leb _ _ p.few, eq-eqb _ _ p.threes, le-ltb _ _ p.room)
-
-  -- how a call ends
-  pub call_ends : {n : ℕ} {e : List ℕ} → n ≡ nearest_number palette answers
-      → e ≡ when_done n (numbers_for palette answers) answers
-      → (n ≡ nearest_number palette answers) × (e ≡ nearest_later palette answers)
-  unfolding nearest_later
-  call_ends p q = (p, rw (← p) q)
 
 -- ---- the list
 -- a list whose first i places have f, and what follows is as it was
@@ -97,13 +91,22 @@ module _ (palette answers : List ℕ) (p : CanNearest palette answers) where
         p.room,
       )
 
--- a refusal leaves the list as it was
-pub nearest_refused : {n : ℕ} (palette answers : List ℕ) → nearest_number palette answers ≡ suc n
-    → nearest_later palette answers ≡ answers
-unfolding nearest_later when_done
-nearest_refused palette answers e = rw e refl
+-- a call that is not refused has room for every number
+pub nearest_room : (palette answers : List ℕ) → nearest_number palette answers ≡ 0 → entries_in palette ≤ length answers
+nearest_room palette answers e = (number_passed palette answers e).room
 
 pub nearest_done : (palette answers : List ℕ) → nearest_number palette answers ≡ 0
     → nearest_later palette answers ≡ numbers_for palette answers
 unfolding nearest_later when_done
 nearest_done palette answers e = rw e refl
+
+-- a refusal leaves the list as it was
+pub nearest_kept : (palette answers : List ℕ) → eqb (nearest_number palette answers) 0 ≡ false
+    → nearest_later palette answers ≡ answers
+unfolding nearest_later
+nearest_kept palette answers e = sym (refused_keeps _ (eqb-false _ 0 e) answers (numbers_for palette answers))
+
+pub nearest_refused : {n : ℕ} (palette answers : List ℕ) → nearest_number palette answers ≡ suc n
+    → nearest_later palette answers ≡ answers
+unfolding nearest_later when_done
+nearest_refused palette answers e = rw e refl

@@ -110,13 +110,10 @@ module _ (i : ℕ) (f : ℕ → ℕ) where
         let is = lowest_is n in
         was ∙ ap key_of (sym (ap (λ (m : ℕ). least_from i m f) on ∙ same n (omega (arith, is.to, is.from, was, q, r))))
 
-    -- as the smaller of the two
-    pub key_more : (k l x new : ℕ) → 1 ≤ k → k < 240 → l ≡ key_of (least_from i (k - 1) f) → x ≡ key_of (i + k)
-        → new ≡ min l x → new ≡ key_of (least_from i (k + 1 - 1) f)
-    key_more k l x new h j p q is = go (dec_le l x)
-      where
-        go : Dec (l ≤ x) → new ≡ key_of (least_from i (k + 1 - 1) f)
-        go (yes r) = let e : new ≡ l = omega arith in e ∙ key_same k l x h j p q r
-        go (no r) =
-            let less = lt_of_not-le r in
-            let e : new ≡ x = omega arith in e ∙ key_next k l x h j p q less
+    -- the smaller of the two keys is that of the lowest of one number more, for a loop in whatever form
+    pub least_more : (k : ℕ) → 1 ≤ k → k < 240
+        → key_of (least_from i (k + 1 - 1) f) ≡ min (key_of (least_from i (k - 1) f)) (key_of (i + k))
+    least_more k h j =
+        let l = key_of (least_from i (k - 1) f) in
+        let x = key_of (i + k) in
+        grind (arith, key_same k l x h j refl refl, key_next k l x h j refl refl)

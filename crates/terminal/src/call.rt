@@ -32,6 +32,7 @@ fn fill(planes: &Planes, palette: &[u8], answers: &mut [u8])
 }
 
 // For each entry of a palette the number of the nearest of the 240 colours, into a list of answers.
+#[tactic(auto, using(crate::proofs::Calls::nearest_room, crate::proofs::Calls::nearest_done, crate::proofs::Calls::nearest_kept, basics::proofs::Refusals::not_done))]
 pub fn nearest(palette: &[u8], answers: &mut [u8]) -> Result<(), Refusal>
     ensures number { answer_of result ≡ nearest_number palette.now answers.old }
     ensures later { answers.new ≡ nearest_later palette.now answers.old }

@@ -52,6 +52,7 @@ impl Planes {
 
     // The number of the nearest colour. A distance and a number go together as one number, whose smallest has the
     // smallest distance and, on a tie, the lowest number: so the machine can take the smaller of many at once.
+    #[tactic(auto, using(crate::proofs::Lowest::least_more))]
     pub(crate) fn closest(&self, x: Rgb) -> u8
         ensures { result ≡ nearest_of x }
     {

@@ -1,8 +1,8 @@
--- How a widening ends: which answer it gives and what it leaves, case by case.
+-- How a widening ends where its grid is refused, and where it is done: its answer, and what it leaves.
 -- Assumes nothing.
 use Rattle.std.specs.Prelude.{None, Some}
-use mathlib.Core.Path.{◌≡◌, refl}
-use mathlib.Core.Bool.{true, false}
+use mathlib.Core.Path.{◌≡◌}
+use mathlib.Core.Bool.{true}
 use Prim.Native.Nat.{ℕ}
 use Rattle.grid.specs.declared.place.Grid.{Grid}
 use Rattle.basics.specs.Answer.{refuse, when_done}
@@ -11,9 +11,9 @@ use Rattle.grid.proofs.Ends.{grid_refused, ends}
 use Rattle.table.specs.Layouts.{Narrow}
 use Rattle.table.specs.Table.{Table, Sized}
 use Rattle.table.specs.Narrow.{NarrowTable, narrow_view}
-use Rattle.table.specs.Layout.{SizedIn, is_sized_in}
+use Rattle.table.specs.Layout.{SizedIn}
 use Rattle.table.specs.Sound.{limit_of, sound}
-use Rattle.table.proofs.Tables.{sized_test, not_sized_test}
+use Rattle.table.proofs.Tables.{sized_test}
 use Rattle.table.proofs.Layouts.{in_sized}
 use Rattle.widen.specs.Widen.{widened, widen_number_on, widen_on, widen_number, widen_later}
 
@@ -34,20 +34,7 @@ module _ (b1 b2 b3 : ℕ) (t : NarrowTable) (old : Table) where
     unfolding widen_number widen_later
     ends_with q r = ends (grid_of b1 b2 b3) (widen_on t old) widen_after old e q r
 
-    pub narrow_length : is_sized_in Narrow t (bins_of g) ≡ false → Ends 5 old
+    pub all_done : SizedIn Narrow t (bins_of g) → Sized old (bins_of g)
+        → sound (limit_of Narrow) g (narrow_view t) ≡ true → {u : Table} → u ≡ widen_after g → Ends 0 u
     unfolding widen_on widen_number_on refuse when_done
-    narrow_length n = ends_with (simp n) refl
-
-    module _ (h : SizedIn Narrow t (bins_of g)) where
-      pub wide_length : (Sized old (bins_of g) → ⊥) → Ends 5 old
-      unfolding widen_on widen_number_on refuse when_done
-      wide_length n = ends_with (simp (in_sized Narrow t (bins_of g) h, not_sized_test n)) refl
-
-      module _ (k : Sized old (bins_of g)) where
-        pub unsound : sound (limit_of Narrow) g (narrow_view t) ≡ false → Ends 6 old
-        unfolding widen_on widen_number_on refuse when_done
-        unsound s = ends_with (simp (in_sized Narrow t (bins_of g) h, sized_test k, s)) refl
-
-        pub all_done : sound (limit_of Narrow) g (narrow_view t) ≡ true → {u : Table} → u ≡ widen_after g → Ends 0 u
-        unfolding widen_on widen_number_on refuse when_done
-        all_done s r = ends_with (simp (in_sized Narrow t (bins_of g) h, sized_test k, s)) r
+    all_done h k s r = ends_with (simp (in_sized Narrow t (bins_of g) h, sized_test k, s)) r

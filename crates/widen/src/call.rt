@@ -25,6 +25,7 @@ fn widen_bins(g: Grid, sums: &[u32], squares: &[u64], table: &mut [u64])
 }
 
 // Writes the wide table of a narrow one.
+#[tactic(auto, using(table::proofs::Tables::sized_is, table::proofs::Layouts::lengths_are, table::proofs::Total::unsound_says, table::proofs::Total::total_says), unfolding(crate::specs::Widen::widen_number, crate::specs::Widen::widen_later, crate::specs::Widen::widen_on, crate::specs::Widen::widen_number_on, grid::specs::Grid::number_on, grid::specs::Grid::on_grid, grid::specs::Grid::grid_answer, basics::specs::Answer::refuse, basics::specs::Answer::when_done))]
 pub fn widen(
     b1: usize,
     b2: usize,

